@@ -11,7 +11,9 @@ ghost use Rattle.atoi_column.specs.FirstField.{after_field, first_text, IsAccept
 ghost use Rattle.atoi_column.specs.Reads.{BeginsWithNoNumber, FillsMore, after_fields};
 
 use crate::field_error::FieldError;
-use crate::guesses::{is_likely, number_of_digits, sign_len};
+use crate::guesses::{
+    Guess, end_of, is_likely, is_short, number_of_digits, number_with_end, sign_len,
+};
 use crate::laws::fields_are_prefixes;
 use atoi_core::laws::{accepted_texts, prefix_begins, prefix_is_whole};
 use atoi_simd::{AtoiSimdError, Parse, parse, parse_prefix, parse_prefix_pos};
@@ -22,6 +24,11 @@ use std::marker::{Model, PhantomData};
 const PART: usize = 16;
 
 const LONG_PART: usize = 64;
+
+const NO_GUESS: Guess = Guess {
+    width: 0,
+    has_return: false,
+};
 
 /// The numbers of a byte slice, with a separator between them. The item of a field that
 /// `parse::<T, true, true>` refuses is an [error](FieldError), and the next field follows.
@@ -218,14 +225,14 @@ impl<'a, T: Parse> Fields<'a, T> {
         while read < values.len() {
             let most = part.min(values.len() - read);
             let before = self.rest.len();
-            let found = self.read_part::<false>(values, read, most, 0);
+            let found = self.read_part::<false>(values, read, most, NO_GUESS);
             read += found;
             if found < most {
                 break;
             }
-            let width = self.guess();
-            if is_likely::<T>(width, most, before.saturating_sub(self.rest.len())) {
-                let run = self.read_guessed(values, read, width);
+            let guess = self.guess();
+            if is_likely::<T>(guess.width, most, before.saturating_sub(self.rest.len())) {
+                let run = self.read_guessed(values, read, guess);
                 read += run;
                 part = if run < PART { LONG_PART } else { PART };
             }
@@ -248,41 +255,47 @@ impl<'a, T: Parse> Fields<'a, T> {
         }
     }
 
-    // Returns how many digits the next fields may have: as many as the next one. Any number is right.
+    // Returns what the next fields may look like: as the next one does. Any guess is right.
     #[cold]
     #[inline(never)]
-    fn guess(&self) -> usize {
+    fn guess(&self) -> Guess {
         match parse_prefix::<T, true, false>(self.rest) {
-            Ok((_, count)) => count.saturating_sub(sign_len::<T>(self.rest)),
-            Err(_) => 0,
+            Ok((_, count)) => Guess {
+                width: count.saturating_sub(sign_len::<T>(self.rest)),
+                has_return: matches!(&self.rest[count..], [b'\r', ..]),
+            },
+            Err(_) => NO_GUESS,
         }
     }
 
-    // Reads numbers of `width` digits to `values[from..]`. No number waits for the end of the one before.
+    // Reads numbers as guessed to `values[from..]`. No number waits for the end of the one before.
     #[inline(never)]
-    fn read_guessed(&mut self, values: &mut [T], from: usize, width: usize) -> usize
+    fn read_guessed(&mut self, values: &mut [T], from: usize, guess: Guess) -> usize
         requires { from ≤ length values.old }
         ensures within { from + result ≤ length values.old }
         ensures fills { FillsMore T.int_type T.number self.old self.new values.old values.new from
             result }
     {
         let most = values.len() - from;
-        // The compiler makes a loop for each range.
-        match width {
-            1..=8 => self.read_part::<true>(values, from, most, width),
-            9..=16 => self.read_part::<true>(values, from, most, width),
-            _ => self.read_part::<true>(values, from, most, width),
+        // The compiler makes a loop for each case.
+        if is_short(guess) {
+            return self.read_part::<true>(values, from, most, guess);
+        }
+        match guess.width {
+            1..=8 => self.read_part::<true>(values, from, most, guess),
+            9..=16 => self.read_part::<true>(values, from, most, guess),
+            _ => self.read_part::<true>(values, from, most, guess),
         }
     }
 
-    // Reads at most `most` numbers to `values[from..]`. With `GUESSES`, they have `width` digits.
+    // Reads at most `most` numbers to `values[from..]`. With `GUESSES`, they look as guessed.
     #[inline(always)]
     fn read_part<const GUESSES: bool>(
         &mut self,
         values: &mut [T],
         from: usize,
         most: usize,
-        width: usize,
+        guess: Guess,
     ) -> usize
         requires { from + most ≤ length values.old }
         ensures within { result ≤ most }
@@ -296,7 +309,7 @@ impl<'a, T: Parse> Fields<'a, T> {
         let mut fields = self.taken_out();
         let mut at = from;
         while at < end {
-            match fields.number::<GUESSES>(width) {
+            match fields.number::<GUESSES>(guess) {
                 Some(value) => {
                     values[at] = value;
                     at += 1;
@@ -308,10 +321,10 @@ impl<'a, T: Parse> Fields<'a, T> {
         at - from
     }
 
-    // Returns the number of the next field. If there is none, or `GUESSES` and it has not `width` digits,
-    // nothing changes.
+    // Returns the number of the next field. If there is none, or `GUESSES` and it does not look as
+    // guessed, nothing changes.
     #[inline(always)]
-    fn number<const GUESSES: bool>(&mut self, width: usize) -> Option<T>
+    fn number<const GUESSES: bool>(&mut self, guess: Guess) -> Option<T>
         ensures some { IfSome result (λ value. (field_items_left T.int_type self.old
             ≡ Ok (T.number value) ∷ field_items_left T.int_type self.new)
             × (self.new ≡ after_first_field self.old)) }
@@ -320,22 +333,22 @@ impl<'a, T: Parse> Fields<'a, T> {
             → BeginsWithNoNumber (field_items_left T.int_type self.old)) }
     {
         if GUESSES {
-            self.guessed_number(width)
+            self.guessed_number(guess)
         } else {
             self.next_number()
         }
     }
 
-    // `next_number`, if the guess is right that the number has `width` digits.
+    // `next_number`, if the field looks as guessed.
     #[inline(always)]
-    fn guessed_number(&mut self, width: usize) -> Option<T>
+    fn guessed_number(&mut self, guess: Guess) -> Option<T>
         ensures some { IfSome result (λ value. (field_items_left T.int_type self.old
             ≡ Ok (T.number value) ∷ field_items_left T.int_type self.new)
             × (self.new ≡ after_first_field self.old)) }
         ensures none { IfNone result (self.new ≡ self.old) }
     {
         let (rest, index) = (self.rest, self.index);
-        let (value, following) = guessed_field::<T>(rest, self.separator, self.trims, width)?;
+        let (value, following) = guessed_field::<T>(rest, self.separator, self.trims, guess)?;
         self.index = index + 1;
         self.rest = following;
         Some(value)
@@ -481,13 +494,13 @@ pub(crate) fn short_field<T: Parse>(rest: &[u8], separator: u8) -> Option<(T, &[
     }
 }
 
-// `accepted_field`, if the guess is right that the field has `width` digits.
+// `accepted_field`, if the field looks as guessed.
 #[inline(always)]
 fn guessed_field<T: Parse>(
     rest: &[u8],
     separator: u8,
     trims: bool,
-    width: usize,
+    guess: Guess,
 ) -> Option<(T, &[u8])>
     ensures some { IfSome result (λ found. 0 < length rest.now) }
     ensures accepted { is_separator separator ≡ true → IfSome result (λ found. IsAcceptedField T.int_type
@@ -496,7 +509,12 @@ fn guessed_field<T: Parse>(
     fields_are_prefixes::<T>();
     accepted_texts::<T>();
     prefix_is_whole::<T>();
-    let (value, count) = number_of_digits::<T>(rest, width)?;
+    if is_short(guess) {
+        let (ends, tail) = end_of(separator, trims, guess.has_return);
+        let (value, count) = number_with_end::<T>(rest, guess.width, ends, tail)?;
+        return Some((value, &rest[count + tail..]));
+    }
+    let (value, count) = number_of_digits::<T>(rest, guess.width)?;
     let following = after_field(&rest[count..], separator, trims)?;
     Some((value, following))
 }

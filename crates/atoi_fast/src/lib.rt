@@ -1,6 +1,6 @@
 //! Two fast engines for the parsers of `atoi_core`: `Swar` reads words, and `Vectors` reads vectors of
 //! sixteen bytes. They report the same windows as every engine of decimal digits, and have parsers of 64
-//! and 128 bits of their own. They are tuned for rustc's build. `atoi_column` uses `number_of_width`.
+//! and 128 bits of their own. They are tuned for rustc's build. `atoi_column` uses what `widths` has.
 #![tactic(auto)]
 
 mod after_16;
@@ -13,4 +13,4 @@ mod widths;
 
 pub use crate::swar::Swar;
 pub use crate::vectors::Vectors;
-pub use crate::widths::number_of_width;
+pub use crate::widths::{number_before, number_of_width};

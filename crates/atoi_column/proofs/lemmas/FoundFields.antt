@@ -184,6 +184,17 @@ text_within {int} separator rest count {number} law whole separates fits answer 
           absurd (false≢true (sym fails ∙ (ap ends same ∙ passes)))
     ]
 
+-- A text at the start that a field's end follows is the field.
+pub accepted_text : {int : IntType} (trims : Bool) (separator : ℕ) (rest : List ℕ) (count : ℕ) {number : ℤ} {following : List ℕ} → FieldsArePrefixes int → PrefixIsWhole int
+    → AcceptedTexts int → is_separator separator ≡ true → count ≤ length rest → TextWrites int true (take count rest) number
+    → Some following ≡ after_field trims separator (drop count rest) → IsAcceptedField int trims separator rest number following
+accepted_text trims separator rest count law whole texts separates fits written end =
+    accepted trims (record {
+      within = text_within separator rest count law whole separates fits (texts.number (take count rest) _ written);
+      written = written;
+      texts = texts;
+    }) _ refl (sym end)
+
 -- A number of one byte before a separator is the number at the start.
 pub short_prefix : {int : IntType} {separator : ℕ} (rest : List ℕ) {following : List ℕ} {number : ℤ} → FieldsArePrefixes int → PrefixIsWhole int → AcceptedTexts int
     → is_separator separator ≡ true → TextWrites int true (take 1 rest) number → drop 1 rest ≡ separator ∷ following

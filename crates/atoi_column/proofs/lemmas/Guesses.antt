@@ -1,10 +1,13 @@
--- Digits after a sign are a text.
-use Rattle.std.proofs.Common.{◌≡◌, ℕ, zero, suc, ◌+◌, ◌<◌, ◌≤◌, ◌==◌, true, List, [], ◌∷◌, take, drop, ℤ, refl, ap, arith}
+-- Digits after a sign are a text, and the bytes after them end its field.
+use Rattle.std.proofs.Common.{◌≡◌, ◌≢◌, ℕ, zero, suc, ◌+◌, ◌*◌, ◌<◌, ◌≤◌, ◌==◌, Bool, true, Some, List, [], ◌∷◌, length, take, drop, get_or, ℤ, refl, ap, arith}
 use Rattle.std.proofs.Math.Nat.{zero-add}
+use Rattle.std.proofs.lemmas.Bool.{eq-eqb, ne_eqb}
 use Rattle.std.specs.Str.Parse.{IsNumeral, digits_value}
 use Rattle.atoi_core.specs.IntType.{IntType, bound_of}
 use Rattle.atoi_core.specs.Sign.{minus_sign, with_sign}
 use Rattle.atoi_core.specs.Text.{no_sign, minus, TextWrites}
+use Rattle.atoi_core.specs.Words.{word_of}
+use Rattle.atoi_column.specs.FirstField.{after_field}
 
 take_after : (byte width : ℕ) (bytes : List ℕ) → take 1 bytes ≡ byte ∷ [] → take (1 + width) bytes ≡ byte ∷ take width (drop 1 bytes)
 take_after byte width [] first = absurd (cc first)
@@ -32,3 +35,20 @@ text_of_digits int bytes (suc zero) width magnitude few taken is fits number_is 
   written = record { numeral = is.0; in_range = rw is.1 at fits; value_is = rw is.1 at number_is };
 }
 text_of_digits int bytes (suc (suc n)) width magnitude few taken is fits number_is = absurd (omega arith)
+
+-- A separator ends a field, also after a carriage return.
+pub ended : (trims : Bool) (separator : ℕ) (bytes : List ℕ) → 1 ≤ length bytes → word_of (take 1 bytes) ≡ separator
+    → after_field trims separator bytes ≡ Some (drop 1 bytes)
+unfolding word_of
+ended trims separator [] some is = absurd (omega arith)
+ended trims separator (byte ∷ bytes) some is = rw (eq-eqb byte separator (omega arith)) refl
+
+pub ended_line : (separator : ℕ) (bytes : List ℕ) → separator ≢ 13 → ((i : ℕ) → get_or bytes i 0 < 256) → 2 ≤ length bytes
+    → word_of (take 2 bytes) ≡ 256 * separator + 13 → after_field true separator bytes ≡ Some (drop 2 bytes)
+unfolding word_of
+ended_line separator [] apart fits some is = absurd (omega arith)
+ended_line separator (byte ∷ []) apart fits some is = absurd (omega arith)
+ended_line separator (byte ∷ next ∷ bytes) apart fits some is =
+    let return : byte ≡ 13 = omega (arith, fits 0) in
+    let same : next ≡ separator = omega arith in
+    rw (ne_eqb byte separator (omega arith), eq-eqb byte 13 return, eq-eqb next separator same) refl

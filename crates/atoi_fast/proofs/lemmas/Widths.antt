@@ -1,170 +1,173 @@
 -- Numbers of a known number of digits.
-use Rattle.std.proofs.Common.{◌≡◌, ℕ, zero, suc, ◌+◌, ◌-◌, ◌*◌, ◌/◌, ◌%◌, ◌^◌, ◌<◌, ◌≤◌, ◌==◌, if◌then◌else◌, Bool, true, Option, None, Some, IfSome, List, [], ◌∷◌, length, take, drop, get_or, refl, sym, ap, ap₂, ◌∙◌, arith, lit<, mod-lt, zero-lt-suc}
-use Rattle.std.proofs.Math.Nat.{suc-mul, suc-add}
+use Rattle.std.proofs.Common.{◌≡◌, ℕ, suc, ◌+◌, ◌-◌, ◌*◌, ◌/◌, ◌%◌, ◌^◌, ◌<◌, ◌≤◌, ◌==◌, true, List, length, take, drop, get_or, refl, sym, ap, ap₂, ◌∙◌, arith}
+use Rattle.std.proofs.Math.Nat.{mod-add-mod, add-mod-mod, zero-mod, add-mul-mod_self_right, zero-add, zero-div, mul-mod_left, mod-eq_of_lt}
 use Rattle.std.proofs.Math.Pow.{mod-mod-pow}
-use Rattle.std.proofs.lemmas.Bool.{agree_below_at, eqb-true}
+use Rattle.std.proofs.lemmas.Bool.{agree_below, agree_below_at, eqb-true}
 use Rattle.std.proofs.lemmas.List.{length-take-le}
-use Rattle.std.proofs.lemmas.Str.{digit_value_digit}
-use Rattle.std.proofs.lemmas.Nat.{mod-pow-add, and_block, and_shr, and_mod, or_shr, or_mod, xor_shr, xor_mod, mul-mod_first, mul-mod_second}
-use Rattle.std.specs.Int.Bits.{bit_and, bit_or, bit_xor, and_zero_r}
-use Rattle.std.specs.Int.Count.{count_trailing_zeros, trailing_of_zero}
-use Rattle.std.specs.List.{prefix_len}
-use Rattle.std.specs.Simd.Lanes.{digits_l}
-use Rattle.std.specs.Str.Parse.{AllDigits, IsNumeral, digits_value}
+use Rattle.std.proofs.lemmas.Nat.{pow_pos, one_shl, shl_whole, shl-shr, shr_le, shr_high, shr_split, field_of, and_le_r, and_mask, and_shr, and_mod, or_shr, or_mod, le_or_r, mul-mod_first, mul-mod_second}
+use Rattle.std.specs.Int.Bits.{bit_and, bit_or, or_zero_l}
+use Rattle.std.specs.Str.Parse.{IsNumeral, digits_value}
 use Rattle.atoi_core.specs.Digit.{decimal_table, is_digit}
 use Rattle.atoi_core.specs.Run.{run_len, value}
 use Rattle.atoi_core.specs.Words.{low_bytes, low_value, word_of}
-use Rattle.atoi_core.proofs.lemmas.Calls.{digit_in_range}
-use Rattle.atoi_core.proofs.lemmas.LoadedWords.{fits_after, loaded_run, loaded_part}
-use Rattle.atoi_core.proofs.lemmas.Runs.{prefix_len-take, prefix_len-drop, value-take-add}
-use Rattle.atoi_core.proofs.lemmas.Texts.{own}
-use Rattle.atoi_core.proofs.lemmas.WordFields.{repeated}
-use Rattle.atoi_core.proofs.lemmas.WordRuns.{Change, unchanged, constant, both, counted}
-use Rattle.atoi_fast.proofs.lemmas.WordRuns.{first_passes, lower_half, lowered_digits, lowered_value, without_48, shift_cut}
+use Rattle.atoi_core.proofs.lemmas.LoadedWords.{bytes_above, fits_after, loaded_part}
+use Rattle.atoi_core.proofs.lemmas.WordWindows.{first_run}
+use Rattle.atoi_core.proofs.lemmas.Runs.{digits_all, prefix_len-drop, run_len-take, value-take-add}
+use Rattle.atoi_core.proofs.lemmas.Texts.{own, to_std}
+use Rattle.atoi_core.proofs.lemmas.WordFields.{repeated, zero_field}
+use Rattle.atoi_fast.proofs.lemmas.LoadedWords.{word_start}
+use Rattle.atoi_fast.proofs.lemmas.WordRuns.{lowered_digits, lowered_value, marks_of_8, shift_cut, shifted_twice, sum_of_fields, without_48}
 
--- ---- The test of the first bytes
+-- ---- The first bytes of a word, from each of which 48 is subtracted
 
--- A digit xor 48 is the byte minus 48.
-xored_digit : (b : ℕ) → is_digit decimal_table b ≡ true → bit_xor b 48 ≡ (b + 208) % 256
-xored_digit b digit =
-    let same : ℕ → Bool = λ n. if is_digit decimal_table n then bit_xor n 48 == (n + 208) % 256 else true in
-    let range = digit_in_range b digit in
-    eqb-true _ _ (rw digit at (agree_below_at same (λ _. true) 256 b refl (omega arith)))
+-- Constants, compared for each width.
+compared : (f g : ℕ → ℕ) → agree_below (λ n. f n == g n) (λ _. true) 9 ≡ true → (w : ℕ) → w ≤ 8 → f w ≡ g w
+compared f g same w few = eqb-true _ _ (agree_below_at (λ n. f n == g n) (λ _. true) 9 w same (omega arith))
 
-abbrev xored : Change
-xored = both bit_xor xor_shr xor_mod unchanged (constant 48 (lit< tt))
+abbrev zeros_in : ℕ → ℕ
+zeros_in w = 0x3030_3030_3030_3030 / 2 ^ (64 - 8 * w)
 
--- Then 118 is added to each byte, which carries at no digit.
-abbrev raised : Change
-raised =
-    record {
-      of_word = λ k word. bit_xor word (repeated 48 k) + repeated 118 k;
-      of_byte = λ b. (bit_xor b 48 + 118) % 256;
-      low = λ k word. omega (arith, xored.low k word);
-      rest = λ k word e.
-          let digit = digit_in_range (word % 256) e in
-          omega (arith, xored.low k word, xored.rest k word e, xored_digit (word % 256) e);
-    }
+abbrev marks_in_first : ℕ → ℕ
+marks_in_first w = 0x8080_8080_8080_8080 / 2 ^ (64 - 8 * w)
 
--- Cuts a change to z bytes more.
-abbrev cut_above : ℕ → Change → Change
-cut_above z c =
-    record {
-      of_word = λ k word. c.of_word k word % 2 ^ ((k + z) * 8);
-      of_byte = c.of_byte;
-      low = λ k word. rw (suc-add k z, suc-mul (k + z) 8) (omega (arith, mod-pow-add (c.of_word (suc k) word) ((k + z) * 8) 8, c.low k word));
-      rest = λ k word e. rw (suc-add k z, suc-mul (k + z) 8, ← c.rest k word e) (omega (arith, mod-pow-add (c.of_word (suc k) word) ((k + z) * 8) 8));
-    }
+-- A shift by w bytes in two steps.
+abbrev lifted : ℕ → ℕ → ℕ
+lifted w x = x * 2 ^ (56 - (64 - 8 * w)) % 2 ^ 64 * 2 ^ 8 % 2 ^ 64
 
-abbrev marks_above : (z k word : ℕ) → ℕ
-marks_above z k word =
-    bit_and (bit_or ((bit_xor word (repeated 48 k) + repeated 118 k) % 2 ^ ((k + z) * 8)) (bit_xor word (repeated 48 k))) (repeated 128 k)
+module _ (w count : ℕ) (some : 0 < w) (few : w + count ≤ 8) where
+  bits : 64 ≡ (8 - w) * 8 + w * 8
+  bits = omega arith
 
-marks_counted : (z k word : ℕ) → count_trailing_zeros (k * 8) (marks_above z k word) / 8 ≡ run_len decimal_table (low_bytes k word)
-marks_counted z =
-    let marks = both bit_and and_shr and_mod (both bit_or or_shr or_mod (cut_above z raised) xored) (constant 128 (lit< tt)) in
-    counted marks (is_digit decimal_table) refl (λ b h e. e)
+  start_of : (x : ℕ) → x % 2 ^ 64 % 2 ^ (w * 8) ≡ x % 2 ^ (w * 8)
+  start_of x = ap (λ b. x % 2 ^ b % 2 ^ (w * 8)) bits ∙ mod-mod-pow x ((8 - w) * 8) (w * 8)
 
--- More bytes begin with as many digits.
-more_bytes : (p : ℕ → Bool) (k z word : ℕ) → prefix_len p (digits_l 256 k word) ≤ prefix_len p (digits_l 256 (k + z) word)
-more_bytes p zero z word = omega arith
-more_bytes p (suc k) z word = rw (suc-add k z) (grind (arith, more_bytes p k z (word / 256)))
+  -- The `count` bytes after the first w.
+  field_in : (x : ℕ) → x % 2 ^ 64 / 2 ^ (w * 8) % 2 ^ (count * 8) ≡ x / 2 ^ (w * 8) % 2 ^ (count * 8)
+  field_in x =
+      let split : (8 - w) * 8 ≡ (8 - w - count) * 8 + count * 8 = omega arith in
+      ap (λ b. x % 2 ^ b / 2 ^ (w * 8) % 2 ^ (count * 8)) bits
+      ∙ ap (λ y. y % 2 ^ (count * 8)) (field_of x ((8 - w) * 8) (w * 8) ∙ ap (λ b. x / 2 ^ (w * 8) % 2 ^ b) split)
+      ∙ mod-mod-pow (x / 2 ^ (w * 8)) ((8 - w - count) * 8) (count * 8)
 
--- A word of eight equal bytes, shifted down, compared for each width.
-shifted_48 : (w : ℕ) → w ≤ 8 → 0x3030_3030_3030_3030 / 2 ^ (64 - 8 * w) ≡ repeated 48 w
-shifted_48 w few = eqb-true _ _ (agree_below_at (λ n. 0x3030_3030_3030_3030 / 2 ^ (64 - 8 * n) == repeated 48 n) (λ _. true) 9 w refl (omega arith))
+  lifted_is : (x : ℕ) → x < 2 ^ (count * 8) → lifted w x ≡ x * 2 ^ (w * 8)
+  lifted_is x below =
+      let first : 56 - (64 - 8 * w) ≡ 56 - 8 * (8 - w) = omega arith in
+      let all : 64 - 8 * (8 - w) ≡ w * 8 = omega arith in
+      ap (λ e. x * 2 ^ e % 2 ^ 64 * 2 ^ 8 % 2 ^ 64) first ∙ shifted_twice x (8 - w) (omega arith)
+      ∙ ap (λ e. x * 2 ^ e % 2 ^ 64) all ∙ shl_whole x (count * 8) (w * 8) 64 below (omega arith)
 
-shifted_118 : (w : ℕ) → w ≤ 8 → 0x7676_7676_7676_7676 / 2 ^ (64 - 8 * w) ≡ repeated 118 w
-shifted_118 w few = eqb-true _ _ (agree_below_at (λ n. 0x7676_7676_7676_7676 / 2 ^ (64 - 8 * n) == repeated 118 n) (λ _. true) 9 w refl (omega arith))
+  module _ (ends word digits : ℕ) (fits : word < 2 ^ 64) (ends_fit : ends < 2 ^ (count * 8))
+      (is : digits ≡ ((word + (2 ^ 64 - lifted w ends)) % 2 ^ 64 + (2 ^ 64 - zeros_in w)) % 2 ^ 64) where
+    back : (digits + zeros_in w + ends * 2 ^ (w * 8)) % 2 ^ 64 ≡ word
+    back =
+        let small = shr_le 0x3030_3030_3030_3030 (64 - 8 * w) in
+        ap (λ e. (digits + zeros_in w + e) % 2 ^ 64) (sym (lifted_is ends ends_fit)) ∙ omega arith
 
-shifted_128 : (w : ℕ) → w ≤ 8 → 0x8080_8080_8080_8080 / 2 ^ (64 - 8 * w) ≡ repeated 128 w
-shifted_128 w few = eqb-true _ _ (agree_below_at (λ n. 0x8080_8080_8080_8080 / 2 ^ (64 - 8 * n) == repeated 128 n) (λ _. true) 9 w refl (omega arith))
+    with_more : (c d : ℕ) → (zeros_in w + c) % 2 ^ (w * 8) ≡ d % 2 ^ (w * 8) → (digits + d) % 2 ^ (w * 8) ≡ (word + c) % 2 ^ (w * 8)
+    with_more c d same =
+        let regroup : digits + (zeros_in w + c) ≡ digits + zeros_in w + c = omega arith in
+        let start = sym (add-mul-mod_self_right (digits + zeros_in w) ends (2 ^ (w * 8))) ∙ sym (start_of _) ∙ ap (λ x. x % 2 ^ (w * 8)) back in
+        sym (add-mod-mod digits d (2 ^ (w * 8))) ∙ ap (λ x. (digits + x) % 2 ^ (w * 8)) (sym same) ∙ add-mod-mod digits (zeros_in w + c) (2 ^ (w * 8))
+        ∙ ap (λ x. x % 2 ^ (w * 8)) regroup ∙ sym (mod-add-mod (digits + zeros_in w) (2 ^ (w * 8)) c)
+        ∙ ap (λ x. (x + c) % 2 ^ (w * 8)) start ∙ mod-add-mod word (2 ^ (w * 8)) c
 
--- Without a mark, the first bytes are digits.
-pub digits_unmarked : (w word digits : ℕ) → w ≤ 8 → digits ≡ bit_xor word (0x3030_3030_3030_3030 / 2 ^ (64 - 8 * w))
-    → bit_and (bit_or ((digits + 0x7676_7676_7676_7676 / 2 ^ (64 - 8 * w)) % 2 ^ 64) digits) (0x8080_8080_8080_8080 / 2 ^ (64 - 8 * w)) ≡ 0
-    → w ≤ run_len decimal_table (low_bytes 8 word)
-unfolding low_bytes
-digits_unmarked w word digits few is none =
-    let z = 8 - w in
-    let all : w + z ≡ 8 = omega arith in
-    let unmarked : marks_above z w word ≡ 0 = rw (all, ← shifted_48 w few, ← shifted_118 w few, ← shifted_128 w few, ← is) none in
-    let run : run_len decimal_table (low_bytes w word) ≡ w = omega (arith, rw (unmarked, trailing_of_zero) at (marks_counted z w word)) in
-    omega (arith, run, rw all at (more_bytes (is_digit decimal_table) w z word))
+    low : digits % 2 ^ (w * 8) ≡ (word + without_48 8) % 2 ^ (w * 8)
+    low =
+        let none : digits + 0 ≡ digits = omega arith in
+        ap (λ x. x % 2 ^ (w * 8)) (sym none)
+        ∙ with_more (without_48 8) 0 (compared (λ n. (zeros_in n + without_48 8) % 2 ^ (n * 8)) (λ n. 0 % 2 ^ (n * 8)) refl w (omega arith))
 
--- ---- Their number
+    module _ (above others : ℕ) (above_is : above ≡ (digits + 0x7676_7676_7676_7676 / 2 ^ (64 - 8 * w)) % 2 ^ 64)
+        (others_are : others ≡ lifted w (1 * 2 ^ (8 * count) % 2 ^ 64 - 1)) (none : bit_and (bit_or above digits) (bit_or (marks_in_first w) others) ≡ 0) where
+      ones : others ≡ (2 ^ (count * 8) - 1) * 2 ^ (w * 8)
+      ones =
+          let eight : 8 * count ≡ count * 8 = omega arith in
+          others_are ∙ ap (λ b. lifted w (1 * 2 ^ b % 2 ^ 64 - 1)) eight ∙ ap (λ x. lifted w (x - 1)) (one_shl (count * 8) 64 (omega arith))
+          ∙ lifted_is (2 ^ (count * 8) - 1) (omega (arith, pow_pos (count * 8)))
 
--- k digits xor 48 are their lower halves.
-xored_digits : (n k word : ℕ) → k ≤ prefix_len (is_digit decimal_table) (digits_l 256 n word)
-    → bit_xor word (repeated 48 k) % 2 ^ (k * 8) ≡ bit_and (word % 2 ^ (k * 8)) (repeated 15 k)
-xored_digits n zero word digits = omega (arith, and_zero_r (word % 2 ^ (zero * 8)))
-xored_digits zero (suc k) word digits = absurd (omega arith)
-xored_digits (suc n) (suc k) word digits =
-    let byte = word % 256 in
-    let run = prefix_len (is_digit decimal_table) (digits_l 256 n (word / 256)) in
-    let passes = first_passes (is_digit decimal_table byte) k run digits in
-    let block = and_block 8 (word / 256 % 2 ^ (k * 8)) (repeated 15 k) byte 15 (mod-lt word (zero-lt-suc 255)) (lit< tt) in
-    cc (
-      suc-mul k 8,
-      mod-pow-add (bit_xor word (repeated 48 (suc k))) (k * 8) 8,
-      xored.rest k word passes.0,
-      xored.low k word,
-      xored_digit byte passes.0,
-      lower_half byte passes.0,
-      xored_digits n k (word / 256) passes.1,
-      block,
-      mod-pow-add word (k * 8) 8,
-    )
+      -- Without a mark, the first bytes are digits.
+      pub unmarked : w ≤ run_len decimal_table (low_bytes 8 word)
+      unmarked =
+          let raised = compared (λ n. (zeros_in n + repeated 70 8) % 2 ^ (n * 8)) (λ n. 0x7676_7676_7676_7676 / 2 ^ (64 - 8 * n) % 2 ^ (n * 8)) refl w (omega arith) in
+          let high = (word + repeated 70 8) % 2 ^ 64 in
+          let lower = (word + without_48 8) % 2 ^ 64 in
+          let up = start_of (word + repeated 70 8) ∙ sym (with_more (repeated 70 8) _ raised) ∙ sym (start_of _) ∙ ap (λ x. x % 2 ^ (w * 8)) (sym above_is) in
+          let down = start_of (word + without_48 8) ∙ sym low in
+          let marks = compared (λ n. repeated 128 8 % 2 ^ (n * 8)) (λ n. bit_or (marks_in_first n % 2 ^ (n * 8)) 0) refl w (omega arith) in
+          let none_other = sym (mul-mod_left (2 ^ (count * 8) - 1) (2 ^ (w * 8))) ∙ ap (λ x. x % 2 ^ (w * 8)) (sym ones) in
+          let same : bit_and (bit_or high lower) (repeated 128 8) % 2 ^ (w * 8) ≡ 0 =
+          and_mod (bit_or high lower) (repeated 128 8) (w * 8)
+          ∙ ap₂ bit_and (or_mod high lower (w * 8) ∙ ap₂ bit_or up down ∙ sym (or_mod above digits (w * 8)))
+          (marks ∙ ap (bit_or (marks_in_first w % 2 ^ (w * 8))) none_other ∙ sym (or_mod (marks_in_first w) others (w * 8)))
+          ∙ sym (and_mod (bit_or above digits) (bit_or (marks_in_first w) others) (w * 8)) ∙ ap (λ x. x % 2 ^ (w * 8)) none ∙ zero-mod (2 ^ (w * 8)) in
+          let all : w * 8 + (64 - w * 8) ≡ 64 = omega arith in
+          omega (arith, marks_of_8 word, rw all at (zero_field (w * 8) (64 - w * 8) _ same))
 
--- Shifted to the top, they are below 16, and keep the sum.
-pub xored_value : (w word digits ones : ℕ) → w ≤ 8 → w ≤ run_len decimal_table (low_bytes 8 word)
-    → digits ≡ bit_xor word (0x3030_3030_3030_3030 / 2 ^ (64 - 8 * w)) → ones ≡ digits * 2 ^ (64 - 8 * w) % 2 ^ 64
-    → (bit_and ones (repeated 15 8) ≡ ones) × (low_value (low_bytes 8 ones) ≡ low_value (low_bytes w word))
-unfolding low_bytes
-xored_value w word digits ones few run is ones_is =
-    let z = 64 - 8 * w in
-    let lower = (word + without_48 8) % 2 ^ 64 in
-    let bits : w * 8 + z ≡ 64 = omega arith in
-    let word_bits : 64 ≡ (8 - w) * 8 + w * 8 = omega arith in
-    let low : digits % 2 ^ (w * 8) ≡ lower % 2 ^ (w * 8) =
-    ap (λ x. x % 2 ^ (w * 8)) (is ∙ ap (bit_xor word) (shifted_48 w few))
-    ∙ xored_digits 8 w word run ∙ sym (lowered_digits 8 w word run)
-    ∙ sym (ap (λ b. (word + without_48 8) % 2 ^ b % 2 ^ (w * 8)) word_bits ∙ mod-mod-pow (word + without_48 8) ((8 - w) * 8) (w * 8)) in
-    let cut : (x : ℕ) → x * 2 ^ z % 2 ^ 64 ≡ x % 2 ^ (w * 8) * 2 ^ z = λ x. rw bits at (shift_cut x (w * 8) z) in
-    lowered_value w word ones few run (ones_is ∙ cut digits ∙ ap (λ x. x * 2 ^ z) low ∙ sym (cut lower))
+      -- The bytes after them are those of `ends`.
+      ended : word / 2 ^ (w * 8) % 2 ^ (count * 8) ≡ ends
+      unfolding low_bytes
+      ended =
+          let k = count * 8 in
+          let high = digits / 2 ^ (w * 8) in
+          let fifteen = compared (λ n. suc (repeated 15 n + zeros_in n) - 2 ^ (n * 8)) (λ n. 0) refl w (omega arith) in
+          let below : digits % 2 ^ (w * 8) + zeros_in w < 2 ^ (w * 8) =
+          omega (arith, fifteen, low ∙ lowered_digits 8 w word unmarked, and_le_r (word % 2 ^ (w * 8)) (repeated 15 w)) in
+          let parts : digits + zeros_in w + ends * 2 ^ (w * 8) ≡ (high + ends) * 2 ^ (w * 8) + (digits % 2 ^ (w * 8) + zeros_in w) =
+          omega (arith, shr_split digits (w * 8)) in
+          let mask : bit_or (marks_in_first w) others / 2 ^ (w * 8) ≡ 2 ^ k - 1 =
+          or_shr (marks_in_first w) others (w * 8)
+          ∙ ap₂ bit_or (compared (λ n. marks_in_first n / 2 ^ (n * 8)) (λ n. 0) refl w (omega arith)) (ap (λ x. x / 2 ^ (w * 8)) ones ∙ shl-shr (2 ^ k - 1) (w * 8))
+          ∙ or_zero_l (2 ^ k - 1) in
+          let both : bit_or (above / 2 ^ (w * 8)) high % 2 ^ k ≡ 0 =
+          ap (λ x. x % 2 ^ k) (sym (or_shr above digits (w * 8))) ∙ sym (and_mask (bit_or above digits / 2 ^ (w * 8)) k)
+          ∙ ap (bit_and (bit_or above digits / 2 ^ (w * 8))) (sym mask) ∙ sym (and_shr (bit_or above digits) (bit_or (marks_in_first w) others) (w * 8))
+          ∙ ap (λ x. x / 2 ^ (w * 8)) none ∙ zero-div (2 ^ (w * 8)) in
+          let zero_is : high % 2 ^ k ≡ 0 = omega (arith, both, or_mod (above / 2 ^ (w * 8)) high k, le_or_r (above / 2 ^ (w * 8) % 2 ^ k) (high % 2 ^ k)) in
+          ap (λ x. x / 2 ^ (w * 8) % 2 ^ k) (sym back) ∙ field_in (digits + zeros_in w + ends * 2 ^ (w * 8))
+          ∙ ap (λ x. x % 2 ^ k) (ap (λ x. x / 2 ^ (w * 8)) parts ∙ shr_high (high + ends) (w * 8) (digits % 2 ^ (w * 8) + zeros_in w) below)
+          ∙ sym (mod-add-mod high (2 ^ k) ends) ∙ ap (λ x. (x + ends) % 2 ^ k) zero_is ∙ ap (λ x. x % 2 ^ k) (zero-add ends) ∙ mod-eq_of_lt ends_fit
+
+      pub ended_by : (s : List ℕ) → ((i : ℕ) → get_or s i 0 < 256) → word ≡ word_of (take 8 s) → word_of (take count (drop w s)) ≡ ends
+      ended_by s bytes word_is =
+          sym (word_start count (drop w s) (fits_after w s bytes)) ∙ ap (λ x. x % 2 ^ (count * 8)) (sym (bytes_above w s bytes))
+          ∙ sym (field_in (word_of s)) ∙ ap (λ x. x / 2 ^ (w * 8) % 2 ^ (count * 8)) (word_start 8 s bytes ∙ sym word_is) ∙ ended
+
+      -- Shifted to the top, digits minus 48 are below 16, and keep the sum.
+      pub shifted_value : (top : ℕ) → top ≡ digits * 2 ^ (64 - 8 * w) % 2 ^ 64
+          → (bit_and top (repeated 15 8) ≡ top) × (low_value (low_bytes 8 top) ≡ low_value (low_bytes w word))
+      unfolding low_bytes
+      shifted_value top top_is =
+          let z = 64 - 8 * w in
+          let all : w * 8 + z ≡ 64 = omega arith in
+          let cut : (x : ℕ) → x * 2 ^ z % 2 ^ 64 ≡ x % 2 ^ (w * 8) * 2 ^ z = λ x. rw all at (shift_cut x (w * 8) z) in
+          let same = low ∙ sym (start_of (word + without_48 8)) in
+          lowered_value w word top (omega arith) unmarked (top_is ∙ cut digits ∙ ap (λ x. x * 2 ^ z) same ∙ sym (cut ((word + without_48 8) % 2 ^ 64)))
 
 -- A shift of the factor is one of the digits.
-pub shifted_factor : (digits shift factor : ℕ) → digits * (factor * 2 ^ shift % 2 ^ 64) % 2 ^ 64 ≡ digits * 2 ^ shift % 2 ^ 64 * factor % 2 ^ 64
-shifted_factor digits shift factor =
-    let regroup : digits * (factor * 2 ^ shift) ≡ digits * 2 ^ shift * factor = omega arith in
-    mul-mod_second digits (factor * 2 ^ shift) (2 ^ 64) ∙ ap (λ x. x % 2 ^ 64) regroup ∙ sym (mul-mod_first (digits * 2 ^ shift) factor (2 ^ 64))
+pub sum_of_lifted : (digits shift : ℕ) → let top = digits * 2 ^ shift % 2 ^ 64 in bit_and top 0x0F0F_0F0F_0F0F_0F0F ≡ top
+    → let tens = digits * (0xA01 * 2 ^ shift % 2 ^ 64) % 2 ^ 64 / 2 ^ 8 in
+    let hundreds = bit_and tens 0x00FF_00FF_00FF_00FF * 0x64_0001 % 2 ^ 64 in
+    bit_and (hundreds / 2 ^ 16) 0xFFFF * 10000 + hundreds / 2 ^ 48 ≡ low_value (low_bytes 8 top)
+sum_of_lifted digits shift halves =
+    let regroup : digits * (0xA01 * 2 ^ shift) ≡ digits * 2 ^ shift * 0xA01 = omega arith in
+    let factor = mul-mod_second digits (0xA01 * 2 ^ shift) (2 ^ 64) ∙ ap (λ x. x % 2 ^ 64) regroup ∙ sym (mul-mod_first (digits * 2 ^ shift) 0xA01 (2 ^ 64)) in
+    rw factor (sum_of_fields (digits * 2 ^ shift % 2 ^ 64) (omega arith) halves)
 
 -- ---- In std's words
-
-all_digits : (s : List ℕ) → length s ≤ run_len decimal_table s → AllDigits 10 s
-all_digits [] all = tt
-all_digits (b ∷ bs) all =
-    let passes = first_passes (is_digit decimal_table b) (length bs) (run_len decimal_table bs) all in
-    let range = digit_in_range b passes.0 in
-    (omega (arith, range, digit_value_digit b range), all_digits bs passes.1)
 
 -- The first bytes of a slice, whose run is as long, are a numeral.
 numeral_is : (w : ℕ) (s : List ℕ) (number : ℕ) → 0 < w → w ≤ length s → w ≤ run_len decimal_table s → number ≡ value decimal_table (take w s)
     → IsNumeral 10 (take w s) × (number ≡ digits_value 10 (take w s))
 numeral_is w s number some inside run is =
     let len : length (take w s) ≡ w = length-take-le w s inside in
-    let digits : AllDigits 10 (take w s) = all_digits (take w s) (omega (arith, prefix_len-take (is_digit decimal_table) w s)) in
+    let digits = to_std (take w s) (digits_all decimal_table (take w s) (run_len-take decimal_table w s run ∙ sym len)) in
     ((omega arith, digits), is ∙ own.same (take w s) digits)
 
 module _ (w : ℕ) (s : List ℕ) (fits : (i : ℕ) → get_or s i 0 < 256) (some : 0 < w) (inside : w ≤ length s)
     (first : ℕ) (first_is : first ≡ word_of (take 8 s)) where
-  pub numeral_in_word : (result : Option ℕ) → IfSome result (λ number. w ≤ run_len decimal_table (low_bytes 8 first))
-      → IfSome result (λ number. number ≡ low_value (low_bytes w first))
-      → IfSome result (λ number. IsNumeral 10 (take w s) × (number ≡ digits_value 10 (take w s)))
-  numeral_in_word None digits is = tt
-  numeral_in_word (Some number) digits is =
-      let run = loaded_run 8 s fits first first_is in
-      numeral_is w s number some inside (omega (arith, run, prefix_len-take (is_digit decimal_table) 8 s, digits)) (is ∙ loaded_part 8 s fits first first_is w digits)
+  pub numeral_in_word : (number : ℕ) → w ≤ run_len decimal_table (low_bytes 8 first) → number ≡ low_value (low_bytes w first)
+      → IsNumeral 10 (take w s) × (number ≡ digits_value 10 (take w s))
+  numeral_in_word number digits is = numeral_is w s number some inside (omega (arith, first_run s fits first first_is)) (is ∙ loaded_part 8 s fits first first_is w digits)
 
   -- The bytes before the last eight, and these.
   pub numeral_in_words : (last high low : ℕ) → 8 ≤ w → last ≡ word_of (take 8 (drop (w - 8) s))
@@ -175,8 +178,8 @@ module _ (w : ℕ) (s : List ℕ) (fits : (i : ℕ) → get_or s i 0 < 256) (som
       let front = w - 8 in
       let all : front + 8 ≡ w = omega arith in
       let last_fits = fits_after front s fits in
-      let start : front ≤ run_len decimal_table s = omega (arith, loaded_run 8 s fits first first_is, prefix_len-take (is_digit decimal_table) 8 s, first_digits) in
-      let end : 8 ≤ run_len decimal_table (drop front s) = omega (arith, loaded_run 8 (drop front s) last_fits last last_is, prefix_len-take (is_digit decimal_table) 8 (drop front s), last_digits) in
-      numeral_is w s (high * 10 ^ 8 + low) some inside (omega (arith, prefix_len-drop (is_digit decimal_table) front s start, end))
+      let start : front ≤ run_len decimal_table s = omega (arith, first_run s fits first first_is) in
+      numeral_is w s (high * 10 ^ 8 + low) some inside
+      (omega (arith, prefix_len-drop (is_digit decimal_table) front s start, first_run (drop front s) last_fits last last_is))
       (ap₂ (λ x y. x * 10 ^ 8 + y) (high_is ∙ loaded_part 8 s fits first first_is front first_digits) (low_is ∙ loaded_part 8 (drop front s) last_fits last last_is 8 last_digits)
       ∙ sym (rw all at (value-take-add decimal_table front 8 s (omega arith))))

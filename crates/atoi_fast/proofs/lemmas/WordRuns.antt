@@ -129,16 +129,11 @@ lowered_digits (suc n) (suc k) word digits =
     let run = prefix_len (is_digit decimal_table) (digits_l 256 n (word / 256)) in
     let passes = first_passes (is_digit decimal_table byte) k run digits in
     let block = and_block 8 (word / 256 % 2 ^ (k * 8)) (repeated 15 k) byte 15 (mod-lt word (zero-lt-suc 255)) (lit< tt) in
-    cc (
-      suc-mul k 8,
-      mod-pow-add (word + without_48 (suc n)) (k * 8) 8,
-      lowered.rest n word passes.0,
-      lowered.low n word,
-      lower_half byte passes.0,
-      lowered_digits n k (word / 256) passes.1,
-      block,
-      mod-pow-add word (k * 8) 8,
-    )
+    rw (suc-mul k 8)
+    (mod-pow-add (word + without_48 (suc n)) (k * 8) 8
+    ∙ ap₂ (λ rest low. rest * 256 + low) (ap (λ x. x % 2 ^ (k * 8)) (lowered.rest n word passes.0) ∙ lowered_digits n k (word / 256) passes.1)
+    (lowered.low n word ∙ sym (lower_half byte passes.0))
+    ∙ sym block ∙ ap (λ x. bit_and x (repeated 15 (suc k))) (sym (mod-pow-add word (k * 8) 8)))
 
 -- A mask and a shift by whole bytes commute.
 shifted_halves : (z k word : ℕ) → bit_and word (repeated 15 k) * 2 ^ (z * 8) ≡ bit_and (word * 2 ^ (z * 8)) (repeated 15 (z + k))

@@ -1,13 +1,72 @@
 /* Made by .ci/erase from crates/atoi_column/src/guesses.rt. Do not edit. */ //! Numbers of which it is guessed how many digits they have.
-// ghost use Rattle.std.specs.Prelude.{◌≡◌, ◌<◌, ◌≤◌, ◌∷◌, [], true, length, take, IfSome};
-// ghost use Rattle.atoi_core.specs.Sign.{minus_sign};
+// ghost use Rattle.std.specs.Prelude.{◌≡◌, ℕ, ◌+◌, ◌*◌, ◌^◌, ◌<◌, ◌≤◌, ◌∷◌, [], true, Some, if◌then◌else◌, List, length, take, drop, get_or, IfSome};
+// ghost use Rattle.atoi_core.specs.IntType.{bound_of};
+// ghost use Rattle.atoi_core.specs.Sign.{minus_sign, with_sign};
 // ghost use Rattle.atoi_core.specs.Text.{TextWrites};
+// ghost use Rattle.atoi_core.specs.Words.{word_of};
+// ghost use Rattle.atoi_column.specs.FirstField.{after_field};
 
-use crate::proved::atoi_fast::number_of_width;
+use crate::proved::atoi_fast::{number_before, number_of_width};
 use crate::proved::atoi_simd::{Parse, parse};
 
-// Returns the number that `rest` begins with, and its length, if it has `width` digits, perhaps after a
-// minus.
+/// What is guessed of the next fields: how many digits a number has, and whether a carriage return
+/// follows it.
+#[derive(Clone, Copy)]
+pub(crate) struct Guess {
+    pub width: usize,
+    pub has_return: bool,
+}
+
+/// Whether a word has room for the digits and what ends the field.
+#[inline(always)]
+pub(crate) fn is_short(guess: Guess) -> bool
+    // ensures { result ≡ true → guess.width + (if guess.has_return then 2 else 1) ≤ 8 }
+{
+    guess.width < 8 - usize::from(guess.has_return)
+}
+
+/// Returns the word of the bytes that end a field, and how many they are.
+#[inline(always)]
+pub(crate) fn end_of(separator: u8, trims: bool, has_return: bool) -> (u64, usize)
+    // ensures some { 0 < result.1 }
+    // ensures few { result.1 ≤ (if has_return then 2 else 1) }
+    // ensures fits { result.0 < 2 ^ (result.1 * 8) }
+    // ensures ends { (bytes : List ℕ) → ((i : ℕ) → get_or bytes i 0 < 256) → result.1 ≤ length bytes
+    //     → word_of (take result.1 bytes) ≡ result.0
+    //     → after_field trims separator bytes ≡ Some (drop result.1 bytes) }
+{
+    if has_return && trims && separator != b'\r' {
+        (256 * u64::from(separator) + u64::from(b'\r'), 2)
+    } else {
+        (u64::from(separator), 1)
+    }
+}
+
+/// `number_of_digits`, if the `tail` bytes after the number are those of `ends`.
+#[inline(always)]
+pub(crate) fn number_with_end<T: Parse>(
+    rest: &[u8],
+    width: usize,
+    ends: u64,
+    tail: usize,
+) -> Option<(T, usize)>
+    // requires few { width + tail ≤ 8 }
+    // requires fits { ends < 2 ^ (tail * 8) }
+    // ensures within { IfSome result (λ found. found.1 + tail ≤ length rest.now) }
+    // ensures written { IfSome result (λ found. TextWrites T.int_type true (take found.1 rest.now)
+    //     (T.number found.0)) }
+    // ensures ends { IfSome result (λ found. word_of (take tail (drop found.1 rest.now)) ≡ ends) }
+{
+    if width == 0 || rest.len() <= 8 {
+        return None;
+    }
+    let sign = sign_len::<T>(rest);
+    let value = signed::<T>(sign == 1, number_before(&rest[sign..], width, ends, tail)?)?;
+    Some((value, sign + width))
+}
+
+/// Returns the number that `rest` begins with, and its length, if it has `width` digits, perhaps after a
+/// minus.
 #[inline(always)]
 pub(crate) fn number_of_digits<T: Parse>(rest: &[u8], width: usize) -> Option<(T, usize)>
     // ensures some { IfSome result (λ found. 0 < length rest.now) }
@@ -22,12 +81,22 @@ pub(crate) fn number_of_digits<T: Parse>(rest: &[u8], width: usize) -> Option<(T
         return None;
     }
     let sign = sign_len::<T>(rest);
-    let magnitude = u128::from(number_of_width(&rest[sign..], width)?);
-    let minus = sign == 1;
+    let value = signed::<T>(sign == 1, number_of_width(&rest[sign..], width)?)?;
+    Some((value, sign + width))
+}
+
+// Returns the value of this sign and magnitude, if it fits the type.
+#[inline(always)]
+fn signed<T: Parse>(minus: bool, magnitude: u64) -> Option<T>
+    // requires { minus ≡ true → T.SIGNED ≡ true }
+    // ensures fits { IfSome result (λ value. magnitude ≤ bound_of T.int_type minus) }
+    // ensures number { IfSome result (λ value. T.number value ≡ with_sign minus magnitude) }
+{
+    let magnitude = u128::from(magnitude);
     if magnitude.saturating_sub(u128::from(minus)) > T::GREATEST {
         return None;
     }
-    Some((T::from_parts(minus, magnitude), sign + width))
+    Some(T::from_parts(minus, magnitude))
 }
 
 // `number_of_digits` for any width.
