@@ -152,9 +152,8 @@ typedef struct torkettle_error {
  *
  * Reads several fields, which is faster. Writes at most `count` numbers to `values` and returns how many it has
  * written. It writes fewer than `count` only if it reaches a bad field or the end of the text. If `count` is 0, it
- * reads nothing, and `values` may be NULL. If `count` is 128 or more and the fields all have equally many digits, at
- * most 20, with or without a minus, it is about twice as fast, with 2 to 8 digits 3 times, and with one digit 1.4
- * times.
+ * reads nothing, and `values` may be NULL. It is fastest if `count` is 128 or more and the fields all have equally many
+ * digits.
  *
  * struct torkettle_column_i64 {
  *     torkettle_status status;  TORKETTLE_OK or, after a bad field, its error. TORKETTLE_INVALID means that a byte that
@@ -205,7 +204,7 @@ typedef struct torkettle_error {
  * Reads several fields, which is faster. Writes at most `count` numbers to `values` and returns how many it has
  * written. It stops at a bad field and sets the status. Otherwise, the status is TORKETTLE_OK. The next call continues
  * after the bad field, so a loop must not end because a call wrote fewer than `count` numbers. If `count` is 0,
- * `values` may be NULL. Equally many digits are read faster, as by torkettle_column_i64_read.
+ * `values` may be NULL.
  *
  *     while ((count = torkettle_fields_i64_read(&fields, values, 256)) > 0 || fields.status != TORKETTLE_OK) ...
  *
@@ -305,7 +304,6 @@ static inline size_t torkettle_rest_length(size_t length, char separator) TORKET
         size_t rest_length;                                                                                            \
         char separator;                                                                                                \
         char is_lines;                                                                                                 \
-        uint8_t digits;                                                                                                \
     } torkettle_column_##name;                                                                                         \
                                                                                                                        \
     typedef struct torkettle_fields_##name {                                                                           \
@@ -320,7 +318,6 @@ static inline size_t torkettle_rest_length(size_t length, char separator) TORKET
         size_t rest_length;                                                                                            \
         char separator;                                                                                                \
         char is_lines;                                                                                                 \
-        uint8_t digits;                                                                                                \
     } torkettle_fields_##name;                                                                                         \
                                                                                                                        \
     torkettle_found_##name torkettle_whole_##name(const char *text, size_t length) TORKETTLE_NOEXCEPT;                 \
@@ -407,7 +404,6 @@ static inline size_t torkettle_rest_length(size_t length, char separator) TORKET
         fields->rest_length = torkettle_rest_length(length, separator);                                                \
         fields->separator = separator;                                                                                 \
         fields->is_lines = 0;                                                                                          \
-        fields->digits = 0;                                                                                            \
     }                                                                                                                  \
                                                                                                                        \
     static inline void torkettle_fields_##name##_init_lines(torkettle_fields_##name *fields, const char *text,         \

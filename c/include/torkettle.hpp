@@ -294,7 +294,7 @@ private:
     using functions = functions_of<T>;
 
     range(std::string_view text, char separator, char is_lines) noexcept
-        : state{TORKETTLE_OK, 0, 0, nullptr, 0, 0, 0, text.data(), 0, separator, is_lines, 0}
+        : state{TORKETTLE_OK, 0, 0, nullptr, 0, 0, 0, text.data(), 0, separator, is_lines}
     {
         state.rest_length = torkettle_rest_length(text.size(), separator);
     }

@@ -13,6 +13,7 @@ mod stop;
 
 use core::ffi::{CStr, c_char, c_uint};
 use core::marker::PhantomData;
+use core::mem::MaybeUninit;
 use core::ptr;
 use core::slice::{from_raw_parts, from_raw_parts_mut};
 use torkettle::column::{FieldError, Fields, is_separator};
@@ -64,8 +65,6 @@ pub struct Rest {
     rest_length: usize,
     separator: c_char,
     is_lines: c_char,
-    // How many digits each of the next fields may have, or 0: a guess.
-    digits: u8,
 }
 
 /// `torkettle_column_i64`, and so on.
@@ -237,15 +236,13 @@ impl Error {
 
 impl Rest {
     fn new(text: *const c_char, length: usize, separator: c_char) -> Rest {
-        let (next_index, next_offset, is_lines, digits) = (0, 0, 0, 0);
         Rest {
-            next_index,
-            next_offset,
+            next_index: 0,
+            next_offset: 0,
             rest: text,
             rest_length: length,
             separator,
-            is_lines,
-            digits,
+            is_lines: 0,
         }
     }
 
@@ -266,177 +263,54 @@ impl Rest {
     }
 
     #[inline(always)]
-    fn go_on(&mut self, fields: usize, length: usize) {
-        self.next_index = self.next_index.wrapping_add(fields);
-        self.next_offset = self.next_offset.wrapping_add(length);
-        self.rest = self.rest.wrapping_add(length);
-        self.rest_length -= length;
-    }
-
-    #[inline(always)]
     fn go_on_after<T: Parse>(&mut self, fields: &Fields<'_, T>) {
         let (index, place) = fields.position();
-        self.go_on(index, place);
+        self.next_index = self.next_index.wrapping_add(index);
+        self.next_offset = self.next_offset.wrapping_add(place);
+        self.rest = self.rest.wrapping_add(place);
+        self.rest_length -= place;
     }
 
     /// Writes the next numbers to `values`, at most `count`, and returns how many they are. Stops before
     /// a bad field.
     ///
-    /// # Safety
-    ///
-    /// As for `fields`, and `values` has room for as many numbers as are written.
-    #[inline(always)]
-    unsafe fn read<T: Parse + Default + PartialOrd, const LINES: bool>(
-        &mut self,
-        values: Values<T>,
-        count: usize,
-    ) -> usize {
-        let mut read = 0;
-        while read < count {
-            let (next, left) = (Values(values.0.wrapping_add(read)), count - read);
-            if self.digits != 0 {
-                read += unsafe { self.read_as_guessed(next, left) };
-                continue;
-            }
-            let part = unsafe { self.read_and_guess::<T, LINES>(next, left.min(PART)) };
-            read += part;
-            if part < PART {
-                break;
-            }
-        }
-        read
-    }
-
-    /// As `read`, and guesses how many digits the next fields have. The fields stay in registers, because
-    /// no number is written into them.
+    /// The array of C may be uninitialized, and have room for fewer than `count`, so no slice may cover it.
+    /// The numbers are read into an array on the stack, of which as much is set to 0 as is used, and copied.
     ///
     /// # Safety
     ///
-    /// As for `read`.
+    /// As for `fields`, `T` is an integer type, and `values` has room for as many numbers as are written.
     #[inline(always)]
-    unsafe fn read_and_guess<T: Parse + Default + PartialOrd, const LINES: bool>(
+    unsafe fn read<T: Parse, const LINES: bool>(
         &mut self,
         values: Values<T>,
         count: usize,
     ) -> usize {
         let Some(mut fields) = (unsafe { self.fields::<T, LINES>() }) else { return 0 };
-        let (mut read, mut bad_place) = (0, None);
+        let mut room = [MaybeUninit::<u128>::uninit(); ROOM / size_of::<u128>()];
+        // A number is at least one digit, and all but the last have a separator.
+        let most = count.min(self.rest_length / 2 + 1).min(ROOM / size_of::<T>());
+        let own = unsafe {
+            room.as_mut_ptr().cast::<T>().write_bytes(0, most);
+            from_raw_parts_mut(room.as_mut_ptr().cast::<T>(), most)
+        };
+        let mut read = 0;
         while read < count {
-            match fields.next() {
-                Some(Ok(value)) => unsafe { values.0.add(read).write(value) },
-                Some(Err(error)) => {
-                    bad_place = Some(error.place);
-                    break;
-                }
-                None => break,
+            let part = most.min(count - read);
+            let found = fields.read(&mut own[..part]);
+            unsafe { values.0.add(read).copy_from_nonoverlapping(own.as_ptr(), found) };
+            read += found;
+            if found < part {
+                break;
             }
-            read += 1;
         }
-        let length = bad_place.unwrap_or(fields.position().1);
-        self.go_on(read, length);
-        if read == PART {
-            self.digits = digits_of_each(unsafe { from_raw_parts(values.0, PART) }, length);
-        }
-        read
-    }
-
-    /// As `read`, but also stops before a number without `digits` digits. If it stops at once, the guess was
-    /// wrong.
-    ///
-    /// # Safety
-    ///
-    /// As for `read`.
-    #[inline(never)]
-    unsafe fn read_as_guessed<T: Parse>(&mut self, values: Values<T>, count: usize) -> usize {
-        let text = unsafe { bytes(self.rest, self.rest_length) };
-        let separator = self.separator as u8;
-        // A number in range has no more digits, unless it begins with zeros.
-        let most = 3 * size_of::<T>() + 1;
-        macro_rules! read_of_digits {
-            ($($digits:literal)*) => {
-                match self.digits {
-                    $($digits if $digits <= most => unsafe {
-                        if T::SIGNED {
-                            read_signed::<T, $digits>(text, separator, values, count)
-                        } else {
-                            read_unsigned::<T, $digits>(text, separator, values, count)
-                        }
-                    },)*
-                    _ => (0, 0),
-                }
-            };
-        }
-        let (read, length) = read_of_digits!(1 2 3 4 5 6 7 8 9 10 11 12 13 14 15 16 17 18 19 20);
-        self.go_on(read, length);
-        if read == 0 {
-            self.digits = 0;
-        }
+        self.go_on_after(&fields);
         read
     }
 }
 
-// How many digits each of these numbers has, if all have equally many, otherwise 0. `length` also counts minus
-// signs and separators. Inlined, this function would make the loop before it slower.
-#[inline(never)]
-fn digits_of_each<T: Default + PartialOrd>(numbers: &[T], length: usize) -> u8 {
-    let minuses = numbers.iter().filter(|number| **number < T::default()).count();
-    let digits = length - numbers.len() - minuses;
-    let each = u8::try_from(digits / numbers.len()).unwrap_or(0);
-    if digits % numbers.len() == 0 { each } else { 0 }
-}
-
-// How many fields are read before a guess. In a text of many widths, the guess is then rarely wrong, and
-// costs nothing.
-const PART: usize = 128;
-
-/// Reads numbers of `DIGITS` bytes, each with a separator after it. Returns how many, and their length. No
-/// number waits for the end of the one before it, so this takes 0.2 to 0.6 of the time of `Fields`.
-///
-/// # Safety
-///
-/// `values` has room for as many numbers as are written.
-#[inline(always)]
-unsafe fn read_unsigned<T: Parse, const DIGITS: usize>(
-    text: &[u8],
-    separator: u8,
-    values: Values<T>,
-    count: usize,
-) -> (usize, usize) {
-    let mut read = 0;
-    for field in text.chunks_exact(DIGITS + 1).take(count) {
-        match parse::<T, false, false>(&field[..DIGITS]) {
-            Ok(value) if field[DIGITS] == separator => unsafe { values.0.add(read).write(value) },
-            _ => break,
-        }
-        read += 1;
-    }
-    (read, read * (DIGITS + 1))
-}
-
-/// As `read_unsigned`, but each number may have a minus. A number waits only for the sign of the one before.
-///
-/// # Safety
-///
-/// As for `read_unsigned`.
-#[inline(always)]
-unsafe fn read_signed<T: Parse, const DIGITS: usize>(
-    text: &[u8],
-    separator: u8,
-    values: Values<T>,
-    count: usize,
-) -> (usize, usize) {
-    let (mut read, mut at) = (0, 0);
-    while read < count && text.len() - at > DIGITS + 1 {
-        let end = at + DIGITS + usize::from(text[at] == b'-');
-        match parse::<T, false, false>(&text[at..end]) {
-            Ok(value) if text[end] == separator => unsafe { values.0.add(read).write(value) },
-            _ => break,
-        }
-        read += 1;
-        at = end + 1;
-    }
-    (read, at)
-}
+// How many bytes of numbers are read at once.
+const ROOM: usize = 2048;
 
 impl<T: Parse> CheckedColumn<T> {
     // No field can be separated by a digit or a sign, which is an error of no field.

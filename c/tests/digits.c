@@ -38,7 +38,7 @@ static unsigned below(unsigned count)
     ((left).status == (right).status && (left).index == (right).index && (left).offset == (right).offset &&            \
      (left).next_index == (right).next_index && (left).next_offset == (right).next_offset &&                           \
      (left).rest == (right).rest && (left).rest_length == (right).rest_length &&                                       \
-     (left).separator == (right).separator && (left).is_lines == (right).is_lines && (left).digits == (right).digits)
+     (left).separator == (right).separator && (left).is_lines == (right).is_lines)
 
 #define SAME_FIELDS(left, right)                                                                                       \
     (SAME_REST(left, right) && (left).text == (right).text && (left).length == (right).length)
