@@ -9,6 +9,7 @@
 
 #include <charconv>
 #include <cstddef>
+#include <cstring>
 #include <iterator>
 #include <optional>
 #include <string_view>
@@ -160,10 +161,33 @@ struct item {
 
 namespace detail {
 
+// Returns where the field of this index begins in a text. Looks for it from the field before it, if `last` is that one.
+// A loop that uses no offset leaves out the call, since the function is pure.
+[[gnu::pure, gnu::noinline]] inline const char *place_of(std::size_t index, std::string_view text, char separator,
+                                                         std::size_t last_index, const char *last) noexcept
+{
+    const bool is_next = last_index + 1 == index;
+    const char *place = is_next ? last : text.data();
+    const char *const end = text.data() + text.size();
+    for (std::size_t fields = is_next ? 1 : index; fields > 0; --fields)
+        place = static_cast<const char *>(std::memchr(place, separator, static_cast<std::size_t>(end - place))) + 1;
+    return place;
+}
+
 // The items of a text, read once: a loop goes on where the last one ended. If `ends`, the first error is the last item.
+//
+// After some items, iterators take numbers from a block of them, which is read at once. A copy has no block.
 template <class T, bool ends>
 class range {
     static_assert(is_integer<T>, "T is an integer type that std::from_chars takes");
+
+    // A field of a block, and where it begins.
+    struct mark {
+        const char *block = nullptr;
+        char separator = 0;
+        std::size_t index = 0;
+        const char *place = nullptr;
+    };
 
 public:
     // An input iterator. It reads on in the range that it was made by, and is equal to `end()` when nothing is left.
@@ -190,7 +214,7 @@ public:
         }
         iterator &operator++() noexcept
         {
-            if (!items->next(current))
+            if (!items->advance(current, last))
                 items = nullptr;
             return *this;
         }
@@ -212,12 +236,22 @@ public:
     private:
         range *items = nullptr;
         item<T> current;
+        mark last;
     };
 
     // The fields of a text, which must stay as it is, with a separator between them. One more may follow the last. If
     // the separator is a digit, `+` or `-`, there is one item, an error with the index and the offset SIZE_MAX.
     range(std::string_view text, char separator) noexcept : range(text, separator, 0)
     {
+    }
+
+    range(const range &other) noexcept : state(other.unread())
+    {
+    }
+    range &operator=(const range &other) noexcept
+    {
+        start_at(other.unread());
+        return *this;
     }
 
     // The lines of a text. A line ends with "\n" or "\r\n", which is not part of it.
@@ -238,15 +272,8 @@ public:
     // Reads the next field into `field`. At the end, returns false, and leaves `field` as it is.
     bool next(item<T> &field) noexcept
     {
-        const std::size_t offset = state.next_offset;
-        const auto found = functions::next(state);
-        if (found.length == 0)
-            return false;
-        if (found.length == 1)
-            field = {static_cast<T>(found.value), std::errc(), std::string_view(), state.next_index - 1, offset};
-        else
-            field = refused();
-        return true;
+        go_back();
+        return read_alone(field);
     }
 
     // Reads at most `count` numbers into `values` and returns how many it has read. It reads fewer than `count` only if
@@ -254,6 +281,7 @@ public:
     // the error, so a loop must not end because a call has read fewer. A column has no more items then. This is faster than `next`.
     std::size_t read(T *values, std::size_t count) noexcept
     {
+        go_back();
         const std::size_t numbers = functions::read(state, values, count);
         if (state.status != TORKETTLE_OK)
             refused();
@@ -263,7 +291,7 @@ public:
     // Returns the error at which the last call of `read` or `next` stopped, if any.
     std::optional<item<T>> error_item() const noexcept
     {
-        if (state.status == TORKETTLE_OK)
+        if (state.status == TORKETTLE_OK || used < filled)
             return std::nullopt;
         return error();
     }
@@ -281,17 +309,24 @@ public:
     // The index of the next field or, at the end, the number of fields.
     std::size_t next_index() const noexcept
     {
-        return state.next_index;
+        return unread().next_index;
     }
 
     // The offset of the next field or, at the end, of the end of the text.
     std::size_t next_offset() const noexcept
     {
-        return state.next_offset;
+        return unread().next_offset;
     }
 
 private:
     using functions = functions_of<T>;
+    using fields = typename functions::fields;
+
+    // So many items are read alone before the first block, and after an error, since a short block is slower.
+    static constexpr std::size_t first_alone = 4;
+    static constexpr std::size_t alone_after_error = 16;
+    static constexpr std::size_t first_room = 32;
+    static constexpr std::size_t last_room = 2048 / sizeof(T);
 
     range(std::string_view text, char separator, char is_lines) noexcept
         : state{TORKETTLE_OK, 0, 0, nullptr, 0, 0, 0, text.data(), 0, separator, is_lines}
@@ -313,7 +348,110 @@ private:
         return error();
     }
 
-    typename functions::fields state;
+    bool read_alone(item<T> &field) noexcept
+    {
+        const std::size_t offset = state.next_offset;
+        const auto found = functions::next(state);
+        if (found.length == 0)
+            return false;
+        if (found.length == 1)
+            field = {static_cast<T>(found.value), std::errc(), std::string_view(), state.next_index - 1, offset};
+        else
+            field = refused();
+        return true;
+    }
+
+    // Does what `next` does, with a block. `last` is where the field before was, if the same iterator has read it. The item
+    // of a loop stays in registers, because no function that is not inlined gets its address.
+    [[gnu::always_inline]] bool advance(item<T> &field, mark &last) noexcept
+    {
+        if (used == filled && (alone > 0 || !read_block())) {
+            item<T> one;
+            if (!read_one(one))
+                return false;
+            field = one;
+            return true;
+        }
+        const bool is_known = last.block == block.rest && last.separator == block.separator;
+        const std::size_t last_index = is_known ? last.index : used;
+        const char *const place = place_of(used, block_text(), block.separator, last_index, last.place);
+        last = {block.rest, block.separator, used, place};
+        const std::size_t offset = block.next_offset + static_cast<std::size_t>(place - block.rest);
+        field = {block_values[used], std::errc(), std::string_view(), block.next_index + used, offset};
+        ++used;
+        return true;
+    }
+
+    [[gnu::noinline]] bool read_one(item<T> &field) noexcept
+    {
+        alone -= alone > 0;
+        return read_alone(field);
+    }
+
+    // Reads the next numbers, up to an error or the end, and returns whether there are any.
+    [[gnu::noinline]] bool read_block() noexcept
+    {
+        block = state;
+        used = 0;
+        filled = functions::read(state, block_values, room);
+        room = room < last_room ? 2 * room : last_room;
+        if (state.status != TORKETTLE_OK) {
+            // `read_alone` reads the error again.
+            state.status = TORKETTLE_OK;
+            state.rest_length += static_cast<std::size_t>(state.rest - state.text);
+            state.rest = state.text;
+            state.next_index = state.index;
+            state.next_offset = state.offset;
+            alone = alone_after_error;
+            room = first_room;
+        }
+        return filled > 0;
+    }
+
+    std::string_view block_text() const noexcept
+    {
+        return {block.rest, block.rest_length};
+    }
+
+    // What the iterators have not read yet.
+    fields unread() const noexcept
+    {
+        if (used == filled)
+            return state;
+        fields left = block;
+        left.status = TORKETTLE_OK;
+        left.rest = place_of(used, block_text(), block.separator, used, nullptr);
+        const auto length = static_cast<std::size_t>(left.rest - block.rest);
+        left.rest_length -= length;
+        left.next_index += used;
+        left.next_offset += length;
+        return left;
+    }
+
+    void start_at(const fields &left) noexcept
+    {
+        state = left;
+        used = filled = 0;
+        alone = first_alone;
+        room = first_room;
+    }
+
+    void go_back() noexcept
+    {
+        if (used < filled)
+            start_at(unread());
+    }
+
+    // What the library has not read yet.
+    fields state;
+    // What it had not read before the block, and the numbers of the block, of which the iterators have read some.
+    fields block;
+    T block_values[last_room];
+    std::size_t used = 0;
+    std::size_t filled = 0;
+    // How many items are read alone before the next block, and how many numbers that has.
+    std::size_t alone = first_alone;
+    std::size_t room = first_room;
 };
 
 } // namespace detail

@@ -153,6 +153,7 @@ public:
         fields_by_pieces(random);
         items();
         items_beside_calls(random);
+        items_of_iterators(random);
         algorithms();
         if (!shape.is_lines) {
             column_by_next();
@@ -348,6 +349,70 @@ private:
             }
         } while (has(index));
         require(next_items(range, fields, index, 1) == expected.size(), "the number of items by next", index);
+    }
+
+    // Whether the range is at the field `index`, and the last item that it has read was an error if that is so.
+    void require_position(const torkettle::fields<T> &range, std::size_t index) const
+    {
+        const std::size_t offset = has(index) ? expected[index].offset : text.size();
+        require(range.next_index() == index && range.next_offset() == offset, "the position of a range", index);
+        const bool is_bad = index > 0 && expected[index - 1].status != TORKETTLE_OK;
+        require(range.error_item().has_value() == is_bad, "error_item of a range", index);
+        require(!is_bad || is_item(*range.error_item(), index - 1), "the error of a range", index);
+    }
+
+    // Iterators of one range take turns, and a copy of it reads on from where it is, with other positions.
+    void items_of_iterators(Random &random) const
+    {
+        torkettle::fields<T> range = this->range();
+        typename torkettle::fields<T>::iterator iterators[2] = {range.begin(), range.begin()};
+        std::size_t index = std::min<std::size_t>(2, expected.size());
+        for (unsigned turns = random.below(400); turns > 0 && has(index); turns--) {
+            auto &iterator = iterators[random.below(2)];
+            torkettle::item<T> item;
+            switch (random.below(turns % 2 == 0 ? 8 : 80)) {
+            case 0:
+                iterators[0] = iterators[1];
+                break;
+            case 1: {
+                auto copy = range.starting_at(index + 7, 9);
+                item = *copy.begin();
+                item.index -= 7;
+                item.offset += expected[index].offset - 9;
+                require(is_item(item, index), "an item of a copy", index);
+                break;
+            }
+            case 2: {
+                const torkettle::fields<T> copy = range;
+                require_position(copy, index);
+                range = copy;
+                break;
+            }
+            case 3:
+                require(range.next(item) && is_item(item, index), "next beside an iterator", index);
+                index++;
+                break;
+            case 4: {
+                const std::size_t read = range.read(room(20), 20);
+                numbers(room(20), read, index, "read beside an iterator");
+                index += read + range.error_item().has_value();
+                break;
+            }
+            default:
+                if (iterator != range.end()) {
+                    ++iterator;
+                    require(iterator != range.end() && is_item(*iterator, index), "an item of an iterator", index);
+                    index++;
+                }
+            }
+            if (random.below(4) == 0)
+                require_position(range, index);
+        }
+        for (const auto &item : range) {
+            require(is_item(item, index), "an item after others", index);
+            index++;
+        }
+        require(index == expected.size(), "the number of items of iterators", index);
     }
 
     void items_by_read(std::size_t count) const
