@@ -68,7 +68,8 @@ cargo run --release -- [ARGUMENT..]
   --words             only time the package and the same with the engine Words, inlined in Rust
   --lanes             time lanes of the package too
   --only TEXT         time only what has TEXT in its line, as 'parse u64 -- 16' or 'column u64'. The line of a real
-                      list is as 'real csv-cells u32', so 'real' times all of these
+                      list is as 'real csv-cells u32', so 'real' times all of these. The line of a column that is
+                      read with many numbers a call is as 'read u32 5'
   --markdown          print the ratios of real lists and the times of input lists once more, as tables in Markdown
   --cpu CPU           build the package for a processor (x86-64 and x86-64-v3)
   --passes N          how often everything is timed (5, at least 3)

@@ -104,23 +104,82 @@ impl fmt::Display for InputList {
     }
 }
 
-/// A column of numbers of one type.
+/// A column of numbers of one type, or many of them.
 #[derive(Clone)]
 pub struct Shape {
     pub integer: Integer,
     pub digits: Digits,
+    pub cut: Cut,
+}
+
+/// How texts are cut into numbers.
+#[derive(Clone, Copy, PartialEq, Eq)]
+pub enum Cut {
+    /// One column, at commas.
+    Column,
+    /// One column, at `\r\n`.
+    Lines,
+    /// Columns of so many numbers, at commas.
+    Columns(usize),
+}
+
+impl Cut {
+    /// The name under which a build exports the sum of texts that are cut so, into numbers of this type.
+    pub fn export(self, integer: Integer) -> String {
+        let texts = match self {
+            Cut::Column => "column",
+            Cut::Lines => "lines",
+            Cut::Columns(_) => "columns",
+        };
+        format!("{texts}_{}", integer.name())
+    }
+
+    fn read(words: &[&str]) -> Result<Cut, String> {
+        match *words {
+            [] => Ok(Cut::Column),
+            ["\\r\\n"] => Ok(Cut::Lines),
+            [count, "field" | "fields"] => match count.parse() {
+                Ok(count @ 1..) => Ok(Cut::Columns(count)),
+                _ => Err(format!("{count} is no number of fields")),
+            },
+            _ => Err(String::from(
+                "a line is TYPE DIGITS, and then \\r\\n or N fields, if it goes on",
+            )),
+        }
+    }
 }
 
 impl Shape {
-    /// The name under which a build exports the sum of a column of this type.
-    pub fn export(integer: Integer) -> String {
-        format!("column_{}", integer.name())
+    /// The name under which a build exports the sum of these numbers.
+    pub fn export(&self) -> String {
+        self.cut.export(self.integer)
+    }
+
+    /// The groups whose means include it in a table with the ratio of each line. Some columns are in none: lines,
+    /// short columns, and signed numbers of one width.
+    pub fn groups(&self) -> Vec<&'static str> {
+        let group = match (self.cut, self.digits.width()) {
+            (Cut::Column, None) => "mixed",
+            (Cut::Column, Some(width)) if !self.integer.is_signed() => match width {
+                ..=8 => "one width, 1 to 8 digits",
+                9..=15 => "one width, 9 to 15 digits",
+                _ => "one width, 16 digits or more",
+            },
+            _ => return Vec::new(),
+        };
+        vec![group]
     }
 }
 
 impl fmt::Display for Shape {
     fn fmt(&self, f: &mut fmt::Formatter<'_>) -> fmt::Result {
-        write!(f, "{:4} {:6}", self.integer.name(), self.digits)
+        write!(f, "{:4} {:6}", self.integer.name(), self.digits)?;
+        match self.cut {
+            Cut::Column => Ok(()),
+            Cut::Lines => f.write_str(" \\r\\n"),
+            Cut::Columns(1) => f.write_str(" 1 field"),
+            Cut::Columns(count) => write!(f, " {count} fields"),
+        }
     }
 }
 
@@ -138,6 +197,14 @@ pub fn input_lists() -> Result<Vec<InputList>, String> {
 /// The columns, in the order of their file.
 pub fn shapes() -> Result<Vec<Shape>, String> {
     rows("columns.txt", include_str!("../columns.txt"), shape)
+}
+
+/// The columns that are timed with many numbers a call, in the order of their file.
+pub fn reads() -> Result<Vec<Shape>, String> {
+    rows("reads.txt", include_str!("../reads.txt"), |words| {
+        let (number, cut) = words.split_at(words.len().min(2));
+        Ok(Shape { cut: Cut::read(cut)?, ..shape(number)? })
+    })
 }
 
 /// What is timed from C and C++: two calls for each line of the file.
@@ -177,9 +244,10 @@ pub fn c_calls() -> Result<Vec<TimedCall>, String> {
     Ok(each_once(c_lists()?.into_iter().map(|list| list.call)))
 }
 
-/// Each type of a column or of a real list, once.
+/// Each type of a column, of many numbers a call or of a real list, once.
 pub fn all_column_types() -> Result<Vec<Integer>, String> {
-    Ok(each_once(column_types()?.into_iter().chain(real::types()?)))
+    let reads = reads()?.into_iter().map(|shape| shape.integer);
+    Ok(each_once(column_types()?.into_iter().chain(reads).chain(real::types()?)))
 }
 
 /// Each type of a column, once.
@@ -195,7 +263,8 @@ impl Shape {
     }
 }
 
-fn each_once<T: PartialEq>(all: impl Iterator<Item = T>) -> Vec<T> {
+/// Each of them, once.
+pub fn each_once<T: PartialEq>(all: impl Iterator<Item = T>) -> Vec<T> {
     all.fold(Vec::new(), |mut once, it| {
         if !once.contains(&it) {
             once.push(it);
@@ -207,7 +276,8 @@ fn each_once<T: PartialEq>(all: impl Iterator<Item = T>) -> Vec<T> {
 fn shape(words: &[&str]) -> Result<Shape, String> {
     match *words {
         [integer, digits] => {
-            Ok(Shape { integer: integer_named(integer)?, digits: digits.parse()? })
+            let (integer, digits) = (integer_named(integer)?, digits.parse()?);
+            Ok(Shape { integer, digits, cut: Cut::Column })
         }
         _ => Err(String::from("a line is TYPE DIGITS")),
     }
@@ -233,7 +303,7 @@ fn rows<T>(
 
 #[cfg(test)]
 mod tests {
-    use super::{c_lists, calls, cells, counted_calls, input_lists, shapes};
+    use super::{Cut, Shape, c_lists, calls, cells, counted_calls, input_lists, reads, shapes};
     use std::collections::BTreeSet;
     use torkettle_common::Form;
 
@@ -241,8 +311,38 @@ mod tests {
     fn every_line_is_read() {
         assert_eq!(input_lists().map(|lists| lists.len() >= 30), Ok(true));
         assert_eq!(shapes().map(|shapes| shapes.len() >= 8), Ok(true));
+        assert_eq!(reads().map(|reads| reads.len() >= 40), Ok(true));
         assert_eq!(cells().map(|cells| cells.len() % 5), Ok(0));
         assert_eq!(c_lists().map(|lists| lists.len() % 2), Ok(0));
+    }
+
+    #[test]
+    fn lines_of_reads_are_shown_as_they_are() {
+        let text = include_str!("../reads.txt").lines().filter(|line| !line.starts_with('#'));
+        let words = |line: &str| line.split_whitespace().collect::<Vec<_>>().join(" ");
+        assert!(reads().unwrap().iter().map(|shape| words(&shape.to_string())).eq(text));
+    }
+
+    #[test]
+    fn groups_of_reads() {
+        let reads = reads().unwrap();
+        let count = |part| {
+            let groups = |shape: &Shape| shape.groups().concat();
+            reads.iter().filter(|shape| groups(shape).contains(part)).count()
+        };
+        let parts = ["1 to 8 digits", "9 to 15 digits", "16 digits or more", "mixed"];
+        assert_eq!(parts.map(count), [16, 8, 5, 5]);
+        let has_none = |shape: &&Shape| shape.groups().is_empty();
+        assert_eq!(reads.iter().filter(has_none).count(), 2 + 2 + 8);
+    }
+
+    #[test]
+    fn cuts() {
+        assert!(Cut::read(&[]) == Ok(Cut::Column) && Cut::read(&["\\r\\n"]) == Ok(Cut::Lines));
+        assert!(Cut::read(&["30", "fields"]) == Ok(Cut::Columns(30)));
+        for refused in [&["\\n"][..], &["0", "fields"], &["x", "fields"], &["4", "fields", "4"]] {
+            assert!(Cut::read(refused).is_err());
+        }
     }
 
     #[test]

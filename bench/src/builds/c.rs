@@ -4,7 +4,7 @@
 use super::place::{ASSEMBLED_WITHIN_32_BYTES, WITHIN_32_BYTES, placed};
 use super::{Build, Compared};
 use crate::real;
-use crate::tables::{self, Shape, TimedCall};
+use crate::tables::{self, Cut, TimedCall};
 use std::path::{Path, PathBuf};
 use std::process::Command;
 use torkettle_common::Form;
@@ -122,7 +122,7 @@ impl Sources {
             }
         }
         for integer in types {
-            let (name, c_type) = (Shape::export(*integer), c_type(*integer));
+            let (name, c_type) = (Cut::Column.export(*integer), c_type(*integer));
             c += &format!("COLUMN({}, {c_type})\n", integer.name());
             cpp += &format!("EXPORT({STANDARD}{name}, column<Standard, {c_type}>)\n");
             cpp += &format!("EXPORT({CHARS}{name}, column<Ours, {c_type}>)\n");

@@ -8,7 +8,7 @@ use super::source::{Calls, Column, HEAD, Parse};
 use super::{Build, Compared, Others};
 use crate::formats::{self, Bodies, Format};
 use crate::real;
-use crate::tables::{self, Shape, TimedCall};
+use crate::tables::{self, Cut, TimedCall};
 use std::path::PathBuf;
 use torkettle_common::Form;
 use torkettle_common::cache::Cache;
@@ -28,8 +28,10 @@ pub struct Inlined {
     pub going_on: Vec<Build>,
     /// What reads formats.
     pub formats: Vec<Build>,
-    /// What reads a text of real numbers: two ways of ours, and then what they are compared with.
+    /// What reads a text of real numbers: four ways of ours, and then what they are compared with.
     pub texts: Compared,
+    /// What reads many numbers a call, and what that is compared with.
+    pub reads: Compared,
 }
 
 // One library in the program.
@@ -50,12 +52,18 @@ struct Part {
 enum Use {
     CallsAndColumns,
     ColumnsThatGoOn,
-    RealColumns,
+    // Real lists, and the columns of `reads.txt` if `Part::is_in_reads`.
+    Texts,
     FormatsAlone,
 }
 
 const OURS: &str = "use ours::{self as calls, formats};";
 const THEIRS: &str = "use theirs::{self as calls, formats};";
+
+// What the names of the exports of `texts` begin with.
+const OUR_TEXTS: [&str; 4] = ["ours_prefixes_", "ours_fields_", "ours_read_64_", "ours_read_1024_"];
+const THEIR_TEXTS: [&str; 4] =
+    ["theirs_prefixes_", "theirs_fields_", "theirs_read_64_", "theirs_read_1024_"];
 
 /// The package and what it is compared with, built for a processor.
 pub fn inlined(
@@ -77,17 +85,18 @@ pub fn inlined(
     };
     let mut dependencies = vec![dependency(ours, "ours")];
     let mut parts = vec![package("the package", "ours_", OURS)];
-    parts.extend(texts("the package", ["ours_prefixes_", "ours_fields_"], OURS));
+    parts.extend(texts("the package", OUR_TEXTS, OURS));
     match others {
         Others::Libraries { original } => {
             dependencies.extend(original.clone());
             parts.extend(libraries(original.is_some(), cpu)?);
             parts.extend(going_on());
         }
-        Others::Package { package: theirs, name } => {
-            dependencies.push(dependency(theirs, "theirs"));
-            parts.push(package(name, "theirs_", THEIRS));
-            parts.extend(texts(name, ["theirs_prefixes_", "theirs_fields_"], THEIRS));
+        Others::Package(theirs) => {
+            dependencies.push(dependency(&theirs.package, "theirs"));
+            parts.push(package(&theirs.name, "theirs_", THEIRS));
+            let has = |part: &Part| theirs.has_read || !part.reads_many();
+            parts.extend(texts(&theirs.name, THEIR_TEXTS, THEIRS).into_iter().filter(has));
         }
     }
     program(cache, cpu, dependencies, &parts)
@@ -99,7 +108,7 @@ fn libraries(has_original: bool, cpu: &str) -> Result<Vec<Part>, String> {
     let split = Calls { column: Column::Split, ..ORIGINAL };
     let original = [
         part(&name, "original_", ORIGINAL),
-        Part { use_of: Use::RealColumns, ..part(&name, "original_split_", split) },
+        Part { use_of: Use::Texts, ..part(&name, "original_split_", split) },
     ];
     let original = original.into_iter().filter(|_| has_original);
     let [whole, prefix] = names_of_standard()?;
@@ -115,16 +124,13 @@ fn libraries(has_original: bool, cpu: &str) -> Result<Vec<Part>, String> {
     Ok(original.chain(standard).collect())
 }
 
-// The two ways in which a package reads a text of real numbers.
-fn texts(name: &str, prefixes: [&'static str; 2], import: &'static str) -> [Part; 2] {
-    let [first, second] = prefixes;
-    let fields = Calls { column: FIELDS, ..PACKAGE };
-    let prefixes = Calls { column: Column::Prefixes, ..PACKAGE };
-    let use_of = Use::RealColumns;
-    [
-        Part { use_of, import, ..part(name, first, prefixes) },
-        Part { use_of, import, ..part(name, second, fields) },
-    ]
+// The ways in which a package reads a text.
+fn texts(name: &str, prefixes: [&'static str; 4], import: &'static str) -> [Part; 4] {
+    let columns = [Column::Prefixes, FIELDS, Column::Read(64), Column::Read(1024)];
+    [0, 1, 2, 3].map(|way| {
+        let calls = Calls { column: columns[way], ..PACKAGE };
+        Part { use_of: Use::Texts, import, ..part(name, prefixes[way], calls) }
+    })
 }
 
 // The iterator that goes on after an error, and what does the same with std.
@@ -179,21 +185,25 @@ fn program(
         going_on.insert(1, Build { name: String::from("Column"), ..parts[0].build(&files) });
     }
     let formats = builds(|part| part.formats.is_some());
-    let texts = compared(parts, &files);
+    let texts = compared(parts, &files, Part::reads_texts);
+    let reads = compared(parts, &files, Part::is_in_reads);
     let builds = builds(|part| part.use_of == Use::CallsAndColumns);
-    Ok(Inlined { builds, going_on, formats, texts })
+    Ok(Inlined { builds, going_on, formats, texts, reads })
 }
 
-// What reads a text of real numbers. Each way of ours is compared with the same way of another package, and
-// with every way of other libraries.
-fn compared(parts: &[Part], files: &[PathBuf]) -> Compared {
-    let parts: Vec<&Part> = parts.iter().filter(|part| part.reads_texts()).collect();
+// What reads texts. Each way of ours is compared with the same way of another package, and with every way of
+// other libraries. `read` is compared with each `Fields`, and not with prefixes.
+fn compared(parts: &[Part], files: &[PathBuf], is_in: fn(&Part) -> bool) -> Compared {
+    let parts: Vec<&Part> = parts.iter().filter(|part| is_in(part)).collect();
     let name = |part: &Part| format!("{}, {}", part.way(), part.name);
     let build = |part: &&Part| Build { name: name(part), ..part.build(files) };
     let is_compared = |ours: &Part, theirs: &Part| {
         ours.import == OURS
-            && theirs.import != OURS
-            && (theirs.import.is_empty() || ours.calls.column == theirs.calls.column)
+            && match (ours.calls.column, theirs.calls.column) {
+                (Column::Read(_), Column::Iterator(_)) => true,
+                (Column::Read(_), Column::Prefixes) => false,
+                (one, other) => theirs.import.is_empty() || theirs.import == THEIRS && one == other,
+            }
     };
     let numbers = 0..parts.len();
     let pairs = numbers.clone().flat_map(|ours| numbers.clone().map(move |theirs| (ours, theirs)));
@@ -225,21 +235,22 @@ impl Part {
         let has_calls = self.use_of == Use::CallsAndColumns;
         let calls = if has_calls { tables::calls()? } else { Vec::new() };
         let in_lanes = if self.has_lanes { calls.clone() } else { Vec::new() };
-        let types = self.column_types()?;
         let lanes = Calls { parse: Parse::By("calls::lanes"), ..self.calls };
         let rows = |form, calls: Calls| {
             move |call: TimedCall| self.named(call.export(form), |name| calls.rows(name, &call))
         };
         let words = calls.into_iter().filter_map(rows(Form::Words, self.calls));
         let lanes = in_lanes.into_iter().filter_map(rows(Form::Lanes, lanes));
-        let columns = types.into_iter().filter_map(|integer| {
-            self.named(Shape::export(integer), |name| self.calls.column(name, integer))
+        let columns = self.columns()?.into_iter().filter_map(|(cut, integer)| {
+            self.named(cut.export(integer), |name| self.calls.column(name, cut, integer))
         });
         let formats = Format::ALL.into_iter().filter_map(|format| {
             let body = self.formats?(format);
             self.named(format.export(), |name| Calls::format(name, body))
         });
         let slices = self.slices()?.into_iter();
+        // Lines of several tables have the same loop.
+        let columns = tables::each_once(columns);
         Ok(words.chain(lanes).chain(slices).chain(columns).chain(formats).collect())
     }
 
@@ -262,31 +273,48 @@ impl Part {
         Ok(forms.flat_map(of_form).collect())
     }
 
-    // The types whose columns it adds up.
-    fn column_types(&self) -> Result<Vec<Integer>, String> {
-        match self.use_of {
-            Use::CallsAndColumns => tables::all_column_types(),
-            Use::ColumnsThatGoOn => tables::column_types(),
-            Use::RealColumns => real::types(),
-            Use::FormatsAlone => Ok(Vec::new()),
-        }
+    // How texts are cut that it adds up, and into numbers of which type.
+    fn columns(&self) -> Result<Vec<(Cut, Integer)>, String> {
+        let types = match self.use_of {
+            Use::CallsAndColumns => tables::all_column_types()?,
+            Use::ColumnsThatGoOn => tables::column_types()?,
+            Use::Texts => real::types()?,
+            Use::FormatsAlone => Vec::new(),
+        };
+        let reads = if self.is_in_reads() { tables::reads()? } else { Vec::new() };
+        let columns = types.into_iter().map(|integer| (Cut::Column, integer));
+        Ok(columns.chain(reads.iter().map(|shape| (shape.cut, shape.integer))).collect())
     }
 
     // Whether a text of real numbers is read by it. Ours and another package have parts of their own for that.
     fn reads_texts(&self) -> bool {
         match self.use_of {
-            Use::RealColumns => true,
+            Use::Texts => true,
             Use::CallsAndColumns => self.import.is_empty(),
             Use::ColumnsThatGoOn | Use::FormatsAlone => false,
         }
     }
 
+    // Whether it is in the table of many numbers a call: `Fields`, its `read`, and std.
+    fn is_in_reads(&self) -> bool {
+        match self.use_of {
+            Use::Texts => self.reads_many() || self.calls.column == FIELDS,
+            Use::CallsAndColumns => self.calls.column == Column::Split,
+            Use::ColumnsThatGoOn | Use::FormatsAlone => false,
+        }
+    }
+
+    fn reads_many(&self) -> bool {
+        matches!(self.calls.column, Column::Read(_))
+    }
+
     // How it reads a text.
-    fn way(&self) -> &'static str {
+    fn way(&self) -> String {
         match self.calls.column {
-            Column::Split | Column::SplitGoesOn => "split",
-            Column::Prefixes => "prefixes",
-            Column::Iterator(_) | Column::IteratorGoesOn(_) => "Fields",
+            Column::Split | Column::SplitGoesOn => String::from("split"),
+            Column::Prefixes => String::from("prefixes"),
+            Column::Iterator(_) | Column::IteratorGoesOn(_) => String::from("Fields"),
+            Column::Read(room) => format!("read into {room}"),
         }
     }
 
@@ -303,11 +331,11 @@ impl Part {
 
 #[cfg(test)]
 mod tests {
-    use super::{OURS, THEIRS, compared, libraries, part, texts};
+    use super::{OUR_TEXTS, OURS, Part, THEIR_TEXTS, THEIRS, compared, libraries, part, texts};
 
-    // The names of the builds that are compared as readers of texts.
-    fn names(parts: &[super::Part]) -> Vec<(String, String)> {
-        let compared = compared(parts, &[]);
+    // The names of the builds that are compared.
+    fn names(parts: &[Part], is_in: fn(&Part) -> bool) -> Vec<(String, String)> {
+        let compared = compared(parts, &[], is_in);
         let name = |number: usize| compared.builds[number].name.clone();
         compared.pairs.iter().map(|(ours, theirs)| (name(*ours), name(*theirs))).collect()
     }
@@ -315,21 +343,29 @@ mod tests {
     #[test]
     fn a_package_is_compared_in_the_same_way() {
         let ours = [part("ours", "ours_", super::PACKAGE)].into_iter();
-        let ours = ours.map(|part| super::Part { import: OURS, ..part });
+        let ours = ours.map(|part| Part { import: OURS, ..part });
         let parts: Vec<_> = ours
-            .chain(texts("ours", ["ours_prefixes_", "ours_fields_"], OURS))
-            .chain(texts("HEAD", ["theirs_prefixes_", "theirs_fields_"], THEIRS))
+            .chain(texts("ours", OUR_TEXTS, OURS))
+            .chain(texts("HEAD", THEIR_TEXTS, THEIRS))
             .collect();
-        let pair = |way| (format!("{way}, ours"), format!("{way}, HEAD"));
-        assert_eq!(names(&parts), [pair("prefixes"), pair("Fields")]);
+        let pair = |our: &str, theirs: &str| (format!("{our}, ours"), String::from(theirs));
+        let reads = ["read into 64", "read into 1024"].map(|way| {
+            let theirs = ["Fields, ours", "Fields, HEAD", &format!("{way}, HEAD")];
+            theirs.map(|theirs| pair(way, theirs))
+        });
+        let fields = pair("Fields", "Fields, HEAD");
+        let expected = [vec![fields], reads.concat()].concat();
+        assert_eq!(names(&parts, Part::is_in_reads), expected);
+        let expected = [vec![pair("prefixes", "prefixes, HEAD")], expected].concat();
+        assert_eq!(names(&parts, Part::reads_texts), expected);
     }
 
     #[test]
     fn libraries_are_compared_in_each_way() {
-        let parts = texts("ours", ["ours_prefixes_", "ours_fields_"], OURS).into_iter();
+        let parts = texts("ours", OUR_TEXTS, OURS).into_iter();
         let parts: Vec<_> = parts.chain(libraries(true, "x86-64").unwrap()).collect();
-        let pairs = names(&parts);
-        assert_eq!(pairs.len(), 8);
+        let pairs = names(&parts, Part::reads_texts);
+        assert_eq!(pairs.len(), 8 + 6);
         let is_compared = |ours: &str, theirs: &str| {
             pairs.iter().any(|pair| pair.0 == ours && pair.1.starts_with(theirs))
         };
@@ -338,5 +374,13 @@ mod tests {
                 assert!(is_compared(ours, theirs), "{ours}, {theirs}");
             }
         }
+        let pairs_of_reads = names(&parts, Part::is_in_reads);
+        assert_eq!(pairs_of_reads.len(), 1 + 4);
+        for ours in ["read into 64, ours", "read into 1024, ours"] {
+            for theirs in ["split, str::parse", "Fields, ours"] {
+                assert!(is_compared(ours, theirs), "{ours}, {theirs}");
+            }
+        }
+        assert!(pairs_of_reads.iter().all(|pair| pairs.contains(pair)));
     }
 }

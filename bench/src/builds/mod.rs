@@ -23,8 +23,17 @@ use torkettle_common::package::Package;
 pub enum Others {
     /// std and, if it is there, the original.
     Libraries { original: Option<Dependency> },
-    /// Another package, which has a name.
-    Package { package: Package, name: String },
+    /// Another package.
+    Package(Other),
+}
+
+/// A package that the one of this checkout is compared with.
+pub struct Other {
+    pub package: Package,
+    /// What it is called in tables.
+    pub name: String,
+    /// Whether it has `Fields::read`.
+    pub has_read: bool,
 }
 
 /// Builds, and which of them are compared: for each pair, the numbers of ours and of theirs.

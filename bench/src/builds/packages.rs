@@ -1,5 +1,6 @@
 //! The packages that the one of this checkout is compared with.
 
+use super::Other;
 use crate::arguments::Against;
 use std::fs;
 use std::path::Path;
@@ -13,8 +14,12 @@ const ENGINES: &str = "erase/src/engines.rs";
 const TUNED: &str = "atoi_fast::Swar";
 const PLAIN: &str = "atoi_core::Words";
 
-/// A package, and what it is called in tables. A commit is called by its short name.
-pub fn package(cache: &Cache, against: &Against) -> Result<(Package, String), String> {
+// The file that has `Fields`, and what is in it if it has `Fields::read`.
+const FIELDS: &str = "rust/src/proved/atoi_column/fields.rs";
+const READ: &str = " fn read(&mut self";
+
+/// A package. A commit is called by its short name.
+pub fn package(cache: &Cache, against: &Against) -> Result<Other, String> {
     let room = cache.empty_folder("archive")?;
     let archive = room.join("archive.tar");
     let name = match against {
@@ -27,7 +32,8 @@ pub fn package(cache: &Cache, against: &Against) -> Result<(Package, String), St
         erase(cache, &room)?;
     }
     edit(&room.join("Cargo.toml"), |manifest| Ok(with_other_version(manifest)))?;
-    Ok((Package::of_folder(&room)?, name))
+    let has_read = fs::read_to_string(room.join(FIELDS)).is_ok_and(|text| text.contains(READ));
+    Ok(Other { package: Package::of_folder(&room)?, name, has_read })
 }
 
 // Packs the files of a commit, from git.
@@ -84,7 +90,7 @@ fn with_other_version(manifest: &str) -> String {
 
 #[cfg(test)]
 mod tests {
-    use super::{with_other_version, with_words};
+    use super::{READ, with_other_version, with_words};
 
     #[test]
     fn words_replace_the_tuned_engine() {
@@ -100,6 +106,12 @@ mod tests {
         for refused in [engines("atoi_core::Words"), tuned.repeat(2)] {
             assert!(with_words(&refused).is_err_and(|it| it.contains("erase/src/engines.rs")));
         }
+    }
+
+    #[test]
+    fn fields_of_the_package_have_read() {
+        let fields = include_str!("../../../rust/src/proved/atoi_column/fields.rs");
+        assert_eq!(fields.matches(READ).count(), 1);
     }
 
     #[test]

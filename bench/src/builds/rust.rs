@@ -33,7 +33,7 @@ pub fn counted(
     };
     let mut builds = vec![package("the package", ours)?];
     match others {
-        Others::Package { package: theirs, name } => builds.push(package(name, theirs)?),
+        Others::Package(theirs) => builds.push(package(&theirs.name, &theirs.package)?),
         Others::Libraries { original } => {
             if original.is_some() {
                 builds.push(build(&original::name(cpu), ORIGINAL, original.clone())?);

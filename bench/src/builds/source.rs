@@ -1,7 +1,7 @@
 //! The text of the exports of libraries in Rust: a call, a loop over an input list, a loop over slices
-//! of a text, and a loop over a column.
+//! of a text, and a loop over a column or over many.
 
-use crate::tables::{Function, TimedCall};
+use crate::tables::{Cut, Function, TimedCall};
 use torkettle_common::integer::Integer;
 
 /// How the exports of a library are written.
@@ -58,12 +58,14 @@ pub enum Column {
     Iterator(&'static str),
     /// This iterator, which goes on. An error counts as 1.
     IteratorGoesOn(&'static str),
+    /// `Fields::read`, into room for so many numbers.
+    Read(usize),
 }
 
 /// The first lines of a source.
 pub const HEAD: &str = concat!(
     "//! What is timed: `bench` wrote this file.
-#![allow(dead_code, unused_imports)]
+#![allow(dead_code, unused_imports, unused_variables)]
 
 const ERROR: u64 = 0x8000_0000_0000_0001;
 
@@ -109,19 +111,28 @@ impl Calls {
         (!body.is_empty()).then(|| export(name, Integer::U64, &read))
     }
 
-    /// An export that adds up a column. None if the library has no call for it.
-    pub fn column(&self, name: &str, integer: Integer) -> Option<String> {
+    /// An export that adds up texts that are cut so. None if the library has no call for it.
+    pub fn column(&self, name: &str, cut: Cut, integer: Integer) -> Option<String> {
         let (function, iterator, body, no_number) = match self.column {
             Column::Split => (Function::Parse, "", SPLIT, "return ERROR"),
             Column::SplitGoesOn => (Function::Parse, "", SPLIT, "1"),
             Column::Prefixes => (Function::Prefix, "", PREFIXES, ""),
             Column::Iterator(iterator) => (Function::Parse, iterator, ITERATOR, "return ERROR"),
             Column::IteratorGoesOn(iterator) => (Function::Parse, iterator, ITERATOR, "1"),
+            Column::Read(_) => (Function::Parse, "calls::column::Fields", READ, ""),
+        };
+        let room = if let Column::Read(room) = self.column { room } else { 0 };
+        let (split, new) = match cut {
+            Cut::Column | Cut::Columns(_) => (SPLIT_AT_COMMAS, "new(text, b',')"),
+            Cut::Lines => (SPLIT_INTO_LINES, "lines(text)"),
         };
         let call = TimedCall { function, integer, skip_zeroes: true, skip_plus: true };
         let parse = self.parse.expression(&call)?;
-        let body = body.replace("PARSE", &parse).replace("ITERATOR", iterator);
-        let body = body.replace("NO_NUMBER", no_number);
+        let body = body.replace("PARSE", &parse).replace("NO_NUMBER", no_number);
+        let body = body.replace("FIELDS", &format!("{iterator}::<T>::{new}"));
+        let body = body.replace("TEXTS", split);
+        let of_all = if let Cut::Columns(_) = cut { OF_COLUMNS } else { OF_ONE };
+        let body = of_all.replace("BODY", &body).replace("SIZE", &room.to_string());
         Some(export(name, integer, &body))
     }
 }
@@ -187,7 +198,7 @@ const FORMAT: &str = "
 
 const SPLIT: &str = "
     let mut sum = 0_u64;
-    for text in text.split(|byte| *byte == b',') {
+    for text in TEXTS {
         sum = sum.wrapping_add(match PARSE {
             Some(value) => value as Unsigned as u64,
             None => NO_NUMBER,
@@ -207,12 +218,49 @@ const PREFIXES: &str = "
         }
     }";
 
+const SPLIT_AT_COMMAS: &str = "text.split(|byte| *byte == b',')";
+
+const SPLIT_INTO_LINES: &str =
+    "text.split(|byte| *byte == b'\\n').map(|line| line.strip_suffix(b\"\\r\").unwrap_or(line))";
+
 const ITERATOR: &str = "
     let mut sum = 0_u64;
-    for item in ITERATOR::<T>::new(text, b',') {
+    for item in FIELDS {
         sum = sum.wrapping_add(match item {
             Ok(value) => value as Unsigned as u64,
             Err(_) => NO_NUMBER,
         });
+    }
+    sum";
+
+// As in the guide.
+const READ: &str = "
+    let (mut fields, mut sum) = (FIELDS, 0_u64);
+    loop {
+        let read = fields.read(values);
+        for value in &values[..read] {
+            sum = sum.wrapping_add(*value as Unsigned as u64);
+        }
+        if read < values.len() {
+            return if fields.next().is_none() { sum } else { ERROR };
+        }
+    }";
+
+// The body adds up one column, whose numbers it may write to `values`.
+const OF_ONE: &str = "
+    let values = &mut [0 as T; SIZE];BODY";
+
+// Here `text` is first the bytes of `Slices`, whose places are those of columns.
+const OF_COLUMNS: &str = "
+    #[inline(always)]
+    fn sum_of(text: &[u8], values: &mut [T; SIZE]) -> u64 {BODY
+    }
+    let slices = unsafe { &*text.as_ptr().cast::<Slices>() };
+    let places = unsafe { std::slice::from_raw_parts(slices.places, slices.count) };
+    let (values, mut sum) = (&mut [0 as T; SIZE], 0_u64);
+    for place in places {
+        let start = unsafe { slices.text.add(place.start as usize) };
+        let text = unsafe { std::slice::from_raw_parts(start, place.length as usize) };
+        sum = sum.wrapping_add(sum_of(text, values));
     }
     sum";

@@ -1,8 +1,8 @@
 //! Times the calls that are inlined in Rust.
 
-use super::{columns, formats, lists, others, real_columns, slices};
+use super::{MANY, columns, formats, lists, others, reads, real_columns, slices};
 use crate::arguments::Arguments;
-use crate::builds::{self, Build, Inlined};
+use crate::builds::{self, Build, Compared, Inlined};
 use crate::report::Table;
 use crate::tables;
 use crate::timing::Task;
@@ -18,14 +18,15 @@ pub fn run(arguments: &Arguments, cache: &Cache) -> Result<usize, String> {
     let mut wrong = 0;
     for cpu in arguments.processors() {
         let built = builds::inlined(cache, &ours, &others, cpu, arguments.has_lanes)?;
-        wrong += time_real(arguments, &built, cpu)?;
+        wrong += time_texts(arguments, &built, cpu)?;
         wrong += time(arguments, &built, cpu)?;
     }
     Ok(wrong)
 }
 
-// Times real lists: first each number as a slice, and then all numbers of a text.
-fn time_real(arguments: &Arguments, built: &Inlined, cpu: &str) -> Result<usize, String> {
+// Times what has a table with the ratios of each line: real lists, first each number as a slice and then all
+// numbers of a text, and columns that are read with many numbers a call.
+fn time_texts(arguments: &Arguments, built: &Inlined, cpu: &str) -> Result<usize, String> {
     let time = |builds: &[Build], tasks: Vec<Task>, item: &str| {
         let unit = format!("{item}, inlined in Rust, built for {cpu}");
         Table::new(builds, tasks, &unit, arguments.passes)
@@ -34,9 +35,13 @@ fn time_real(arguments: &Arguments, built: &Inlined, cpu: &str) -> Result<usize,
     let pairs: Vec<(usize, usize)> = (1..built.builds.len()).map(|theirs| (0, theirs)).collect();
     let whole = time(&built.builds, slices(arguments)?, "slice of a real list")?;
     let wrong = whole.print_lists(&pairs, arguments.is_markdown);
-    let item = "number of a real list in one text";
-    let texts = time(&built.texts.builds, real_columns(arguments)?, item)?;
-    Ok(wrong + texts.print_lists(&built.texts.pairs, arguments.is_markdown))
+    let wrong_of = |compared: &Compared, tasks: Vec<Task>, item: &str| {
+        let table = time(&compared.builds, tasks, item)?;
+        Ok::<usize, String>(table.print_lists(&compared.pairs, arguments.is_markdown))
+    };
+    Ok(wrong
+        + wrong_of(&built.texts, real_columns(arguments)?, "number of a real list in one text")?
+        + wrong_of(&built.reads, reads(arguments)?, MANY)?)
 }
 
 fn time(arguments: &Arguments, built: &Inlined, cpu: &str) -> Result<usize, String> {

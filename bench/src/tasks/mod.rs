@@ -14,6 +14,9 @@ use torkettle_common::cache::Cache;
 use torkettle_common::original;
 use torkettle_common::random::Random;
 
+// What is read in the time of a line of the table of many numbers a call.
+const MANY: &str = "number of a column, many numbers a call";
+
 /// Does everything, and returns how many builds gave wrong answers to a line.
 pub fn run(arguments: &Arguments) -> Result<usize, String> {
     let cache = Cache::new()?;
@@ -39,10 +42,7 @@ pub fn run(arguments: &Arguments) -> Result<usize, String> {
 // What the package is compared with.
 fn others(arguments: &Arguments, cache: &Cache) -> Result<Others, String> {
     match &arguments.against {
-        Some(against) => {
-            let (package, name) = builds::package(cache, against)?;
-            Ok(Others::Package { package, name })
-        }
+        Some(against) => Ok(Others::Package(builds::package(cache, against)?)),
         None => {
             let original = original::find(cache, arguments.original.as_deref())?;
             Ok(Others::Libraries { original })
@@ -57,6 +57,7 @@ fn check_only(arguments: &Arguments) -> Result<(), String> {
         && lists(arguments, tables::input_lists()?, random).is_empty()
         && lists(arguments, tables::c_lists()?, random).is_empty()
         && columns(arguments, false, random)?.is_empty()
+        && reads(arguments)?.is_empty()
         && formats(arguments, random).is_empty();
     match has_none {
         true => Err(String::from("no list, no column and no format has what --only says")),
@@ -79,6 +80,14 @@ fn columns(
     let mut shapes = tables::shapes()?;
     shapes.retain(|shape| arguments.has(&format!("column {shape}")));
     Ok(shapes.iter().map(|shape| Task::column(shape, has_errors, random)).collect())
+}
+
+// What is done with the columns that are timed with many numbers a call.
+fn reads(arguments: &Arguments) -> Result<Vec<Task>, String> {
+    let mut shapes = tables::reads()?;
+    shapes.retain(|shape| arguments.has(&format!("read {shape}")));
+    let random = &mut Random::new(arguments.seed);
+    Ok(shapes.iter().map(|shape| Task::column(shape, false, random)).collect())
 }
 
 // The real lists that are timed.

@@ -5,12 +5,13 @@ use crate::formats::Format;
 use crate::layout::{Place, ROOM, Row, Slices};
 use crate::numbers::{Written, push_number};
 use crate::real::RealList;
-use crate::tables::{InputList, Shape};
+use crate::tables::{Cut, InputList, Shape};
+use std::ops::Range;
 use torkettle_common::integer::Integer;
 use torkettle_common::object::Call;
 use torkettle_common::random::Random;
 
-// The smallest number of bytes that a column has.
+// The smallest number of bytes that a column has, or many of them together.
 const COLUMN: usize = 65_536;
 
 /// Texts, and the sum of the answers that they have.
@@ -24,7 +25,7 @@ pub struct Input {
 enum Texts {
     Rows(Vec<Row>),
     Column(Vec<u8>),
-    // One text, and the places of the slices that are read.
+    // One text, and the places of the slices that are read: of numbers, or of columns.
     Slices(Vec<u8>, Vec<Place>),
 }
 
@@ -51,15 +52,16 @@ impl Input {
         Input::rows(items, || format.text(random))
     }
 
-    /// A column of this shape, with a comma after each field except the last. About half of the
-    /// numbers of a signed type are negative. One field in ten is no number if `has_errors`, and
-    /// counts as 1.
+    /// A column of this shape or many of them, with a comma after each field except the last, or `\r\n`.
+    /// About half of the numbers of a signed type are negative. One field in ten is no number if
+    /// `has_errors`, and counts as 1.
     pub fn column(shape: &Shape, has_errors: bool, random: &mut Random) -> Input {
         let sign = shape.integer.is_signed().then_some(b'-');
-        let (mut text, mut items, mut expected) = (Vec::new(), 0, 0_u64);
+        let end = if shape.cut == Cut::Lines { &b"\r\n"[..] } else { b"," };
+        let (mut text, mut fields, mut expected) = (Vec::new(), Vec::new(), 0_u64);
         while text.len() < COLUMN {
-            if items > 0 {
-                text.push(b',');
+            if !fields.is_empty() {
+                text.extend_from_slice(end);
             }
             let start = text.len();
             let written = push_number(random, &shape.digits, sign, &mut text);
@@ -70,9 +72,21 @@ impl Input {
                 value = 1;
             }
             expected = expected.wrapping_add(value);
-            items += 1;
+            fields.push(start..text.len());
         }
-        Input { texts: Texts::Column(text), items, expected }
+        let items = fields.len();
+        let texts = match shape.cut {
+            Cut::Column | Cut::Lines => Texts::Column(text),
+            Cut::Columns(count) => {
+                let place = |fields: &[Range<usize>]| {
+                    let (start, end) = (fields[0].start, fields[fields.len() - 1].end);
+                    Place { start: start as u32, length: (end - start) as u32 }
+                };
+                let places = fields.chunks(count).map(place).collect();
+                Texts::Slices(text, places)
+            }
+        };
+        Input { texts, items, expected }
     }
 
     /// The numbers of a real list, as slices of a text in which they are separated by commas.
@@ -155,6 +169,7 @@ fn low_bits(integer: Integer, written: &Written) -> u64 {
 mod tests {
     use super::{Input, Texts};
     use crate::real;
+    use crate::tables::{self, Cut, Shape};
     use torkettle_common::random::Random;
 
     #[test]
@@ -172,6 +187,51 @@ mod tests {
                 &text[start..start + length]
             };
             assert!(text.split(|byte| *byte == b',').eq(places.iter().map(slice)));
+        }
+    }
+
+    // The input of the first line of `reads.txt` that is cut so.
+    fn input(cut: Cut) -> Input {
+        let shapes = tables::reads().unwrap();
+        let shape: &Shape = shapes.iter().find(|shape| shape.cut == cut).unwrap();
+        Input::column(shape, false, &mut Random::new(1))
+    }
+
+    // The sum of the numbers of a text, and how many they are.
+    fn sum_and_count<'a>(numbers: impl Iterator<Item = &'a [u8]>) -> (u64, usize) {
+        let number = |text: &[u8]| std::str::from_utf8(text).unwrap().parse::<u64>().unwrap();
+        numbers.map(number).fold((0, 0), |(sum, count), number| (sum + number, count + 1))
+    }
+
+    #[test]
+    fn columns_have_the_sum_of_their_fields() {
+        for (cut, end) in [(Cut::Column, ","), (Cut::Lines, "\r\n")] {
+            let Input { texts: Texts::Column(text), items, expected } = input(cut) else {
+                panic!("it has another form");
+            };
+            let fields = std::str::from_utf8(&text).unwrap().split(end).map(str::as_bytes);
+            assert_eq!(sum_and_count(fields), (expected, items));
+        }
+    }
+
+    #[test]
+    fn short_columns_have_so_many_fields() {
+        for count in [1, 4, 10, 30] {
+            let input = input(Cut::Columns(count));
+            let Texts::Slices(text, places) = &input.texts else {
+                panic!("it has another form");
+            };
+            let column = |place: &super::Place| {
+                let (start, length) = (place.start as usize, place.length as usize);
+                text[start..start + length].split(|byte| *byte == b',')
+            };
+            assert_eq!(
+                sum_and_count(places.iter().flat_map(column)),
+                (input.expected, input.items)
+            );
+            let (last, others) = places.split_last().unwrap();
+            assert!(others.iter().all(|place| column(place).count() == count));
+            assert!(column(last).count() <= count);
         }
     }
 

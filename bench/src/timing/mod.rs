@@ -11,7 +11,7 @@ pub use ratios::{Comparison, Ratios};
 use crate::builds::Build;
 use crate::formats::Format;
 use crate::real::{self, RealList};
-use crate::tables::{InputList, Shape};
+use crate::tables::{Cut, InputList, Shape};
 use std::time::Instant;
 use torkettle_common::Form;
 use torkettle_common::object::Call;
@@ -55,7 +55,7 @@ pub struct Times {
     pub name: String,
     /// The number of digits, if all numbers have the same.
     pub width: Option<usize>,
-    /// The groups of lines to which a real list belongs.
+    /// The groups of lines to which it belongs in a table with the ratio of each line.
     pub groups: Vec<&'static str>,
     // For each pass and side, the best round at each placement.
     passes: Vec<Vec<Vec<f64>>>,
@@ -105,21 +105,24 @@ impl Task {
     pub fn list(list: &InputList, random: &mut Random) -> Task {
         let exports = Form::BOTH.map(|form| (form, list.call.export(form))).to_vec();
         let input = Input::list(list, ROWS, random);
-        Task::new(list.to_string(), list.digits.width(), exports, input)
+        let times = Times::new(list.to_string(), list.digits.width(), Vec::new());
+        Task::new(times, exports, input)
     }
 
-    /// What is done with a column. One field in ten is no number if `has_errors`.
+    /// What is done with a column, or with many of them. One field in ten is no number if `has_errors`.
     pub fn column(shape: &Shape, has_errors: bool, random: &mut Random) -> Task {
-        let exports = vec![(Form::Words, Shape::export(shape.integer))];
+        let exports = vec![(Form::Words, shape.export())];
         let input = Input::column(shape, has_errors, random);
-        Task::new(shape.to_string(), shape.digits.width(), exports, input)
+        let times = Times::new(shape.to_string(), shape.digits.width(), shape.groups());
+        Task::new(times, exports, input)
     }
 
     /// What is done with texts of a format.
     pub fn format(format: Format, random: &mut Random) -> Task {
         let exports = vec![(Form::Words, format.export())];
         let input = Input::format(format, ROWS, random);
-        Task::new(format!("{:10}", format.name()), None, exports, input)
+        let times = Times::new(format!("{:10}", format.name()), None, Vec::new());
+        Task::new(times, exports, input)
     }
 
     /// What is done with the slices of a real list.
@@ -130,17 +133,16 @@ impl Task {
 
     /// What is done with a real list as a column.
     pub fn real_column(list: &RealList, random: &mut Random) -> Task {
-        let exports = vec![(Form::Words, Shape::export(list.integer))];
+        let exports = vec![(Form::Words, Cut::Column.export(list.integer))];
         Task::real(list, exports, Input::real_column(list, random))
     }
 
     fn real(list: &RealList, exports: Vec<(Form, String)>, input: Input) -> Task {
         let times = Times::new(list.to_string(), None, list.groups());
-        Task { times, exports, input, rounds: REAL_ROUNDS, sides: Vec::new() }
+        Task { rounds: REAL_ROUNDS, ..Task::new(times, exports, input) }
     }
 
-    fn new(name: String, width: Option<usize>, exports: Vec<(Form, String)>, input: Input) -> Task {
-        let times = Times::new(name, width, Vec::new());
+    fn new(times: Times, exports: Vec<(Form, String)>, input: Input) -> Task {
         Task { times, exports, input, rounds: ROUNDS, sides: Vec::new() }
     }
 
