@@ -1,6 +1,6 @@
 // Exports that call a `from_chars` with each row of an input list, or with each field of a column, exports that parse
-// each slice of a text, and exports that add up a column by a range. All is inlined into an export, since only exports
-// are placed at chosen addresses.
+// each slice of a text, and exports that add up a column by a range. Columns are also lines, or many short ones. All is
+// inlined into an export, since only exports are placed at chosen addresses.
 #include <charconv>
 #include <cstddef>
 #include <cstdint>
@@ -86,7 +86,14 @@ template <typename By, typename T> INLINED uint64_t slices(const uint8_t *text, 
     return sum;
 }
 
-template <typename By, typename T> INLINED uint64_t column(const uint8_t *text, size_t size) {
+// Returns where the next field begins, or `nullptr` if none ends at `stop`.
+template <bool ARE_LINES> INLINED const char *after(const char *stop, const char *end) {
+    if (!ARE_LINES) return *stop == ',' ? stop + 1 : nullptr;
+    if (*stop == '\r' && stop + 1 != end) ++stop;
+    return *stop == '\n' ? stop + 1 : nullptr;
+}
+
+template <typename By, typename T, bool ARE_LINES> INLINED uint64_t column(const uint8_t *text, size_t size) {
     const char *start = reinterpret_cast<const char *>(text), *end = start + size;
     uint64_t sum = 0;
     for (;;) {
@@ -95,16 +102,26 @@ template <typename By, typename T> INLINED uint64_t column(const uint8_t *text, 
         if (error != std::errc()) return ERROR;
         sum += low_bits(value);
         if (stop == end) return sum;
-        if (*stop != ',') return ERROR;
-        start = stop + 1;
+        start = after<ARE_LINES>(stop, end);
+        if (start == nullptr) return ERROR;
     }
 }
 
-template <typename T> INLINED uint64_t fields(const uint8_t *text, size_t size) {
+template <typename T, bool ARE_LINES> INLINED uint64_t fields(const uint8_t *text, size_t size) {
+    const std::string_view view(reinterpret_cast<const char *>(text), size);
     uint64_t sum = 0;
-    for (const auto &item : torkettle::fields<T>({reinterpret_cast<const char *>(text), size}, ',')) {
+    for (const auto &item : ARE_LINES ? torkettle::lines<T>(view) : torkettle::fields<T>(view, ',')) {
         if (!item.value) return ERROR;
         sum += low_bits(*item.value);
     }
+    return sum;
+}
+
+// Here the text is first the bytes of `Slices`, whose places are those of columns.
+template <uint64_t (*SUM)(const uint8_t *, size_t)> INLINED uint64_t columns(const uint8_t *text, size_t) {
+    const Slices *slices = reinterpret_cast<const Slices *>(text);
+    uint64_t sum = 0;
+    for (const Place *place = slices->places, *last = place + slices->count; place != last; ++place)
+        sum += SUM(reinterpret_cast<const uint8_t *>(slices->text + place->start), place->length);
     return sum;
 }

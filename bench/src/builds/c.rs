@@ -20,6 +20,28 @@ const STANDARD: &str = "std_";
 const NEXT: &str = "next_";
 const CHARS: &str = "chars_";
 const RANGE: &str = "range_";
+const READ_64: &str = "read_64_";
+const READ_1024: &str = "read_1024_";
+
+// How our functions are called in a table, and what the names of the exports begin with that call them so.
+type Ways = &'static [(&'static str, &'static str)];
+
+const SLICES: Ways = &[("torkettle::parse", OURS)];
+const TEXTS: Ways = &[
+    ("torkettle::from_chars", CHARS),
+    ("the column in C, by _read", OURS),
+    ("the column in C, by _next", NEXT),
+    ("the range torkettle::fields", RANGE),
+];
+// The last is also compared with the others.
+const READS: Ways = &[
+    ("_read into 64", READ_64),
+    ("_read into 128", OURS),
+    ("_read into 1024", READ_1024),
+    ("the range torkettle::fields", RANGE),
+];
+
+const CUTS: [Cut; 3] = [Cut::Column, Cut::Lines, Cut::Columns(1)];
 
 /// What is called from C and C++.
 pub struct OfC {
@@ -29,6 +51,8 @@ pub struct OfC {
     pub slices: Compared,
     /// What reads a text of real numbers: four ways of ours, and then what they are compared with.
     pub texts: Compared,
+    /// What reads many numbers a call: four ways of ours, and then what they are compared with.
+    pub reads: Compared,
 }
 
 /// The C library and what it is compared with.
@@ -50,21 +74,18 @@ pub fn builds(cache: &Cache, package: &Package) -> Result<OfC, String> {
     let build =
         |name: &str, prefix| Build { name: name.to_string(), prefix, files: placed.clone() };
     let standard = build(&format!("std::from_chars, g++ {}", compilers[0]), STANDARD);
-    let next = build("the column in C, by _next", NEXT);
-    let slices = vec![build("torkettle::parse", OURS), standard.clone()];
-    let texts = vec![
-        build("torkettle::from_chars", CHARS),
-        build("the column in C, by _read", OURS),
-        next.clone(),
-        build("the range torkettle::fields", RANGE),
-        standard.clone(),
-    ];
+    // Each way of ours is compared with `std::from_chars`.
+    let compared = |ways: Ways| {
+        let ours = ways.iter().map(|(way, prefix)| build(way, prefix));
+        let pairs = (0..ways.len()).map(|way| (way, ways.len())).collect();
+        Compared { builds: ours.chain([standard.clone()]).collect(), pairs }
+    };
     let ours = build("torkettle::from_chars, and the column in C, by _read", OURS);
-    Ok(OfC {
-        builds: vec![ours, standard, next],
-        slices: Compared { builds: slices, pairs: vec![(0, 1)] },
-        texts: Compared { builds: texts, pairs: vec![(0, 4), (1, 4), (2, 4), (3, 4)] },
-    })
+    let builds = vec![ours, standard.clone(), build("the column in C, by _next", NEXT)];
+    let mut reads = compared(READS);
+    let range = READS.len() - 1;
+    reads.pairs.extend((0..range).map(|read| (range, read)));
+    Ok(OfC { builds, slices: compared(SLICES), texts: compared(TEXTS), reads })
 }
 
 fn version(compiler: &str) -> Result<String, String> {
@@ -124,11 +145,21 @@ impl Sources {
         for integer in types {
             let (name, c_type) = (Cut::Column.export(*integer), c_type(*integer));
             c += &format!("COLUMN({}, {c_type})\n", integer.name());
-            cpp += &format!("EXPORT({STANDARD}{name}, column<Standard, {c_type}>)\n");
-            cpp += &format!("EXPORT({CHARS}{name}, column<Ours, {c_type}>)\n");
-            cpp += &format!("EXPORT({RANGE}{name}, fields<{c_type}>)\n");
-            let prefixes = [OURS, STANDARD, NEXT, CHARS, RANGE];
-            names.extend(prefixes.map(|prefix| format!("{prefix}{name}")));
+            cpp += &format!("EXPORT({CHARS}{name}, column<Ours, {c_type}, false>)\n");
+            names.extend([NEXT, CHARS].map(|prefix| format!("{prefix}{name}")));
+            for cut in CUTS {
+                let (name, are_lines) = (cut.export(*integer), cut == Cut::Lines);
+                let standard = format!("column<Standard, {c_type}, {are_lines}>");
+                for (prefix, sum) in
+                    [(STANDARD, standard), (RANGE, format!("fields<{c_type}, {are_lines}>"))]
+                {
+                    let of_columns = matches!(cut, Cut::Columns(_));
+                    let sum = if of_columns { format!("columns<{sum}>") } else { sum };
+                    cpp += &format!("EXPORT({prefix}{name}, {sum})\n");
+                }
+                let prefixes = [OURS, READ_64, READ_1024, STANDARD, RANGE];
+                names.extend(prefixes.map(|prefix| format!("{prefix}{name}")));
+            }
         }
         Sources { cpp, c, names }
     }

@@ -1,6 +1,6 @@
 //! Times the calls from C and C++.
 
-use super::{columns, lists, real_columns, slices};
+use super::{MANY, columns, lists, reads, real_columns, slices};
 use crate::arguments::{Arguments, Work};
 use crate::builds::{self, Compared};
 use crate::report::Table;
@@ -24,14 +24,15 @@ pub fn run(arguments: &Arguments, cache: &Cache) -> Result<usize, String> {
     let time = |tasks: Vec<Task>, unit: &str| {
         Ok::<usize, String>(Table::new(&built.builds, tasks, unit, arguments.passes)?.print())
     };
-    let time_real = |compared: &Compared, tasks: Vec<Task>, unit: &str| {
+    let time_texts = |compared: &Compared, tasks: Vec<Task>, unit: &str| {
         let table = Table::new(&compared.builds, tasks, unit, arguments.passes)?;
         Ok::<usize, String>(table.print_lists(&compared.pairs, arguments.is_markdown))
     };
     let unit = "number of a real list in one text, from C and C++";
     let random = &mut Random::new(arguments.seed);
-    Ok(time_real(&built.slices, slices(arguments)?, "slice of a real list, from C++")?
-        + time_real(&built.texts, real_columns(arguments)?, unit)?
+    Ok(time_texts(&built.slices, slices(arguments)?, "slice of a real list, from C++")?
+        + time_texts(&built.texts, real_columns(arguments)?, unit)?
+        + time_texts(&built.reads, reads(arguments)?, &format!("{MANY}, from C and C++"))?
         + time(lists(arguments, tables::c_lists()?, random), "call, from C++")?
         + time(columns(arguments, false, random)?, "field, from C and C++")?)
 }
