@@ -64,7 +64,8 @@ cargo run --release -- [ARGUMENT..]
   --inlined-only      only time the Cargo package and other libraries, inlined in Rust
   --c-only            only time the C library and std::from_chars, called from C and C++
   --count             only count instructions, of the package and of other libraries, --against or --words
-  --against COMMIT    only time the package and that of a commit, inlined in Rust
+  --against COMMIT    only time the package and that of a commit, inlined in Rust, or with --c-only the C library
+                      and that of a commit
   --words             only time the package and the same with the engine Words, inlined in Rust
   --lanes             time lanes of the package too
   --only TEXT         time only what has TEXT in its line, as 'parse u64 -- 16' or 'column u64'. The line of a real
@@ -94,8 +95,8 @@ impl Arguments {
         let work = match (&parts.collect::<Vec<_>>()[..], &against) {
             ([], None) => Work::Everything,
             ([], Some(_)) => Work::Inlined,
-            ([(name, Work::C)], Some(_)) => {
-                return Err(format!("{name} excludes --against and --words"));
+            ([(name, Work::C)], Some(Against::Words)) => {
+                return Err(format!("{name} excludes --words"));
             }
             ([(_, work)], _) => *work,
             ([(one, _), (other, _), ..], _) => return Err(format!("{one} excludes {other}")),
@@ -152,15 +153,11 @@ mod tests {
         assert_eq!(task("--against HEAD"), Ok(Work::Inlined));
         assert_eq!(task("--inlined-only --against HEAD"), Ok(Work::Inlined));
         assert_eq!(task("--count --against HEAD"), Ok(Work::Count));
+        assert_eq!(task("--c-only --against HEAD"), Ok(Work::C));
         assert_eq!(task("--words"), Ok(Work::Inlined));
         assert_eq!(task("--count --words"), Ok(Work::Count));
-        let refused = [
-            "--c-only --against HEAD",
-            "--c-only --words",
-            "--words --against HEAD",
-            "--c-only --count",
-            "--passes 2",
-        ];
+        let refused =
+            ["--c-only --words", "--words --against HEAD", "--c-only --count", "--passes 2"];
         for words in refused {
             assert!(read(words).is_err());
         }

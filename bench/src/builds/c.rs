@@ -1,8 +1,9 @@
 //! The C library and `std::from_chars`, called from one C++ program, and its columns from C, read by
-//! calls of `_read` and by calls of `_next`. The same program reads slices and texts of real numbers.
+//! calls of `_read` and by calls of `_next`. The same program reads slices and texts of real numbers. The library
+//! may be compared with that of another package in place of `std::from_chars`.
 
 use super::place::{ASSEMBLED_WITHIN_32_BYTES, WITHIN_32_BYTES, placed};
-use super::{Build, Compared};
+use super::{Build, Compared, Other};
 use crate::real;
 use crate::tables::{self, Cut, TimedCall};
 use std::path::{Path, PathBuf};
@@ -56,32 +57,51 @@ pub struct OfC {
 }
 
 /// The C library and what it is compared with.
-pub fn builds(cache: &Cache, package: &Package) -> Result<OfC, String> {
+pub fn builds(cache: &Cache, package: &Package, other: Option<&Other>) -> Result<OfC, String> {
     let compilers = [version("g++")?, version("cc")?];
     let sources = Sources::new(&tables::c_calls()?, &real::types()?, &tables::all_column_types()?);
-    let folder = cache.repository().join("c");
-    let stamp = package.stamp().with_folder(&folder)?.with(&sources.cpp).with(&sources.c);
-    let stamp = compilers.iter().fold(stamp, |stamp: Stamp, version| stamp.with(version));
-    let placed = placed(cache, &format!("c-{stamp}"), &sources.names, |room| {
-        let include = format!("-I{}", folder.join("include").display());
-        let (loops, columns) = (room.join("loops.o"), room.join("columns.o"));
-        let cpp = ["-std=gnu++17", ASSEMBLED_WITHIN_32_BYTES, &include];
-        compile("g++", &cpp, &room.join("loops.cc"), &sources.cpp, &loops)?;
-        let c = ["-std=c99", ASSEMBLED_WITHIN_32_BYTES, &include];
-        compile("cc", &c, &room.join("columns.c"), &sources.c, &columns)?;
-        Ok(vec![loops, columns, library(cache, &folder)?])
-    })?;
-    let build =
-        |name: &str, prefix| Build { name: name.to_string(), prefix, files: placed.clone() };
-    let standard = build(&format!("std::from_chars, g++ {}", compilers[0]), STANDARD);
-    // Each way of ours is compared with `std::from_chars`.
-    let compared = |ways: Ways| {
-        let ours = ways.iter().map(|(way, prefix)| build(way, prefix));
-        let pairs = (0..ways.len()).map(|way| (way, ways.len())).collect();
-        Compared { builds: ours.chain([standard.clone()]).collect(), pairs }
+    let files = |package: &Package, folder: &Path, target: &str| {
+        let folder = folder.join("c");
+        let stamp = package.stamp().with_folder(&folder)?.with(&sources.cpp).with(&sources.c);
+        let stamp = compilers.iter().fold(stamp, |stamp: Stamp, version| stamp.with(version));
+        placed(cache, &format!("c-{stamp}"), &sources.names, |room| {
+            let include = format!("-I{}", folder.join("include").display());
+            let (loops, columns) = (room.join("loops.o"), room.join("columns.o"));
+            let cpp = ["-std=gnu++17", ASSEMBLED_WITHIN_32_BYTES, &include];
+            compile("g++", &cpp, &room.join("loops.cc"), &sources.cpp, &loops)?;
+            let c = ["-std=c99", ASSEMBLED_WITHIN_32_BYTES, &include];
+            compile("cc", &c, &room.join("columns.c"), &sources.c, &columns)?;
+            Ok(vec![loops, columns, library(&folder, &cache.folder(target))?])
+        })
     };
-    let ours = build("torkettle::from_chars, and the column in C, by _read", OURS);
-    let builds = vec![ours, standard.clone(), build("the column in C, by _next", NEXT)];
+    let build =
+        |name: String, prefix, files: &Vec<PathBuf>| Build { name, prefix, files: files.clone() };
+    let ours = files(package, cache.repository(), "c")?;
+    let theirs = match other {
+        Some(other) => Some((&other.name, files(&other.package, &other.folder, "c-other")?)),
+        None => None,
+    };
+    let standard = build(format!("std::from_chars, g++ {}", compilers[0]), STANDARD, &ours);
+    // Each way of ours is compared with the same way of theirs, or with `std::from_chars`.
+    let compared = |ways: Ways| {
+        let ours = ways.iter().map(|(way, prefix)| build(way.to_string(), prefix, &ours));
+        let theirs: Vec<Build> = match &theirs {
+            Some((name, files)) => {
+                let build = |(way, prefix)| build(format!("{way}, {name}"), prefix, files);
+                ways.iter().copied().map(build).collect()
+            }
+            None => vec![standard.clone()],
+        };
+        let pair = |way: usize| (way, ways.len() + way.min(theirs.len() - 1));
+        let pairs = (0..ways.len()).map(pair).collect();
+        Compared { builds: ours.chain(theirs).collect(), pairs }
+    };
+    let name = "torkettle::from_chars, and the column in C, by _read";
+    let others = match &theirs {
+        Some((name, files)) => vec![build(name.to_string(), OURS, files)],
+        None => vec![standard.clone(), build("the column in C, by _next".into(), NEXT, &ours)],
+    };
+    let builds = [vec![build(name.into(), OURS, &ours)], others].concat();
     let mut reads = compared(READS);
     let range = READS.len() - 1;
     reads.pairs.extend((0..range).map(|read| (range, read)));
@@ -107,11 +127,10 @@ fn compile(
 }
 
 // The static library, as cargo builds it, but without jumps that cross 32 bytes.
-fn library(cache: &Cache, folder: &Path) -> Result<PathBuf, String> {
-    let target = cache.folder("c");
+fn library(folder: &Path, target: &Path) -> Result<PathBuf, String> {
     let mut cargo = Command::new("cargo");
     cargo.args(["build", "--release", "--quiet"]).current_dir(folder);
-    run(cargo.env("CARGO_TARGET_DIR", &target).env("RUSTFLAGS", WITHIN_32_BYTES))?;
+    run(cargo.env("CARGO_TARGET_DIR", target).env("RUSTFLAGS", WITHIN_32_BYTES))?;
     Ok(target.join("release").join("libtorkettle.a"))
 }
 

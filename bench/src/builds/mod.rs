@@ -32,6 +32,8 @@ pub struct Other {
     pub package: Package,
     /// What it is called in tables.
     pub name: String,
+    /// The top of its repository.
+    pub folder: PathBuf,
     /// Whether it has `Fields::read`.
     pub has_read: bool,
 }

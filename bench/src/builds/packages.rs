@@ -33,7 +33,7 @@ pub fn package(cache: &Cache, against: &Against) -> Result<Other, String> {
     }
     edit(&room.join("Cargo.toml"), |manifest| Ok(with_other_version(manifest)))?;
     let has_read = fs::read_to_string(room.join(FIELDS)).is_ok_and(|text| text.contains(READ));
-    Ok(Other { package: Package::of_folder(&room)?, name, has_read })
+    Ok(Other { package: Package::of_folder(&room)?, name, folder: room, has_read })
 }
 
 // Packs the files of a commit, from git.

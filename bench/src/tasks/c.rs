@@ -11,9 +11,12 @@ use torkettle_common::command::print_left_out;
 use torkettle_common::package::Package;
 use torkettle_common::random::Random;
 
-/// Times them, and returns how many answers differed.
+/// Times them, and returns how many answers differed. They are compared with `std::from_chars`, or with the C
+/// library of another package.
 pub fn run(arguments: &Arguments, cache: &Cache) -> Result<usize, String> {
-    let built = match builds::of_c(cache, &Package::of_folder(cache.repository())?) {
+    let ours = Package::of_folder(cache.repository())?;
+    let other = arguments.against.as_ref().map(|against| builds::package(cache, against));
+    let built = match builds::of_c(cache, &ours, other.transpose()?.as_ref()) {
         Ok(built) => built,
         Err(fault) if arguments.work == Work::C => return Err(fault),
         Err(fault) => {
