@@ -20,7 +20,7 @@ use atoi_simd::{AtoiSimdError, Parse, parse, parse_prefix, parse_prefix_pos};
 use std::iter::FusedIterator;
 use std::marker::{Model, PhantomData};
 
-// How many fields are read before a guess, and how many after a wrong one.
+// How many fields are read before a guess, and how many after one that was wrong or not likely.
 const PART: usize = 16;
 
 const LONG_PART: usize = 64;
@@ -235,6 +235,8 @@ impl<'a, T: Parse> Fields<'a, T> {
                 let run = self.read_guessed(values, read, guess);
                 read += run;
                 part = if run < PART { LONG_PART } else { PART };
+            } else {
+                part = LONG_PART;
             }
         }
         read

@@ -127,11 +127,11 @@ pub(crate) fn sign_len<T: Parse>(rest: &[u8]) -> usize
 }
 
 // Whether `most` fields of `used` bytes may have had `width` digits each: their mean length says so. Minus
-// signs would have to be counted.
+// signs would have to be counted. Fields of one digit are read faster without a guess.
 #[inline(always)]
 pub(crate) fn is_likely<T: Parse>(width: usize, most: usize, used: usize) -> bool
     requires { 0 < most }
 {
     let ends = (used / most).saturating_sub(width);
-    T::SIGNED || used % most == 0 && (ends == 1 || ends == 2)
+    width > 1 && (T::SIGNED || used % most == 0 && (ends == 1 || ends == 2))
 }

@@ -18,4 +18,4 @@ loop-read-preserved-else-run-lt-PART g c =
 
 pub loop-read-preserved : goal.loop-read-preserved
 loop-read-preserved g c =
-    (c.read_part-found.ensures.fills c.args.self.now c.args.values.now c.loop-read.invariant.0, c.loop-read.invariant.1)
+    (c.read_part-found.ensures.fills c.args.self.now c.args.values.now c.loop-read.invariant.0, omega arith)
