@@ -1,5 +1,5 @@
 // Torkettle for C++17: `torkettle::from_chars`, with the results of `std::from_chars`, integers of JSON, and ranges
-// over the numbers of a text. Nothing here throws or allocates.
+// over the numbers of a text. Nothing here throws or allocates, unless `std::from_chars` does.
 //
 // Link with the library that torkettle.h describes.
 #ifndef TORKETTLE_HPP
@@ -119,6 +119,22 @@ inline from_chars_result from_chars(const char *first, const char *last, T &valu
         return detail::refused(first, last, T(-1) < T(0));
     value = static_cast<T>(found.value);
     return {first + found.length, std::errc()};
+}
+
+// The same in each base from 2 to 36. For a base other than 10, this calls `std::from_chars`.
+template <class T, std::enable_if_t<detail::is_integer<T>, int> = 0>
+inline auto from_chars(const char *first, const char *last, T &value, int base) noexcept
+    -> decltype(std::from_chars(first, last, value, base))
+{
+    return base == 10 ? torkettle::from_chars(first, last, value) : std::from_chars(first, last, value, base);
+}
+
+// For another type that `std::from_chars` takes, such as `double`, calls it. There may be a `std::chars_format`.
+template <class T, class... Format, std::enable_if_t<!detail::is_integer<T>, int> = 0>
+inline auto from_chars(const char *first, const char *last, T &value, Format... format) noexcept
+    -> decltype(std::from_chars(first, last, value, format...))
+{
+    return std::from_chars(first, last, value, format...);
 }
 
 // Returns the number, if the whole text is one that `from_chars` reads.

@@ -1,5 +1,6 @@
 // Compares torkettle::from_chars, torkettle::parse and torkettle::json_integer with std::from_chars, for each integer
-// type: every text of at most two bytes, and generated texts.
+// type: every text of at most two bytes, and generated texts. Compares other bases and types, which std::from_chars
+// reads.
 //
 //     from_chars [TEXTS]
 #include "texts.hpp"
@@ -48,6 +49,19 @@ bool is_json(std::string_view text)
            found->second.size() == text.size() - length;
 }
 
+// Whether torkettle::from_chars does what std::from_chars does, with a base, a format or nothing more.
+template <class T, class... More>
+bool is_same_call(std::string_view text, More... more)
+{
+    const char *const first = text.data();
+    const char *const last = first + text.size();
+    T ours = 77, theirs = 77;
+    const torkettle::from_chars_result left = torkettle::from_chars(first, last, ours, more...);
+    const std::from_chars_result right = std::from_chars(first, last, theirs, more...);
+    const bool are_same = ours == theirs || (ours != ours && theirs != theirs);
+    return left.ptr == right.ptr && left.ec == right.ec && are_same;
+}
+
 template <class T>
 void compare(std::string_view text, const char *type)
 {
@@ -58,11 +72,13 @@ void compare(std::string_view text, const char *type)
     const std::from_chars_result right = std::from_chars(first, last, theirs);
     const std::optional<T> whole = torkettle::parse<T>(text);
     const bool is_whole = right.ec == std::errc() && right.ptr == last;
+    const int base = static_cast<int>(2 + calls / 16 % 35);
     calls++;
     accepted += right.ec == std::errc();
     out_of_range += right.ec == std::errc::result_out_of_range;
     if (left.ptr != right.ptr || left.ec != right.ec || ours != theirs || whole.has_value() != is_whole ||
-        (is_whole && *whole != theirs) || !is_json<T>(text)) {
+        (is_whole && *whole != theirs) || !is_json<T>(text) || !is_same_call<T>(text, 10) ||
+        !is_same_call<T>(text, base)) {
         if (differences++ < 10)
             std::fprintf(stderr, "%s differs for \"%.*s\"\n", type, static_cast<int>(text.size()), first);
     }
@@ -102,19 +118,101 @@ void compare_short_texts()
     }
 }
 
-// Where std::from_chars takes no such type, a call of torkettle::from_chars is an error too.
-template <class T, class = void>
+// Letters are digits of larger bases.
+void compare_bases()
+{
+    for (const char *const text :
+         {"", "-", "0", "-0", "7f,", "-7G", "ZZ", "zz ", "0x10", "101012", "+11", "ffffffffffffffffff"}) {
+        for (int base = 2; base <= 36; base++) {
+            const bool are_same = is_same_call<int>(text, base) && is_same_call<unsigned char>(text, base) &&
+                                  is_same_call<long long>(text, base) && is_same_call<unsigned long>(text, base);
+            calls++;
+            if (!are_same && differences++ < 10)
+                std::fprintf(stderr, "base %d differs for \"%s\"\n", base, text);
+        }
+    }
+}
+
+// Whether a call of each from_chars compiles, with a base, a format or nothing more.
+template <class, class T, class... More>
 struct is_taken : std::false_type {
 };
 
-template <class T>
-struct is_taken<T, std::void_t<decltype(torkettle::from_chars(nullptr, nullptr, std::declval<T &>()))>>
+template <class T, class... More>
+struct is_taken<
+    std::void_t<decltype(torkettle::from_chars(nullptr, nullptr, std::declval<T &>(), std::declval<More>()...))>, T,
+    More...> : std::true_type {
+};
+
+template <class, class T, class... More>
+struct is_taken_by_std : std::false_type {
+};
+
+template <class T, class... More>
+struct is_taken_by_std<
+    std::void_t<decltype(std::from_chars(nullptr, nullptr, std::declval<T &>(), std::declval<More>()...))>, T, More...>
     : std::true_type {
 };
 
-static_assert(is_taken<char>() && is_taken<signed char>() && is_taken<std::size_t>() && is_taken<std::ptrdiff_t>());
-static_assert(!is_taken<bool>() && !is_taken<const int>() && !is_taken<double>() && !is_taken<char *>());
-static_assert(!is_taken<wchar_t>() && !is_taken<char16_t>() && !is_taken<char32_t>());
+template <class T, class... More>
+constexpr bool takes_what_std_takes = is_taken<void, T, More...>() == is_taken_by_std<void, T, More...>();
+
+template <class... Types>
+constexpr bool takes_types_of_std = ((takes_what_std_takes<Types> && takes_what_std_takes<Types, int> &&
+                                      takes_what_std_takes<Types, std::chars_format> &&
+                                      takes_what_std_takes<Types, int, int>)&&...);
+
+enum class Number : int {};
+
+static_assert(is_taken<void, char>() && is_taken<void, std::size_t, int>() && is_taken<void, std::ptrdiff_t>());
+static_assert(!is_taken<void, bool>() && !is_taken<void, wchar_t, int>() && !is_taken<void, char *>());
+static_assert(takes_types_of_std<char, signed char, unsigned char, short, unsigned short, int, unsigned, long,
+                                 unsigned long, long long, unsigned long long, const int>);
+static_assert(takes_types_of_std<bool, wchar_t, char16_t, char32_t, Number, char *, float, double, long double>);
+#ifdef __cpp_char8_t
+static_assert(takes_types_of_std<char8_t>);
+#endif
+
+// A function of std::from_chars has a base, which its callers may leave out, but not those of a pointer to it.
+template <class T>
+using function = std::from_chars_result (*)(const char *, const char *, T &, int);
+
+void compare_functions()
+{
+    const function<int> of_int = torkettle::from_chars;
+    const function<unsigned long long> of_long = &torkettle::from_chars;
+    int value = 0;
+    unsigned long long long_value = 0;
+    const char text[] = "12";
+    calls++;
+    if (of_int(text, text + 2, value, 10).ptr != text + 2 || value != 12 ||
+        of_long(text, text + 2, long_value, 8).ptr != text + 2 || long_value != 10) {
+        differences++;
+        std::fprintf(stderr, "a pointer to a function differs\n");
+    }
+}
+
+// Floating point, where the library has it.
+template <class T>
+bool is_same_floating(std::string_view text)
+{
+    if constexpr (is_taken_by_std<void, T>())
+        return is_same_call<T>(text) && is_same_call<T>(text, std::chars_format::fixed) &&
+               is_same_call<T>(text, std::chars_format::hex) && is_same_call<T>(text, std::chars_format::scientific);
+    else
+        return true;
+}
+
+void compare_floating()
+{
+    for (const char *const text :
+         {"", "-", "1.5", "-1.5e3x", "1e", "0x1p4", "1.8p-1", "inf", "nan", "1e99999", ".5", "5."}) {
+        calls++;
+        if (!(is_same_floating<float>(text) && is_same_floating<double>(text) && is_same_floating<long double>(text)) &&
+            differences++ < 10)
+            std::fprintf(stderr, "floating point differs for \"%s\"\n", text);
+    }
+}
 
 } // namespace
 
@@ -123,6 +221,9 @@ int main(int count, char **arguments)
     const unsigned long texts = count > 1 ? std::strtoul(arguments[1], nullptr, 10) : 20000000;
     Random random;
     compare_short_texts();
+    compare_bases();
+    compare_floating();
+    compare_functions();
     // Few of these are numbers. The other texts are counted.
     calls = accepted = out_of_range = 0;
     std::string text;
