@@ -89,8 +89,17 @@ int main()
         failed += status >= 400;
         bytes = bytes > UINT64_MAX - size ? UINT64_MAX : bytes + size;
     }
+    // A line for which memory is short ends the loop, too.
+    if (std::cin.bad() || std::ferror(stdin)) {
+        std::fputs("cannot read the input\n", stderr);
+        return 1;
+    }
     std::printf("requests %10llu\n", static_cast<unsigned long long>(requests));
     std::printf("failed   %10llu\n", static_cast<unsigned long long>(failed));
     std::printf("bytes    %10llu\n", static_cast<unsigned long long>(bytes));
     std::printf("skipped  %10llu\n", static_cast<unsigned long long>(skipped));
+    if (std::ferror(stdout) || std::fflush(stdout) != 0) {
+        std::fputs("cannot write the output\n", stderr);
+        return 1;
+    }
 }

@@ -132,5 +132,9 @@ int main(void)
         printf("sum out of range\n");
     else
         printf("sum %lld\n", (long long)total.sum);
-    return fflush(stdout) != 0;
+    if (ferror(stdout) || fflush(stdout) != 0) {
+        fprintf(stderr, "cannot write the output\n");
+        return 1;
+    }
+    return 0;
 }
