@@ -75,6 +75,13 @@ typedef enum torkettle_status {
     TORKETTLE_INVALID = 4
 } torkettle_status;
 
+/* With -fshort-enums, a status would be one byte, and the library writes an unsigned. */
+#ifdef __cplusplus
+static_assert(sizeof(torkettle_status) == sizeof(unsigned), "torkettle.h does not work with -fshort-enums");
+#else
+typedef char torkettle_h_does_not_work_with_fshort_enums[sizeof(torkettle_status) == sizeof(unsigned) ? 1 : -1];
+#endif
+
 /* An error. Fields that its status does not use are 0. */
 typedef struct torkettle_error {
     torkettle_status status;

@@ -12,6 +12,7 @@
 #include <cstring>
 #include <iterator>
 #include <optional>
+#include <string>
 #include <string_view>
 #include <system_error>
 #include <type_traits>
@@ -75,10 +76,10 @@ constexpr bool is_other = !(std::is_same_v<T, Others> || ...);
 
 // The integer types of `std::from_chars`. In strict C++, `std::is_integral` leaves out 128 bits.
 template <class T>
-constexpr bool is_integer = (std::is_integral_v<T> && is_other<T, bool, wchar_t, char16_t, char32_t> &&
-                             !std::is_const_v<T>
+constexpr bool is_integer = (std::is_integral_v<T> &&
+                             is_other<std::remove_cv_t<T>, bool, wchar_t, char16_t, char32_t> && !std::is_const_v<T>
 #ifdef __cpp_char8_t
-                             && is_other<T, char8_t>
+                             && is_other<std::remove_cv_t<T>, char8_t>
 #endif
                              )
 #ifdef __SIZEOF_INT128__
@@ -190,6 +191,9 @@ namespace detail {
     return place;
 }
 
+template <class Allocator>
+using string = std::basic_string<char, std::char_traits<char>, Allocator>;
+
 // The items of a text, read once: a loop goes on where the last one ended. If `ends`, the first error is the last item.
 //
 // After some items, iterators take numbers from a block of them, which is read at once. A copy has no block.
@@ -260,6 +264,10 @@ public:
     range(std::string_view text, char separator) noexcept : range(text, separator, 0)
     {
     }
+
+    // A string that nothing else keeps is freed before the range is read.
+    template <class Allocator>
+    range(const string<Allocator> &&text, char separator) = delete;
 
     range(const range &other) noexcept : state(other.unread())
     {
@@ -487,6 +495,8 @@ inline fields<T> lines(std::string_view text) noexcept
 {
     return fields<T>::of_lines(text);
 }
+template <class T, class Allocator>
+fields<T> lines(const detail::string<Allocator> &&text) = delete;
 
 } // namespace torkettle
 

@@ -11,9 +11,11 @@
 #include <cstdio>
 #include <cstdlib>
 #include <limits>
+#include <memory>
 #include <string>
 #include <string_view>
 #include <type_traits>
+#include <utility>
 #include <vector>
 #if __cplusplus >= 202002L
 #include <ranges>
@@ -551,7 +553,7 @@ template <class T>
 void add_equal_fields(Random &random, Shape shape, bool spoils, std::string &text)
 {
     const unsigned digits = 1 + random.below(22), most = most_digits<T>();
-    const bool is_signed = T(-1) < T(0), has_one_width = digits > 1 && random.below(2) == 0;
+    const bool is_signed = T(-1)<T(0), has_one_width = digits> 1 && random.below(2) == 0;
     for (unsigned left = random.below(700); left > 0; left--) {
         const std::size_t start = text.size();
         const bool has_minus = is_signed && random.below(2) == 0;
@@ -560,7 +562,8 @@ void add_equal_fields(Random &random, Shape shape, bool spoils, std::string &tex
         for (unsigned place = digits - (has_minus && has_one_width); place > 0; place--)
             text += static_cast<char>('0' + (place > most ? 0 : random.below(10)));
         if (spoils && random.below(100) == 0)
-            text[start + random.below(static_cast<unsigned>(text.size() - start))] = static_cast<char>(random.below(256));
+            text[start + random.below(static_cast<unsigned>(text.size() - start))] =
+                static_cast<char>(random.below(256));
         if (spoils && shape.is_lines && random.below(100) == 0)
             text += '\r';
         text += shape.separator;
@@ -639,13 +642,53 @@ void test_other_types()
     check(torkettle::column<char>("5,6", ',').read(chars, 2) == 2 && chars[0] == 5 && chars[1] == 6, "char", 3, 0);
 }
 
+struct OtherAllocator : std::allocator<char> {
+    template <class>
+    struct rebind {
+        using other = OtherAllocator;
+    };
+};
+
 using Iterator = torkettle::fields<int>::iterator;
 static_assert(std::is_same_v<std::iterator_traits<Iterator>::iterator_category, std::input_iterator_tag>);
 static_assert(std::is_same_v<std::iterator_traits<Iterator>::value_type, torkettle::item<int>>);
 static_assert(std::is_nothrow_copy_constructible_v<Iterator> && std::is_nothrow_copy_assignable_v<Iterator>);
 #if __cplusplus >= 202002L
 static_assert(std::ranges::input_range<torkettle::fields<int>> && std::ranges::input_range<torkettle::column<char>>);
+
+// An iterator reads one item more than a view of the first ones has.
+void test_take()
+{
+    torkettle::fields<int> fields("0,1,2,3,4", ',');
+    int sum = 0;
+    for (const auto &item : fields | std::views::take(2))
+        sum += *item.value;
+    check(sum == 1 && fields.next_index() == 3 && *fields.begin()->value == 3, "a view of two items", 9, 0);
+}
+#else
+void test_take()
+{
+}
 #endif
+
+// A string that ends before the range is refused, and one that stays is not.
+template <class String, class = void>
+struct has_lines : std::false_type {
+};
+
+template <class String>
+struct has_lines<String, std::void_t<decltype(torkettle::lines<int>(std::declval<String>()))>> : std::true_type {
+};
+
+using OtherString = std::basic_string<char, std::char_traits<char>, OtherAllocator>;
+template <class String>
+constexpr bool is_taken = std::is_constructible_v<torkettle::fields<int>, String, char> &&has_lines<String>::value;
+template <class String>
+constexpr bool is_refused = !std::is_constructible_v<torkettle::column<int>, String, char> && !has_lines<String>::value;
+
+static_assert(is_taken<std::string &> && is_taken<const std::string &> && is_taken<OtherString &>);
+static_assert(is_taken<std::string_view> && is_taken<const char *> && is_taken<const char (&)[3]>);
+static_assert(is_refused<std::string> && is_refused<const std::string> && is_refused<OtherString>);
 
 } // namespace
 
@@ -656,6 +699,7 @@ int main(int count, char **arguments)
     std::string text;
     test_separators();
     test_other_types();
+    test_take();
     while (compared < fields) {
         test_text<std::int8_t>(random, text);
         test_text<std::uint8_t>(random, text);

@@ -169,8 +169,9 @@ static_assert(!is_taken<void, bool>() && !is_taken<void, wchar_t, int>() && !is_
 static_assert(takes_types_of_std<char, signed char, unsigned char, short, unsigned short, int, unsigned, long,
                                  unsigned long, long long, unsigned long long, const int>);
 static_assert(takes_types_of_std<bool, wchar_t, char16_t, char32_t, Number, char *, float, double, long double>);
+static_assert(takes_types_of_std<volatile bool, volatile wchar_t, volatile char16_t, volatile char, volatile int>);
 #ifdef __cpp_char8_t
-static_assert(takes_types_of_std<char8_t>);
+static_assert(takes_types_of_std<char8_t, volatile char8_t>);
 #endif
 
 // A function of std::from_chars has a base, which its callers may leave out, but not those of a pointer to it.
