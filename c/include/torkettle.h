@@ -12,14 +12,20 @@
  * No function allocates memory or keeps state. You may call each of them from any thread and from a signal handler.
  * The time that a call takes is at most proportional to `length`.
  *
- * A name with `i64` exists for each of these types. For another type, such as `size_t` or `unsigned long long`, parse
- * into a `uint64_t` and assign it.
+ * A name with `i64` exists for each of these types. For another type, such as `size_t`, parse into a `uint64_t` and
+ * assign it.
  *
  *     i8   int8_t      u8   uint8_t
  *     i16  int16_t     u16  uint16_t
  *     i32  int32_t     u32  uint32_t
  *     i64  int64_t     u64  uint64_t
  *     i128 __int128    u128 unsigned __int128     if the compiler has them
+ *
+ * The functions torkettle_parse_i64, torkettle_parse_prefix_i64, torkettle_canonical_i64 and torkettle_json_integer_i64
+ * also exist for these types. To get an error of theirs, call torkettle_parse_error_i64 for the type of the same size.
+ *
+ *     l    long        ul   unsigned long
+ *     ll   long long   ull  unsigned long long
  */
 #ifndef TORKETTLE_H
 #define TORKETTLE_H
@@ -35,6 +41,8 @@
 #elif SIZE_MAX < UINT64_MAX
 #error "torkettle.h needs a 64-bit target"
 #else
+
+#include <limits.h>
 
 #ifdef __cplusplus
 #define TORKETTLE_NOEXCEPT noexcept
@@ -123,6 +131,12 @@ typedef struct torkettle_error {
  *
  * Parse a text again and return the error of torkettle_parse_i64 or torkettle_parse_prefix_i64. If there is none, its
  * status is TORKETTLE_OK.
+ *
+ *
+ * bool torkettle_canonical_i64(const char *text, size_t length, int64_t *value);
+ *
+ * Parses a whole text that is a number as printf prints it: without leading zeros, `+` and `-0`. Writes the number to
+ * `*value` and returns true, or writes nothing and returns false.
  *
  *
  * bool torkettle_json_integer_i64(const char *text, size_t length, int64_t *value, size_t *count);
@@ -230,9 +244,9 @@ typedef struct torkettle_error {
  *
  *
  * Everything below is internal and may change: the functions whose names begin with torkettle_whole_, torkettle_prefix_
- * and torkettle_next_, one for each choice of flags, and one for JSON. They return a number and its length in two
- * registers. The length is 0 if there is no number. The length that torkettle_next_field_ returns is 1 for a number,
- * and 2 for a bad field. If `flags` is a constant, the compiler keeps only one call.
+ * and torkettle_next_, one for each choice of flags, one for canonical numbers, and one for JSON. They return a number
+ * and its length in two registers. The length is 0 if there is no number. The length that torkettle_next_field_ returns
+ * is 1 for a number, and 2 for a bad field. If `flags` is a constant, the compiler keeps only one call.
  *
  * A number of one digit is read here, because a call would take most of its time.
  */
@@ -335,6 +349,7 @@ static inline size_t torkettle_rest_length(size_t length, char separator) TORKET
     torkettle_found_##name torkettle_prefix_zeroes_##name(const char *text, size_t length) TORKETTLE_NOEXCEPT;         \
     torkettle_found_##name torkettle_prefix_plus_##name(const char *text, size_t length) TORKETTLE_NOEXCEPT;           \
     torkettle_found_##name torkettle_prefix_zeroes_plus_##name(const char *text, size_t length) TORKETTLE_NOEXCEPT;    \
+    torkettle_found_##name torkettle_whole_canonical_##name(const char *text, size_t length) TORKETTLE_NOEXCEPT;       \
     torkettle_found_##name torkettle_prefix_json_##name(const char *text, size_t length) TORKETTLE_NOEXCEPT;           \
     torkettle_found_##name torkettle_next_##name(torkettle_column_##name *column) TORKETTLE_NOEXCEPT;                  \
     torkettle_found_##name torkettle_next_field_##name(torkettle_fields_##name *fields) TORKETTLE_NOEXCEPT;            \
@@ -379,6 +394,17 @@ static inline size_t torkettle_rest_length(size_t length, char separator) TORKET
         *value = found.value;                                                                                          \
         *count = found.length;                                                                                         \
         return TORKETTLE_OK;                                                                                           \
+    }                                                                                                                  \
+                                                                                                                       \
+    static inline bool torkettle_canonical_##name(const char *text, size_t length, type *value) TORKETTLE_NOEXCEPT     \
+    {                                                                                                                  \
+        torkettle_found_##name found = torkettle_whole_is_digit(text, length)                                          \
+                                           ? torkettle_digit_##name(text)                                              \
+                                           : torkettle_whole_canonical_##name(text, length);                           \
+        if (found.length == 0)                                                                                         \
+            return false;                                                                                              \
+        *value = found.value;                                                                                          \
+        return true;                                                                                                   \
     }                                                                                                                  \
                                                                                                                        \
     static inline bool torkettle_json_integer_##name(const char *text, size_t length, type *value, size_t *count)      \
@@ -453,6 +479,61 @@ TORKETTLE_FUNCTIONS_(i128, torkettle_i128)
 TORKETTLE_FUNCTIONS_(u128, torkettle_u128)
 #endif
 
+/* The functions for another type of the same size and sign as that of `same`. */
+#define TORKETTLE_ALIASES_(name, type, same)                                                                           \
+    static inline torkettle_status torkettle_parse_##name(const char *text, size_t length, unsigned flags,             \
+                                                          type *value) TORKETTLE_NOEXCEPT                              \
+    {                                                                                                                  \
+        torkettle_found_##same found;                                                                                  \
+        torkettle_status status;                                                                                       \
+        found.value = 0;                                                                                               \
+        status = torkettle_parse_##same(text, length, flags, &found.value);                                            \
+        if (status == TORKETTLE_OK)                                                                                    \
+            *value = found.value;                                                                                      \
+        return status;                                                                                                 \
+    }                                                                                                                  \
+                                                                                                                       \
+    static inline torkettle_status torkettle_parse_prefix_##name(const char *text, size_t length, unsigned flags,      \
+                                                                 type *value, size_t *count) TORKETTLE_NOEXCEPT        \
+    {                                                                                                                  \
+        torkettle_found_##same found;                                                                                  \
+        torkettle_status status;                                                                                       \
+        found.value = 0;                                                                                               \
+        status = torkettle_parse_prefix_##same(text, length, flags, &found.value, count);                              \
+        if (status == TORKETTLE_OK)                                                                                    \
+            *value = found.value;                                                                                      \
+        return status;                                                                                                 \
+    }                                                                                                                  \
+                                                                                                                       \
+    static inline bool torkettle_canonical_##name(const char *text, size_t length, type *value) TORKETTLE_NOEXCEPT     \
+    {                                                                                                                  \
+        torkettle_found_##same found;                                                                                  \
+        bool is_canonical = torkettle_canonical_##same(text, length, &found.value);                                    \
+        if (is_canonical)                                                                                              \
+            *value = found.value;                                                                                      \
+        return is_canonical;                                                                                           \
+    }                                                                                                                  \
+                                                                                                                       \
+    static inline bool torkettle_json_integer_##name(const char *text, size_t length, type *value, size_t *count)      \
+        TORKETTLE_NOEXCEPT                                                                                             \
+    {                                                                                                                  \
+        torkettle_found_##same found;                                                                                  \
+        bool is_integer = torkettle_json_integer_##same(text, length, &found.value, count);                            \
+        if (is_integer)                                                                                                \
+            *value = found.value;                                                                                      \
+        return is_integer;                                                                                             \
+    }
+
+#if ULONG_MAX == UINT64_MAX
+TORKETTLE_ALIASES_(l, long, i64)
+TORKETTLE_ALIASES_(ul, unsigned long, u64)
+#else
+TORKETTLE_ALIASES_(l, long, i32)
+TORKETTLE_ALIASES_(ul, unsigned long, u32)
+#endif
+TORKETTLE_ALIASES_(ll, long long, i64)
+TORKETTLE_ALIASES_(ull, unsigned long long, u64)
+
 /* The size of a buffer into which every message of torkettle_error_text fits. */
 #define TORKETTLE_ERROR_TEXT_SIZE 333
 
@@ -470,6 +551,7 @@ size_t torkettle_error_text(char *buffer, size_t size, const torkettle_error *er
 /* Returns the version of the library, as TORKETTLE_VERSION has it. */
 const char *torkettle_version(void) TORKETTLE_NOEXCEPT;
 
+#undef TORKETTLE_ALIASES_
 #undef TORKETTLE_FUNCTIONS_
 #undef TORKETTLE_NEXT_
 #undef TORKETTLE_PICK_

@@ -40,6 +40,11 @@ struct functions;
             return torkettle_prefix_is_digit(text, length) ? torkettle_digit_##name(text)                              \
                                                            : torkettle_prefix_zeroes_##name(text, length);             \
         }                                                                                                              \
+        static auto canonical(const char *text, std::size_t length) noexcept                                           \
+        {                                                                                                              \
+            return torkettle_whole_is_digit(text, length) ? torkettle_digit_##name(text)                               \
+                                                          : torkettle_whole_canonical_##name(text, length);            \
+        }                                                                                                              \
         static auto json(const char *text, std::size_t length) noexcept                                                \
         {                                                                                                              \
             return torkettle_prefix_json_##name(text, length);                                                         \
@@ -143,6 +148,16 @@ template <class T, std::enable_if_t<detail::is_integer<T>, int> = 0>
 inline std::optional<T> parse(std::string_view text) noexcept
 {
     const auto found = detail::functions_of<T>::whole(text.data(), text.size());
+    if (found.length == 0)
+        return std::nullopt;
+    return static_cast<T>(found.value);
+}
+
+// Returns the number, if the whole text is what `std::to_chars` writes for one: no leading zeros, no `-0`.
+template <class T, std::enable_if_t<detail::is_integer<T>, int> = 0>
+inline std::optional<T> canonical(std::string_view text) noexcept
+{
+    const auto found = detail::functions_of<T>::canonical(text.data(), text.size());
     if (found.length == 0)
         return std::nullopt;
     return static_cast<T>(found.value);

@@ -17,7 +17,7 @@ use core::mem::MaybeUninit;
 use core::ptr;
 use core::slice::{from_raw_parts, from_raw_parts_mut};
 use torkettle::column::{FieldError, Fields, is_separator};
-use torkettle::formats::json_integer;
+use torkettle::formats::{canonical, json_integer};
 use torkettle::{AtoiSimdError, Parse, parse, parse_prefix};
 
 /// A number and the length of the text that it was read from, which is 0 for a refused text.
@@ -170,6 +170,14 @@ fn found_prefix<T: Default>(answer: Result<(T, usize), AtoiSimdError<'_>>) -> Fo
 fn found_json<T: Parse + Default>(text: &[u8]) -> Found<T> {
     match json_integer(text) {
         Some((value, rest)) => Found { value, length: text.len() - rest.len() },
+        None => Found { value: T::default(), length: 0 },
+    }
+}
+
+#[inline(always)]
+fn found_canonical<T: Parse + Default>(text: &[u8]) -> Found<T> {
+    match canonical(text) {
+        Some(value) => Found { value, length: text.len() },
         None => Found { value: T::default(), length: 0 },
     }
 }
@@ -466,6 +474,10 @@ macro_rules! exports_of_types {
             concat!("torkettle_prefix_zeroes_plus_", stringify!($type)) =>
             fn prefix_zeroes_plus(text: *const c_char, length: usize) -> Found<$type> {
                 prefix::<$type, true, true>(bytes(text, length))
+            }
+            concat!("torkettle_whole_canonical_", stringify!($type)) =>
+            fn whole_canonical(text: *const c_char, length: usize) -> Found<$type> {
+                found_canonical(bytes(text, length))
             }
             concat!("torkettle_prefix_json_", stringify!($type)) =>
             fn prefix_json(text: *const c_char, length: usize) -> Found<$type> {

@@ -6,6 +6,7 @@
  */
 #include "torkettle.h"
 
+#include <limits.h>
 #include <stdio.h>
 #include <stdlib.h>
 #include <string.h>
@@ -358,6 +359,34 @@ static int is_error(torkettle_error error, torkettle_status status, unsigned bit
         CHECK(value == UNTOUCHED_##name && count == 999);                                                              \
     }                                                                                                                  \
                                                                                                                        \
+    /* Whether a text is this number as printf prints it, or none. */                                                  \
+    static int canonical_##name(const char *text, type value, bool is_one)                                             \
+    {                                                                                                                  \
+        char *copy = exact(text);                                                                                      \
+        type found = UNTOUCHED_##name;                                                                                 \
+        bool is_number = torkettle_canonical_##name(copy, strlen(text), &found);                                       \
+        free(copy);                                                                                                    \
+        return is_number == is_one && found == (is_one ? value : UNTOUCHED_##name);                                    \
+    }                                                                                                                  \
+                                                                                                                       \
+    static void check_canonical_##name(const char *smallest, const char *below, type min, const char *largest,         \
+                                       const char *above, type max)                                                    \
+    {                                                                                                                  \
+        const char *type_name = #name;                                                                                 \
+        const char *none[] = {                                                                                         \
+            "", "-", "+1", "--1", "00", "01", "-0", "-00", "-01", "x", " 1", "1 ", "1x", "1-", "12,"};                 \
+        type value = UNTOUCHED_##name;                                                                                 \
+        size_t at;                                                                                                     \
+        for (at = 0; at < sizeof none / sizeof *none; at++)                                                            \
+            CHECK(canonical_##name(none[at], 0, false));                                                               \
+        CHECK(canonical_##name("0", 0, true) && canonical_##name("7", 7, true) && canonical_##name("120", 120, true)); \
+        CHECK(canonical_##name("-42", is_signed ? (type)-42 : 0, is_signed));                                          \
+        CHECK(canonical_##name(smallest, min, true) && canonical_##name(below, 0, false));                             \
+        CHECK(canonical_##name(largest, max, true) && canonical_##name(above, 0, false));                              \
+        CHECK(canonical_##name("9999999999999999999999999999999999999999", 0, false));                                 \
+        CHECK(!torkettle_canonical_##name(NULL, 0, &value) && value == UNTOUCHED_##name);                              \
+    }                                                                                                                  \
+                                                                                                                       \
     static int number_##name(torkettle_fields_##name *fields, type number)                                             \
     {                                                                                                                  \
         type value = UNTOUCHED_##name;                                                                                 \
@@ -455,6 +484,7 @@ static int is_error(torkettle_error error, torkettle_status status, unsigned bit
         check_flags_##name();                                                                                          \
         check_bounds_##name(smallest, below, min, largest, above, max);                                                \
         check_errors_##name(above);                                                                                    \
+        check_canonical_##name(smallest, below, min, largest, above, max);                                             \
         check_json_##name(smallest, below, min, largest, above, max);                                                  \
         check_columns_##name(above);                                                                                   \
         check_fields_##name(above);                                                                                    \
@@ -472,6 +502,45 @@ DEFINE_CHECKS(u64, uint64_t, false, 64, 20)
 DEFINE_CHECKS(i128, torkettle_i128, true, 128, 39)
 DEFINE_CHECKS(u128, torkettle_u128, false, 128, 39)
 #endif
+
+/* Defines the check of a type that has a name for some functions only. */
+#define DEFINE_ALIAS_CHECK(name, type, format)                                                                         \
+    static void check_##name(type min, type max)                                                                       \
+    {                                                                                                                  \
+        const char *type_name = #name;                                                                                 \
+        char smallest[64], largest[64], zeros[128], long_text[99];                                                     \
+        torkettle_status status;                                                                                       \
+        type value = 99;                                                                                               \
+        size_t count = 999;                                                                                            \
+        snprintf(smallest, sizeof smallest, format, min);                                                              \
+        snprintf(largest, sizeof largest, format, max);                                                                \
+        snprintf(zeros, sizeof zeros, "+%s%s", ZEROS, largest);                                                        \
+        snprintf(long_text, sizeof long_text, "%s0", largest);                                                         \
+        status = torkettle_parse_##name(long_text, strlen(long_text), BOTH, &value);                                   \
+        CHECK(status == TORKETTLE_SIZE || status == TORKETTLE_OVERFLOW);                                               \
+        CHECK(torkettle_parse_##name("12x", 3, 0, &value) == TORKETTLE_INVALID && value == 99);                        \
+        CHECK(torkettle_parse_prefix_##name("x", 1, 0, &value, &count) == TORKETTLE_EMPTY);                            \
+        CHECK(!torkettle_canonical_##name(zeros, strlen(zeros), &value));                                              \
+        CHECK(!torkettle_canonical_##name(long_text, strlen(long_text), &value));                                      \
+        CHECK(!torkettle_json_integer_##name(long_text, strlen(long_text), &value, &count));                           \
+        CHECK(value == 99 && count == 999);                                                                            \
+        CHECK(torkettle_parse_##name(smallest, strlen(smallest), 0, &value) == TORKETTLE_OK && value == min);          \
+        CHECK(torkettle_parse_##name(largest, strlen(largest), 0, &value) == TORKETTLE_OK && value == max);            \
+        CHECK(torkettle_parse_##name(zeros, strlen(zeros), 0, &value) == TORKETTLE_EMPTY);                             \
+        value = 99;                                                                                                    \
+        CHECK(torkettle_parse_##name(zeros, strlen(zeros), BOTH, &value) == TORKETTLE_OK && value == max);             \
+        value = 99;                                                                                                    \
+        CHECK(torkettle_parse_prefix_##name(zeros, strlen(zeros), BOTH, &value, &count) == TORKETTLE_OK);              \
+        CHECK(value == max && count == strlen(zeros));                                                                 \
+        CHECK(torkettle_canonical_##name(smallest, strlen(smallest), &value) && value == min);                         \
+        CHECK(torkettle_canonical_##name(largest, strlen(largest), &value) && value == max);                           \
+        CHECK(torkettle_json_integer_##name("12, 7]", 6, &value, &count) && value == 12 && count == 2);                \
+    }
+
+DEFINE_ALIAS_CHECK(l, long, "%ld")
+DEFINE_ALIAS_CHECK(ul, unsigned long, "%lu")
+DEFINE_ALIAS_CHECK(ll, long long, "%lld")
+DEFINE_ALIAS_CHECK(ull, unsigned long long, "%llu")
 
 static void check_messages(void)
 {
@@ -547,6 +616,10 @@ int main(void)
                    max);
     }
 #endif
+    check_l(LONG_MIN, LONG_MAX);
+    check_ul(0, ULONG_MAX);
+    check_ll(LLONG_MIN, LLONG_MAX);
+    check_ull(0, ULLONG_MAX);
     check_messages();
     printf("%d checks, %d failed\n", checks, failures);
     return failures > 0;

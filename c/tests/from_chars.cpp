@@ -1,6 +1,6 @@
-// Compares torkettle::from_chars, torkettle::parse and torkettle::json_integer with std::from_chars, for each integer
-// type: every text of at most two bytes, and generated texts. Compares other bases and types, which std::from_chars
-// reads.
+// Compares torkettle::from_chars, torkettle::parse, torkettle::canonical and torkettle::json_integer with
+// std::from_chars, for each integer type: every text of at most two bytes, and generated texts. Compares other bases
+// and types, which std::from_chars reads.
 //
 //     from_chars [TEXTS]
 #include "texts.hpp"
@@ -49,6 +49,19 @@ bool is_json(std::string_view text)
            found->second.size() == text.size() - length;
 }
 
+// What canonical returns: the number, if std::to_chars writes the text for it.
+template <class T>
+bool is_canonical(std::string_view text)
+{
+    const std::optional<T> found = torkettle::canonical<T>(text);
+    T value = 77;
+    char printed[64];
+    const std::from_chars_result read = std::from_chars(text.data(), text.data() + text.size(), value);
+    const std::to_chars_result written = std::to_chars(printed, printed + sizeof printed, value);
+    const std::string_view again(printed, static_cast<std::size_t>(written.ptr - printed));
+    return read.ec == std::errc() && text == again ? found == value : !found.has_value();
+}
+
 // Whether torkettle::from_chars does what std::from_chars does, with a base, a format or nothing more.
 template <class T, class... More>
 bool is_same_call(std::string_view text, More... more)
@@ -77,7 +90,7 @@ void compare(std::string_view text, const char *type)
     accepted += right.ec == std::errc();
     out_of_range += right.ec == std::errc::result_out_of_range;
     if (left.ptr != right.ptr || left.ec != right.ec || ours != theirs || whole.has_value() != is_whole ||
-        (is_whole && *whole != theirs) || !is_json<T>(text) || !is_same_call<T>(text, 10) ||
+        (is_whole && *whole != theirs) || !is_canonical<T>(text) || !is_json<T>(text) || !is_same_call<T>(text, 10) ||
         !is_same_call<T>(text, base)) {
         if (differences++ < 10)
             std::fprintf(stderr, "%s differs for \"%.*s\"\n", type, static_cast<int>(text.size()), first);

@@ -4,7 +4,10 @@
  */
 #include <torkettle.h>
 
+#include <errno.h>
+#include <limits.h>
 #include <stdio.h>
+#include <stdlib.h>
 #include <string.h>
 
 torkettle_status torkettle_parse_u64(const char *text, size_t length, unsigned flags, uint64_t *value);
@@ -21,6 +24,70 @@ static int is_error_of_a_parse(void)
     return error.status == TORKETTLE_INVALID && error.offset == 0 && error.count == 2 && bad_byte == 2 &&
            strcmp(message, "atoi_simd invalid at index: 2 it must contain only digits, starting with: 12  input: "
                            "[31, 32, 78]") == 0;
+}
+
+static long number_at(const char *text, const char **end)
+{
+    const char *start = text + strspn(text, " \t\n\v\f\r");
+    unsigned flags = TORKETTLE_SKIP_ZEROES | TORKETTLE_SKIP_PLUS;
+    size_t count = 0;
+    long value = 0;
+    torkettle_status status = torkettle_parse_prefix_l(start, strlen(start), flags, &value, &count);
+
+    if (status == TORKETTLE_EMPTY)
+        start = text;
+    if (status == TORKETTLE_SIZE || status == TORKETTLE_OVERFLOW) {
+        errno = ERANGE;
+        value = *start == '-' ? LONG_MIN : LONG_MAX;
+        count = 1 + strspn(start + 1, "0123456789");
+    }
+    *end = start + count;
+    return value;
+}
+
+/* Whether number_at does what strtol does. */
+static int is_strtol(const char *text)
+{
+    const char *end = NULL;
+    char *their_end = NULL;
+    long value, their_value;
+    int error;
+    errno = 0;
+    value = number_at(text, &end);
+    error = errno;
+    errno = 0;
+    their_value = strtol(text, &their_end, 10);
+    if (value == their_value && end == their_end && error == errno)
+        return 1;
+    printf("number_at differs for \"%s\"\n", text);
+    return 0;
+}
+
+/* Compares number_at with strtol for numbers at the bounds, and for every text of at most four of these characters. */
+static int is_strtol_everywhere(void)
+{
+    static const char characters[] = "09-+ \tx";
+    const char *numbers[] = {"9223372036854775807",
+                             "9223372036854775808",
+                             "-9223372036854775808,",
+                             "-9223372036854775809",
+                             "+9223372036854775808x",
+                             " -99999999999999999999999999999999999 9",
+                             "-000000000000000000000000000000000000000042",
+                             "2147483648",
+                             "-2147483649",
+                             "\v\f\r\n7"};
+    size_t at, number, rest;
+    int is_same = 1;
+    for (at = 0; at < sizeof numbers / sizeof *numbers; at++)
+        is_same &= is_strtol(numbers[at]);
+    for (number = 0; number < 8 * 8 * 8 * 8; number++) {
+        char text[5] = "";
+        for (at = 0, rest = number; at < 4; at++, rest /= 8)
+            text[at] = characters[rest % 8];
+        is_same &= is_strtol(text);
+    }
+    return is_same;
 }
 
 static uint64_t sum_of_column(const char *text, size_t length)
@@ -99,7 +166,7 @@ int main(void)
         return 1;
     if (torkettle_parse_prefix_u64("80/tcp", 6, 0, &value, &count) != TORKETTLE_OK || value != 80 || count != 2)
         return 1;
-    if (!is_error_of_a_parse())
+    if (!is_error_of_a_parse() || !is_strtol_everywhere())
         return 1;
     printf("sum %u\n", (unsigned)sum_of_column(text, strlen(text)));
     printf("sum %u\n", (unsigned)sum_by_read("1,2,3,x", 7));
