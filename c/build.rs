@@ -1,9 +1,11 @@
-//! Gives the shared library the name that programs look for at run time, and lets it need nothing but libc.
+//! Gives the shared library the name that programs look for at run time, and the symbols their version. Lets the
+//! library need nothing but libc.
 
 use std::env;
 
 fn main() {
     println!("cargo::rerun-if-changed=build.rs");
+    println!("cargo::rustc-env=TORKETTLE_INTERFACE={}", interface().replace('.', "_"));
     if env::var("CARGO_CFG_TARGET_OS").is_ok_and(|system| system != "macos" && system != "windows")
     {
         let soname = format!("-Wl,-soname,libtorkettle.so.{}", interface());

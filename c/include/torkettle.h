@@ -33,10 +33,12 @@
 #include <stddef.h>
 #include <stdint.h>
 
-/* gcc and clang have all that this header needs in -std=gnu89, too. MSVC does not say which C++ it compiles. */
-#if !defined __cplusplus && defined __STRICT_ANSI__ && (!defined __STDC_VERSION__ || __STDC_VERSION__ < 199901L)
+/* These compilers let a symbol have another name than its function. In -std=gnu89, too, they have what this needs. */
+#if !defined __GNUC__ && !defined __clang__
+#error "torkettle.h needs gcc or clang"
+#elif !defined __cplusplus && defined __STRICT_ANSI__ && (!defined __STDC_VERSION__ || __STDC_VERSION__ < 199901L)
 #error "torkettle.h needs C99 or later"
-#elif defined __cplusplus && __cplusplus < 201103L && !defined _MSC_VER
+#elif defined __cplusplus && __cplusplus < 201103L
 #error "torkettle.h needs C++11 or later"
 #elif SIZE_MAX < UINT64_MAX
 #error "torkettle.h needs a 64-bit target"
@@ -56,6 +58,12 @@ extern "C" {
 
 /* The version of this header. torkettle_version returns the version of the library. */
 #define TORKETTLE_VERSION "0.1.0"
+
+/* Ends a declaration. A symbol of the library has the version of its interface, so a process may load two versions. */
+#define TORKETTLE_SYMBOL_(name)                                                                                        \
+    TORKETTLE_NOEXCEPT __asm__(TORKETTLE_PREFIX_(__USER_LABEL_PREFIX__) "torkettle_0_1_" #name)
+#define TORKETTLE_PREFIX_(prefix) TORKETTLE_TEXT_(prefix)
+#define TORKETTLE_TEXT_(prefix) #prefix
 
 /*
  * The values of the argument `flags`: 0, one of these, or both with `|`. Other bits have no effect.
@@ -341,28 +349,38 @@ static inline size_t torkettle_rest_length(size_t length, char separator) TORKET
         char is_lines;                                                                                                 \
     } torkettle_fields_##name;                                                                                         \
                                                                                                                        \
-    torkettle_found_##name torkettle_whole_##name(const char *text, size_t length) TORKETTLE_NOEXCEPT;                 \
-    torkettle_found_##name torkettle_whole_zeroes_##name(const char *text, size_t length) TORKETTLE_NOEXCEPT;          \
-    torkettle_found_##name torkettle_whole_plus_##name(const char *text, size_t length) TORKETTLE_NOEXCEPT;            \
-    torkettle_found_##name torkettle_whole_zeroes_plus_##name(const char *text, size_t length) TORKETTLE_NOEXCEPT;     \
-    torkettle_found_##name torkettle_prefix_##name(const char *text, size_t length) TORKETTLE_NOEXCEPT;                \
-    torkettle_found_##name torkettle_prefix_zeroes_##name(const char *text, size_t length) TORKETTLE_NOEXCEPT;         \
-    torkettle_found_##name torkettle_prefix_plus_##name(const char *text, size_t length) TORKETTLE_NOEXCEPT;           \
-    torkettle_found_##name torkettle_prefix_zeroes_plus_##name(const char *text, size_t length) TORKETTLE_NOEXCEPT;    \
-    torkettle_found_##name torkettle_whole_canonical_##name(const char *text, size_t length) TORKETTLE_NOEXCEPT;       \
-    torkettle_found_##name torkettle_prefix_json_##name(const char *text, size_t length) TORKETTLE_NOEXCEPT;           \
-    torkettle_found_##name torkettle_next_##name(torkettle_column_##name *column) TORKETTLE_NOEXCEPT;                  \
-    torkettle_found_##name torkettle_next_field_##name(torkettle_fields_##name *fields) TORKETTLE_NOEXCEPT;            \
+    torkettle_found_##name torkettle_whole_##name(const char *text, size_t length) TORKETTLE_SYMBOL_(whole_##name);    \
+    torkettle_found_##name torkettle_whole_zeroes_##name(const char *text, size_t length)                              \
+        TORKETTLE_SYMBOL_(whole_zeroes_##name);                                                                        \
+    torkettle_found_##name torkettle_whole_plus_##name(const char *text, size_t length)                                \
+        TORKETTLE_SYMBOL_(whole_plus_##name);                                                                          \
+    torkettle_found_##name torkettle_whole_zeroes_plus_##name(const char *text, size_t length)                         \
+        TORKETTLE_SYMBOL_(whole_zeroes_plus_##name);                                                                   \
+    torkettle_found_##name torkettle_prefix_##name(const char *text, size_t length) TORKETTLE_SYMBOL_(prefix_##name);  \
+    torkettle_found_##name torkettle_prefix_zeroes_##name(const char *text, size_t length)                             \
+        TORKETTLE_SYMBOL_(prefix_zeroes_##name);                                                                       \
+    torkettle_found_##name torkettle_prefix_plus_##name(const char *text, size_t length)                               \
+        TORKETTLE_SYMBOL_(prefix_plus_##name);                                                                         \
+    torkettle_found_##name torkettle_prefix_zeroes_plus_##name(const char *text, size_t length)                        \
+        TORKETTLE_SYMBOL_(prefix_zeroes_plus_##name);                                                                  \
+    torkettle_found_##name torkettle_whole_canonical_##name(const char *text, size_t length)                           \
+        TORKETTLE_SYMBOL_(whole_canonical_##name);                                                                     \
+    torkettle_found_##name torkettle_prefix_json_##name(const char *text, size_t length)                               \
+        TORKETTLE_SYMBOL_(prefix_json_##name);                                                                         \
+    torkettle_found_##name torkettle_next_##name(torkettle_column_##name *column) TORKETTLE_SYMBOL_(next_##name);      \
+    torkettle_found_##name torkettle_next_field_##name(torkettle_fields_##name *fields)                                \
+        TORKETTLE_SYMBOL_(next_field_##name);                                                                          \
                                                                                                                        \
-    torkettle_error torkettle_parse_error_##name(const char *text, size_t length, unsigned flags) TORKETTLE_NOEXCEPT;  \
+    torkettle_error torkettle_parse_error_##name(const char *text, size_t length, unsigned flags)                      \
+        TORKETTLE_SYMBOL_(parse_error_##name);                                                                         \
     torkettle_error torkettle_parse_prefix_error_##name(const char *text, size_t length, unsigned flags)               \
-        TORKETTLE_NOEXCEPT;                                                                                            \
+        TORKETTLE_SYMBOL_(parse_prefix_error_##name);                                                                  \
     void torkettle_column_##name##_init(torkettle_column_##name *column, const char *text, size_t length,              \
-                                        char separator) TORKETTLE_NOEXCEPT;                                            \
+                                        char separator) TORKETTLE_SYMBOL_(column_##name##_init);                       \
     size_t torkettle_column_##name##_read(torkettle_column_##name *column, type *values, size_t count)                 \
-        TORKETTLE_NOEXCEPT;                                                                                            \
+        TORKETTLE_SYMBOL_(column_##name##_read);                                                                       \
     size_t torkettle_fields_##name##_read(torkettle_fields_##name *fields, type *values, size_t count)                 \
-        TORKETTLE_NOEXCEPT;                                                                                            \
+        TORKETTLE_SYMBOL_(fields_##name##_read);                                                                       \
                                                                                                                        \
     static inline torkettle_found_##name torkettle_digit_##name(const char *digit) TORKETTLE_NOEXCEPT                  \
     {                                                                                                                  \
@@ -545,17 +563,20 @@ TORKETTLE_ALIASES_(ull, unsigned long long, u64)
  *
  *     atoi_simd overflow, input: [32, 35, 36]
  */
-size_t torkettle_error_text(char *buffer, size_t size, const torkettle_error *error, const char *text,
-                            size_t length) TORKETTLE_NOEXCEPT;
+size_t torkettle_error_text(char *buffer, size_t size, const torkettle_error *error, const char *text, size_t length)
+    TORKETTLE_SYMBOL_(error_text);
 
 /* Returns the version of the library, as TORKETTLE_VERSION has it. */
-const char *torkettle_version(void) TORKETTLE_NOEXCEPT;
+const char *torkettle_version(void) TORKETTLE_SYMBOL_(version);
 
 #undef TORKETTLE_ALIASES_
 #undef TORKETTLE_FUNCTIONS_
 #undef TORKETTLE_NEXT_
 #undef TORKETTLE_PICK_
 #undef TORKETTLE_CAST_
+#undef TORKETTLE_SYMBOL_
+#undef TORKETTLE_PREFIX_
+#undef TORKETTLE_TEXT_
 #undef TORKETTLE_NOEXCEPT
 
 #ifdef __cplusplus

@@ -414,7 +414,8 @@ impl<T: Parse + Default> CheckedFields<T> {
 }
 
 // Defines functions that C calls, and for a test a list of their declarations in C. What a caller has to
-// see to, the header says.
+// see to, the header says. The symbol of `version` is `torkettle_0_1_version`, and so on, so that a process
+// may load two versions.
 macro_rules! exports {
     ($module:ident: $(
         $name:expr => fn $function:ident($($argument:ident: $type:ty),*) -> $result:ty $body:block
@@ -423,7 +424,7 @@ macro_rules! exports {
             use super::*;
 
             $(
-                #[unsafe(export_name = $name)]
+                #[unsafe(export_name = concat!("torkettle_", env!("TORKETTLE_INTERFACE"), "_", $name))]
                 #[allow(unused_unsafe)]
                 unsafe extern "C" fn $function($($argument: $type),*) -> $result {
                     unsafe { $body }
@@ -433,7 +434,7 @@ macro_rules! exports {
             #[cfg(test)]
             pub fn declarations() -> Vec<String> {
                 vec![$(
-                    header::declaration($name, $function as unsafe extern "C" fn($($type),*) -> _)
+                    header::declaration(concat!("torkettle_", $name), $function as unsafe extern "C" fn($($type),*) -> _)
                 ),*]
             }
         }
@@ -443,55 +444,55 @@ macro_rules! exports {
 macro_rules! exports_of_types {
     ($($type:ident)*) => {
         $(exports! { $type:
-            concat!("torkettle_whole_", stringify!($type)) =>
+            concat!("whole_", stringify!($type)) =>
             fn whole_plain(text: *const c_char, length: usize) -> Found<$type> {
                 whole::<$type, false, false>(bytes(text, length))
             }
-            concat!("torkettle_whole_zeroes_", stringify!($type)) =>
+            concat!("whole_zeroes_", stringify!($type)) =>
             fn whole_zeroes(text: *const c_char, length: usize) -> Found<$type> {
                 whole::<$type, true, false>(bytes(text, length))
             }
-            concat!("torkettle_whole_plus_", stringify!($type)) =>
+            concat!("whole_plus_", stringify!($type)) =>
             fn whole_plus(text: *const c_char, length: usize) -> Found<$type> {
                 whole::<$type, false, true>(bytes(text, length))
             }
-            concat!("torkettle_whole_zeroes_plus_", stringify!($type)) =>
+            concat!("whole_zeroes_plus_", stringify!($type)) =>
             fn whole_zeroes_plus(text: *const c_char, length: usize) -> Found<$type> {
                 whole::<$type, true, true>(bytes(text, length))
             }
-            concat!("torkettle_prefix_", stringify!($type)) =>
+            concat!("prefix_", stringify!($type)) =>
             fn prefix_plain(text: *const c_char, length: usize) -> Found<$type> {
                 prefix::<$type, false, false>(bytes(text, length))
             }
-            concat!("torkettle_prefix_zeroes_", stringify!($type)) =>
+            concat!("prefix_zeroes_", stringify!($type)) =>
             fn prefix_zeroes(text: *const c_char, length: usize) -> Found<$type> {
                 prefix::<$type, true, false>(bytes(text, length))
             }
-            concat!("torkettle_prefix_plus_", stringify!($type)) =>
+            concat!("prefix_plus_", stringify!($type)) =>
             fn prefix_plus(text: *const c_char, length: usize) -> Found<$type> {
                 prefix::<$type, false, true>(bytes(text, length))
             }
-            concat!("torkettle_prefix_zeroes_plus_", stringify!($type)) =>
+            concat!("prefix_zeroes_plus_", stringify!($type)) =>
             fn prefix_zeroes_plus(text: *const c_char, length: usize) -> Found<$type> {
                 prefix::<$type, true, true>(bytes(text, length))
             }
-            concat!("torkettle_whole_canonical_", stringify!($type)) =>
+            concat!("whole_canonical_", stringify!($type)) =>
             fn whole_canonical(text: *const c_char, length: usize) -> Found<$type> {
                 found_canonical(bytes(text, length))
             }
-            concat!("torkettle_prefix_json_", stringify!($type)) =>
+            concat!("prefix_json_", stringify!($type)) =>
             fn prefix_json(text: *const c_char, length: usize) -> Found<$type> {
                 found_json(bytes(text, length))
             }
-            concat!("torkettle_parse_error_", stringify!($type)) =>
+            concat!("parse_error_", stringify!($type)) =>
             fn explain_whole(text: *const c_char, length: usize, flags: c_uint) -> Error {
                 whole_error::<$type>(bytes(text, length), flags)
             }
-            concat!("torkettle_parse_prefix_error_", stringify!($type)) =>
+            concat!("parse_prefix_error_", stringify!($type)) =>
             fn explain_prefix(text: *const c_char, length: usize, flags: c_uint) -> Error {
                 prefix_error::<$type>(bytes(text, length), flags)
             }
-            concat!("torkettle_column_", stringify!($type), "_init") =>
+            concat!("column_", stringify!($type), "_init") =>
             fn start(
                 column: *mut CheckedColumn<$type>,
                 text: *const c_char,
@@ -500,14 +501,14 @@ macro_rules! exports_of_types {
             ) -> () {
                 column.write(CheckedColumn::new(text, length, separator));
             }
-            concat!("torkettle_next_", stringify!($type)) =>
+            concat!("next_", stringify!($type)) =>
             fn next(column: *mut CheckedColumn<$type>) -> Found<$type> {
                 match (*column).next() {
                     Some(value) => Found { value, length: 1 },
                     None => Found { value: 0, length: 0 },
                 }
             }
-            concat!("torkettle_column_", stringify!($type), "_read") =>
+            concat!("column_", stringify!($type), "_read") =>
             fn read(
                 column: *mut CheckedColumn<$type>,
                 values: Values<$type>,
@@ -519,11 +520,11 @@ macro_rules! exports_of_types {
                 }
                 read
             }
-            concat!("torkettle_next_field_", stringify!($type)) =>
+            concat!("next_field_", stringify!($type)) =>
             fn next_field(fields: *mut CheckedFields<$type>) -> Found<$type> {
                 (*fields).next()
             }
-            concat!("torkettle_fields_", stringify!($type), "_read") =>
+            concat!("fields_", stringify!($type), "_read") =>
             fn read_fields(
                 fields: *mut CheckedFields<$type>,
                 values: Values<$type>,
@@ -548,11 +549,11 @@ macro_rules! exports_of_types {
 exports_of_types!(i8 u8 i16 u16 i32 u32 i64 u64 i128 u128);
 
 exports! { others:
-    "torkettle_version" =>
+    "version" =>
     fn version() -> *const c_char {
         VERSION.as_ptr()
     }
-    "torkettle_error_text" =>
+    "error_text" =>
     fn error_text(
         buffer: *mut c_char,
         size: usize,
