@@ -81,11 +81,11 @@ typedef enum torkettle_status {
     /* There is no digit at the start of the text or, if it has a sign, after the sign. */
     TORKETTLE_EMPTY = 1,
     /*
-     * The number has more than 20 digits for u64, 19 for i64 or 39 for 128 bits. Without TORKETTLE_SKIP_ZEROES,
-     * leading zeros count as digits, and the limit for a prefix of at most 32 bits is 16.
+     * The number has more than 20 digits for u64, 19 for i64 or 39 for 128 bits. With TORKETTLE_SKIP_ZEROES, it is out
+     * of range. Without, leading zeros count as digits, and the limit for a prefix of at most 32 bits is 16.
      */
     TORKETTLE_SIZE = 2,
-    /* The number is out of range for the type. */
+    /* The number is out of range for the type: below, if it begins with `-`, and otherwise above. */
     TORKETTLE_OVERFLOW = 3,
     /* Another byte follows the number, in a call that must read the whole text. */
     TORKETTLE_INVALID = 4
