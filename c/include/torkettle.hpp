@@ -117,6 +117,7 @@ using from_chars_result = std::from_chars_result;
 // Reads the number at the start of a text: digits, with a `-` before them if the type is signed. Sets `value` and
 // returns the end of the number. Without a digit, returns `first` and `std::errc::invalid_argument`. If the number is
 // out of range, returns the end of its digits and `std::errc::result_out_of_range`. An error leaves `value` as it is.
+// In C++23, a constant expression has to call `std::from_chars`.
 template <class T, std::enable_if_t<detail::is_integer<T>, int> = 0>
 inline from_chars_result from_chars(const char *first, const char *last, T &value) noexcept
 {
