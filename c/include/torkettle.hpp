@@ -317,8 +317,9 @@ public:
     }
 
     // Reads at most `count` numbers into `values` and returns how many it has read. It reads fewer than `count` only if
-    // it reaches the end or an error, which `error_item` then returns. Of fields and lines, the next call continues after
-    // the error, so a loop must not end because a call has read fewer. A column has no more items then. This is faster than `next`.
+    // it reaches the end or an error, which `error_item` then returns. Of fields and lines, the next call continues
+    // after the error, so a loop must not end because a call has read fewer. A column has no more items then. This is
+    // faster than `next`.
     std::size_t read(T *values, std::size_t count) noexcept
     {
         go_back();
@@ -401,8 +402,8 @@ private:
         return true;
     }
 
-    // Does what `next` does, with a block. `last` is where the field before was, if the same iterator has read it. The item
-    // of a loop stays in registers, because no function that is not inlined gets its address.
+    // Does what `next` does, with a block. `last` is where the field before was, if the same iterator has read it. The
+    // item of a loop stays in registers, because no function that is not inlined gets its address.
     [[gnu::always_inline]] bool advance(item<T> &field, mark &last) noexcept
     {
         if (used == filled && (alone > 0 || !read_block())) {

@@ -4,7 +4,7 @@
  */
 #include <torkettle.h>
 
-#define USES(name, type)                                                                                               \
+#define NUMBERS(name, type)                                                                                            \
     type parse_##name(const char *text, size_t length)                                                                 \
     {                                                                                                                  \
         type value;                                                                                                    \
@@ -24,6 +24,15 @@
         return 0;                                                                                                      \
     }                                                                                                                  \
                                                                                                                        \
+    bool canonical_##name(const char *text, size_t length, type *number)                                               \
+    {                                                                                                                  \
+        type value;                                                                                                    \
+        if (!torkettle_canonical_##name(text, length, &value))                                                         \
+            return false;                                                                                              \
+        *number = value;                                                                                               \
+        return true;                                                                                                   \
+    }                                                                                                                  \
+                                                                                                                       \
     size_t json_##name(const char *text, size_t length, type *number)                                                  \
     {                                                                                                                  \
         type value;                                                                                                    \
@@ -32,7 +41,10 @@
             return 0;                                                                                                  \
         *number = value;                                                                                               \
         return count;                                                                                                  \
-    }                                                                                                                  \
+    }
+
+#define USES(name, type)                                                                                               \
+    NUMBERS(name, type)                                                                                                \
                                                                                                                        \
     type column_##name(const char *text, size_t length)                                                                \
     {                                                                                                                  \
@@ -67,3 +79,7 @@ USES(u64, uint64_t)
 USES(i128, torkettle_i128)
 USES(u128, torkettle_u128)
 #endif
+NUMBERS(l, long)
+NUMBERS(ul, unsigned long)
+NUMBERS(ll, long long)
+NUMBERS(ull, unsigned long long)
