@@ -111,12 +111,16 @@ impl Reader<'_> {
         unreachable!()
     }
 
-    // Returns the first of these tokens that is in no group.
+    // Returns the first of these tokens that is in no group. It comes before this one ends.
     fn find(&self, ends: &[&str]) -> usize {
         let mut at = self.at;
         while !ends.contains(&self.text(at)) {
-            let opens = matches!(self.text(at), "(" | "[" | "{");
-            at = 1 + if opens { self.end_of_group(at) } else { at };
+            at = match self.text(at) {
+                "(" | "[" | "{" => self.end_of_group(at),
+                ")" | "]" | "}" => panic!("{}: none of {ends:?} before it", self.tokens[at].0),
+                "" => panic!("none of {ends:?} before the end"),
+                _ => at,
+            } + 1;
         }
         at
     }
@@ -220,7 +224,7 @@ impl Reader<'_> {
             self.keep_through(self.at + 7);
             self.at += 2;
         }
-        self.keep_through(self.find(&[";"]));
+        self.keep_through(end);
     }
 
     fn fields(&mut self) {
@@ -232,7 +236,11 @@ impl Reader<'_> {
             match self.text(self.at) {
                 "ghost" => self.pass_ghost(),
                 comment if comment.starts_with("//") => self.keep_through(self.at),
-                _ => self.keep_through(self.find(&[","])),
+                _ => {
+                    // The last may have no comma.
+                    let end = self.find(&[",", "}"]);
+                    self.keep_through(if self.text(end) == "," { end } else { end - 1 });
+                }
             }
         }
         self.keep_through(self.at);

@@ -6,6 +6,7 @@ mod remaining;
 
 use remaining::{CRATES, Token};
 use std::fs;
+use std::panic::catch_unwind;
 use std::path::{Path, PathBuf};
 
 const TOP: &str = env!("CARGO_MANIFEST_DIR");
@@ -32,6 +33,39 @@ fn what_must_remain_remains() {
     }
     assert_eq!(files, rust_files(&Path::new(TOP).join("rust/src/proved")), "files that are made");
     assert!(files > 50 && clauses > 300, "{files} sources, {clauses} clauses");
+}
+
+#[test]
+fn the_last_field_may_have_no_comma() {
+    let read = |source| remaining::remaining("atoi_core", source);
+    for rust in [
+        "pub struct A { b: u8, c: u8 } mod d;",
+        "pub struct A { b: [u8; 4] } mod d;",
+        "pub struct A { b: u8, c: (u8, u8), } mod d;",
+        "pub struct A {} mod d;",
+    ] {
+        assert_eq!(read(rust), remaining::tokens(rust));
+    }
+    let rust = remaining::tokens("struct A { b: u8, } mod d;");
+    assert_eq!(read("struct A { b: u8, ghost c: { ℕ } } mod d;"), rust);
+}
+
+#[test]
+fn what_has_no_end_is_not_read() {
+    for source in [
+        "pub struct A { b: u8",
+        "pub struct A { b: u8,",
+        "pub struct A",
+        "use a::b",
+        "mod a { use b::c }",
+        "fn a()",
+        "#",
+        "ghost use a.{b}",
+        "ghost a:",
+    ] {
+        let read = catch_unwind(|| remaining::remaining("atoi_core", source));
+        assert!(read.is_err(), "{source}: {:?}", read.unwrap());
+    }
 }
 
 // Compares what must remain with what was made, and returns how many clauses stay as comments.
