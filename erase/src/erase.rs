@@ -39,7 +39,7 @@ const CONDITIONS: [(&str, &str); 3] = [
 ];
 
 // The methods whose conditions nothing tests. DIFFERENCES describes the first three. No item that users
-// can name mentions `Engine`, and the methods of `impl` are private.
+// can name mentions `Engine`. Only private methods of `impl` are meant.
 const UNTESTED: &str = "atoi_core::Number::from_pos atoi_core::Number::from_parts \
     atoi_core::Signed::from_neg atoi_core::Engine::prefix_64 atoi_core::Engine::prefix_128 \
     atoi_column::impl::read_guessed atoi_column::impl::read_part";
@@ -109,7 +109,8 @@ struct Eraser<'a> {
     is_documented: bool,
     signature: Option<Signature<'a>>,
     fields: Option<Fields<'a>>,
-    // The structs of this module that users can neither write nor change, since their fields are private.
+    // The structs that users can neither write nor change, since their fields are private. Those of an inline
+    // module are not among them: their names may be those of other types.
     sealed: Vec<&'a str>,
     // How many braces are open.
     depth: usize,
@@ -217,7 +218,7 @@ impl<'a> Eraser<'a> {
         let Some(fields) = self.fields.filter(ended) else { return Ok(()) };
         self.fields = None;
         if !fields.has_public && fields.has_private {
-            self.sealed.push(fields.name);
+            self.sealed.extend((fields.depth == 0).then_some(fields.name));
         } else if let Some(start) = fields.ghost {
             self.scanner.at = start;
             return Err("a ghost item of a struct that users can write, or change".into());
@@ -322,9 +323,9 @@ impl<'a> Eraser<'a> {
         };
         let method = format!("{}::{owner}::{}", self.name, function.name);
         match names::has(UNTESTED, &method) {
-            true => Ok(false),
-            false if owner == "impl" => Ok(true),
-            false => Err(format!("a condition of `{method}`, which nothing tests in Rust")),
+            true if owner != "impl" || !function.item.is_public => Ok(false),
+            _ if owner == "impl" => Ok(true),
+            _ => Err(format!("a condition of `{method}`, which nothing tests in Rust")),
         }
     }
 
@@ -376,9 +377,10 @@ impl<'a> Eraser<'a> {
         loop {
             match self.scanner.next_token()? {
                 next if next.text == "ghost" => {
-                    if self.scanner.peek().text == "invariant" && !self.sealed.contains(&of) {
+                    let is_sealed = self.depth == 0 && self.sealed.contains(&of);
+                    if self.scanner.peek().text == "invariant" && !is_sealed {
                         return Err(format!(
-                            "an invariant of `{of}`, whose fields are not private"
+                            "an invariant of `{of}`, whose fields are not known to be private"
                         ));
                     }
                     self.pass_ghost()?;

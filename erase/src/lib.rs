@@ -14,6 +14,7 @@ use std::path::{Path, PathBuf};
 
 /// The folder of what is made here.
 pub const PROVED: &str = "rust/src/proved";
+const PACKAGE: &str = "rust/src";
 const FACADE: &str = "rust/src/lib.rs";
 
 /// A module of a crate.
@@ -29,6 +30,7 @@ struct Module {
 pub fn made(top: &Path) -> Result<BTreeMap<PathBuf, String>, String> {
     let facade = read(top, Path::new(FACADE))?;
     let exports = facade::exports(&facade).map_err(|refusal| fault(Path::new(FACADE), refusal))?;
+    check_others(top)?;
     let exported: Vec<&str> = exports.iter().map(|export| export.name).collect();
     let mut modules = Vec::new();
     for name in erase::CRATES {
@@ -135,6 +137,20 @@ fn find(
             let (path, other) = (path.display(), other.display());
             return Err(format!("{path}: the same module as {other}"));
         }
+    }
+    Ok(())
+}
+
+// Refuses what the hand-written files other than the facade must not name. Hidden files are no modules.
+fn check_others(top: &Path) -> Result<(), String> {
+    let mut files = Vec::new();
+    find_all(top, Path::new(PACKAGE), &mut files)?;
+    let is_made = |file: &PathBuf| file.starts_with(PROVED);
+    let is_hidden = |file: &PathBuf| file.to_string_lossy().contains("/.");
+    let is_rust = |file: &PathBuf| file.extension() == Some(OsStr::new("rs"));
+    files.retain(|file| is_rust(file) && !is_made(file) && !is_hidden(file));
+    for file in files.iter().filter(|file| *file != Path::new(FACADE)) {
+        facade::check_other(&read(top, file)?).map_err(|refusal| fault(file, refusal))?;
     }
     Ok(())
 }

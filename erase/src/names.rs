@@ -55,7 +55,7 @@ pub fn has(list: &str, name: &str) -> bool {
 
 /// Returns the tokens of Rust without its comments.
 pub fn tokens(rust: &str) -> Result<Vec<Token<'_>>, Refusal> {
-    let (mut scanner, mut tokens) = (Scanner { source: rust, at: 0, is_made: true }, Vec::new());
+    let (mut scanner, mut tokens) = (Scanner { source: rust, at: 0, is_rust: true }, Vec::new());
     while let Some(token) = scanner.token().map_err(|reason| refusal(rust, scanner.at, reason))? {
         tokens.push(token);
     }

@@ -1,5 +1,8 @@
 //! The tokens of a Rattle source, as far as they are those of Rust.
 
+// How raw texts and raw names begin.
+const RAW: [&str; 6] = ["r\"", "r#", "br\"", "br#", "cr\"", "cr#"];
+
 #[derive(Clone, Copy, PartialEq, Eq)]
 pub enum Kind {
     /// A name, a keyword or a whole number.
@@ -24,8 +27,8 @@ pub struct Scanner<'a> {
     pub source: &'a str,
     /// The offset of what is read next.
     pub at: usize,
-    /// Whether the source is Rust that was made here. No other has comments between signs.
-    pub is_made: bool,
+    /// Whether the source is Rust. No other has comments between signs.
+    pub is_rust: bool,
 }
 
 impl<'a> Scanner<'a> {
@@ -37,16 +40,14 @@ impl<'a> Scanner<'a> {
         let Some(first) = rest.chars().next() else { return Ok(None) };
         let (kind, length) = match first {
             '/' if rest.starts_with("//") => (Kind::Comment, rest.find('\n').unwrap_or(rest.len())),
-            '/' if rest.starts_with("/*") && self.is_made => {
-                (Kind::Comment, 2 + rest.find("*/").ok_or("a comment without its end")?)
-            }
+            '/' if rest.starts_with("/*") && self.is_rust => (Kind::Comment, between_signs(rest)?),
             '/' if rest.starts_with("/*") => return Err("a block comment".into()),
             '"' => (Kind::Literal, quoted(rest, 0)?),
             '\'' if rest[1..].starts_with('\\') || rest.chars().nth(2) == Some('\'') => {
                 (Kind::Literal, quoted(rest, 0)?)
             }
             '\'' => (Kind::Literal, 1 + word(&rest[1..])),
-            'r' | 'b' if ["r\"", "r#", "br\"", "br#"].iter().any(|raw| rest.starts_with(raw)) => {
+            'r' | 'b' | 'c' if RAW.iter().any(|raw| rest.starts_with(raw)) => {
                 return Err("a raw text".into());
             }
             'b' if rest[1..].starts_with(['"', '\'']) => (Kind::Literal, quoted(rest, 1)?),
@@ -112,6 +113,16 @@ impl<'a> Scanner<'a> {
         self.at += path.len() + 1;
         Ok(path)
     }
+}
+
+// Returns the length of a comment between signs. In Rust, one may hold others: its first `*/` ends no more
+// than the last of them.
+fn between_signs(rest: &str) -> Result<usize, String> {
+    let (text, _) = rest[2..].split_once("*/").ok_or("a comment without its end")?;
+    if text.contains("/*") {
+        return Err("a comment in a comment".into());
+    }
+    Ok(2 + text.len() + 2)
 }
 
 // Returns the length of a text, byte or character whose first quote is at `from`.

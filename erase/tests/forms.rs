@@ -185,6 +185,7 @@ fn functions_without_a_hint_get_one() {
 const IMPORTS: &str = "ghost use Rattle.std.specs.Prelude.{◌≡◌, true, IsFalse};
 ghost use Rattle.atoi_column.specs.Fields.{is_separator};
 ghost use Rattle.atoi_core.specs.Digit.{decimal_table, is_digit};
+ghost use Rattle.std.specs.Prelude.{◌+◌, ◌<◌, ◌^◌, length};
 ";
 
 #[test]
@@ -197,7 +198,15 @@ fn conditions_of_public_functions_are_tested() {
     assert!(built("atoi_core", &method).unwrap().contains("{assert!(crate::column::is_separator"));
     let then = "fn exported(byte: u8) requires same { IsFalse (is_digit decimal_table byte) } {}";
     let rust = built("atoi_lanes", &format!("{IMPORTS}pub {then}")).unwrap();
-    assert!(rust.contains("{assert!(!byte.is_ascii_digit(),"), "{rust}");
+    let start = "{assert!(!byte.is_ascii_digit(), \"a digit is to follow the number\");}";
+    assert!(rust.ends_with(start), "{rust}");
+    let at = "(mut self, index: usize, place: usize) requires { \
+        (index + length self.rest < 2 ^ 64) × (place + length self.rest < 2 ^ 64) } {}";
+    let method = format!("{IMPORTS}struct A; impl A {{ pub fn starting_at{at} }}");
+    let start = "{assert!(self.rest.len() <= usize::MAX - index, \"the fields have too many indices\"); \
+        assert!(self.rest.len() <= usize::MAX - place, \"the fields end above usize::MAX\");} }";
+    let rust = built("atoi_column", &method).unwrap();
+    assert!(rust.ends_with(start), "{rust}");
     // What only the crates themselves call is proved at each call.
     for other in ["pub(crate) fn a(b: u8)", "fn c()", "fn exported()"] {
         assert!(built("atoi_column", &format!("{other} requires {{ b < 4 }} {{}}")).is_ok());
@@ -205,6 +214,8 @@ fn conditions_of_public_functions_are_tested() {
     assert!(built("atoi_core", "pub fn a() requires { ℕ } {}").is_ok());
     let number = "pub trait Number { fn from_pos() requires { ℕ }; }";
     assert!(built("atoi_core", number).is_ok());
+    let part = "impl A { fn read_part() requires { ℕ } {} }";
+    assert!(built("atoi_column", &format!("struct A; {part}")).is_ok());
 }
 
 #[test]
@@ -217,6 +228,7 @@ fn conditions_that_nothing_tests_are_refused() {
         ("atoi_core", "struct A; impl A { pub fn a(b: u8) requires { b < 4 } {} }", nothing),
         ("atoi_core", "struct A; impl A { fn a(b: u8) requires { b < 4 } {} }", nothing),
         ("atoi_lanes", "impl Copy for u8 { fn a(b: u8) requires { b < 4 } {} }", nothing),
+        ("atoi_column", "impl A { pub fn read_part(b: u8) requires { b < 4 } {} }", nothing),
         ("atoi_core", "trait A { fn a(b: u8) requires { b < 4 }; }", "`atoi_core::A::a`"),
         ("atoi_lanes", "trait Number { fn from_pos() requires { ℕ }; }", "::from_pos`"),
         ("atoi_core", "trait A { fn a(b: u8) requires { b < 4 } {} }", "`atoi_core::A::a`"),
@@ -469,6 +481,17 @@ fn conditions_of_what_users_can_write_are_refused() {
         (&format!("pub enum A {{ B(u8) }}\n{invariant}"), 3, "an invariant of `A`"),
         (&format!("use crate::b::A;\n{invariant}"), 3, "an invariant of `A`"),
     ]);
+    // A struct of another module, by the same name.
+    let (private, public) = ("pub struct A { b: u8 }", "pub struct A { pub b: u8 }");
+    let inner = format!("mod a {{ {private} }}");
+    assert_refused(&[
+        (&format!("{inner}\n{public}\n{invariant}"), 4, "an invariant of `A`"),
+        (&format!("{public}\n{inner}\n{invariant}"), 4, "an invariant of `A`"),
+        (&format!("{inner}\npub enum A {{ B(u8) }}\n{invariant}"), 4, "an invariant of `A`"),
+        (&format!("{inner}\nuse crate::b::A;\n{invariant}"), 4, "an invariant of `A`"),
+        (&format!("{private}\nmod a {{ {public}\n{invariant} }}"), 4, "an invariant of `A`"),
+    ]);
+    assert!(built("atoi_core", &format!("mod a {{ {public} }}\n{private}\n{invariant}")).is_ok());
     let own = "pub struct A<T: Copy> { b: T, pub(crate) c: u8, ghost d: { ℕ } }\npub struct B { pub c: u8 }";
     assert!(built("atoi_core", &format!("{own}\n{invariant}")).is_ok());
     assert!(

@@ -99,15 +99,16 @@ fn the_facade_exports_functions_and_types_by_name() {
     let (package, facade) = (Package::new("facade"), "rust/src/lib.rs");
     let core =
         b"pub mod digits;\npub mod numbers;\npub use crate::digits::of;\npub const N: u8 = 1;\n\
-        pub type T = u8;\npub fn numbers() {}\npub struct S;\npub enum E { V }\npub trait P {}\n";
+        pub type T = u8;\npub fn numbers() {}\npub struct S;\npub enum E { V }\n\
+        pub trait Parse: ParsePos {}\ntrait ParsePos {}\n";
     package.put("crates/atoi_core/src/lib.rt", core);
     package.put("crates/atoi_core/src/digits.rt", b"pub fn of() {}\n");
     package.put("crates/atoi_core/src/numbers.rt", b"fn a() {}\n");
-    let simd = b"pub use atoi_core::{E, P, S, digits, of};\npub use atoi_core as core_crate;\npub fn own() {}\n";
+    let simd = b"pub use atoi_core::{E, Parse, S, digits, of};\npub use atoi_core as core_crate;\npub fn own() {}\n";
     package.put("crates/atoi_simd/src/lib.rt", simd);
     for export in [
-        "proved::atoi_core::{S, E, P, of}",
-        "crate::proved::atoi_simd::{\n    S, E, P, of, own,\n}",
+        "proved::atoi_core::{S, E, Parse, of}",
+        "crate::proved::atoi_simd::{\n    S, E, Parse, of, own,\n}",
         "proved::atoi_simd::own",
     ] {
         package.put(facade, format!("mod proved;\npub use {export};\n").as_bytes());
@@ -141,8 +142,125 @@ fn the_facade_exports_functions_and_types_by_name() {
         let fault = package.fault(facade);
         assert!(fault.starts_with(&format!(":3: {reason}")), "{export}: {fault}");
     }
-    package.put(facade, b"mod proved;\npub fn a() {\n    proved::atoi_core::of()\n}\n");
-    assert!(package.fault(facade).starts_with(":3: `proved` outside of a known export"));
+    for text in [
+        "mod proved;\npub fn a() {\n    proved::atoi_core::of()\n}\n",
+        "#![no_std]\n\npub mod proved {\n    pub mod atoi_core;\n}\n",
+        "mod proved;\npub mod a {\n    pub mod proved {}\n}\n",
+        "\n\nproved::atoi_core::of;",
+    ] {
+        package.put(facade, text.as_bytes());
+        let fault = package.fault(facade);
+        assert!(fault.starts_with(":3: `proved` outside of a known export"), "{text}: {fault}");
+    }
+}
+
+// A macro or another file could make exports that are not read.
+#[test]
+fn the_facade_holds_all_exports() {
+    let (package, facade) = (Package::new("all_exports"), "rust/src/lib.rs");
+    let unread = "a file that is not read here";
+    for (text, reason) in [
+        (
+            "macro_rules! a {\n    ($b:vis) => { $b mod proved {} };\n}\na!(pub);\n",
+            "the macro `macro_rules` is not known here",
+        ),
+        ("simd::a! { mod proved {} }\n", "the macro `a` is not known here"),
+        ("include!(\"debug.rs\");\n", unread),
+        ("#[path = \"../other.rs\"]\npub mod a;\n", unread),
+    ] {
+        package.put(facade, format!("#![no_std]\n{text}").as_bytes());
+        assert_eq!(package.fault(facade), format!(":2: {reason}"), "{text}");
+    }
+    let known = "compile_error!(\"a\");\n#[doc = include_str!(\"../../README.md\")]\nmod proved;\n";
+    package.put(facade, known.as_bytes());
+    package.build().unwrap();
+}
+
+// What is proved of a trait's methods holds for our own types, and no user's type may be called in their place.
+#[test]
+fn users_implement_no_exported_trait() {
+    let (package, facade) = (Package::new("traits"), "rust/src/lib.rs");
+    let [core, simd] = ["atoi_core", "atoi_simd"].map(|name| format!("crates/{name}/src/lib.rt"));
+    package
+        .put("crates/atoi_fast/src/lib.rt", b"trait Number {} trait Signed {} trait ParsePos {}");
+    let small = "pub trait Small { fn small(&self) -> u8\n    ensures { result ≤ 3 }; }
+        pub fn room<T: Small>(x: &T) -> u8 { 3 - T::small(x) }";
+    for (name, source) in [
+        ("Small", small),
+        ("Engine", "pub trait Engine {}"),
+        ("Number", "pub trait Number: Copy {}"),
+        ("Signed", "pub trait Signed: Number {}"),
+        ("ParsePos", "pub trait ParsePos: Number {}"),
+        // Others than those that are known.
+        ("Parse", "pub trait Parse {}"),
+        ("Parse", "pub trait Parse: Copy {}"),
+        ("Parse", "pub trait Parse<T: ParsePos> {}"),
+        ("Parse", "pub trait Parse: ParsePos {} mod a { pub trait Parse {} }"),
+        ("ParseNeg", "pub trait ParseNeg: ParsePos {}"),
+    ] {
+        package.put(&core, source.as_bytes());
+        package.put(&simd, format!("pub use atoi_core::{{{name}}};").as_bytes());
+        for owner in ["atoi_core", "atoi_simd"] {
+            let export = format!("mod proved;\npub use proved::{owner}::{{\n    {name},\n}};\n");
+            package.put(facade, export.as_bytes());
+            let fault = package.fault(facade);
+            assert!(fault.starts_with(&format!(":3: `{name}` is no")), "{source}: {fault}");
+        }
+    }
+    package.put(&core, b"pub trait Parse: ParsePos {} pub trait ParseNeg: Signed {}");
+    package.put(&simd, b"pub use atoi_core::{Parse, ParseNeg};");
+    package.put(facade, b"mod proved;\npub use proved::atoi_simd::{Parse, ParseNeg};\n");
+    package.build().unwrap();
+}
+
+// Only the facade's exports are compared with the sources.
+#[test]
+fn no_other_file_names_what_is_proved() {
+    let package = Package::new("hand_written");
+    let export = "// `proved`\n\npub use crate::proved::atoi_core::words;\n";
+    for file in ["rust/src/debug.rs", "rust/src/line_reader.rs", "rust/src/simd/deep/a.rs"] {
+        for text in [
+            export,
+            "\n\npub(crate) use super::proved;\n",
+            "use core::fmt;\n/// A.\npub type A = crate::proved::atoi_core::A;\n",
+            "pub fn a() {\n\n    crate::proved::atoi_core::words::a()\n}\n",
+            "\n\npub use {core::fmt, crate::{proved::atoi_core as core_crate}};\n",
+        ] {
+            package.put(file, text.as_bytes());
+            let fault = package.fault(file);
+            assert!(fault.starts_with(":3: `proved` outside of the facade"), "{text}: {fault}");
+        }
+        package.put(file, b"//! `crate::proved`\nuse crate::Parse;\n/* proved */\n");
+        package.build().unwrap();
+    }
+    for other in [".debug.rs", ".old/debug.rs", "debug.rs~", "debug.orig", "proved/other.rs"] {
+        package.put(&format!("rust/src/{other}"), export.as_bytes());
+    }
+    package.build().unwrap();
+}
+
+// A comment, a text or a file that this reading does not know could hold one.
+#[test]
+fn nothing_hides_a_name() {
+    let package = Package::new("hidden_names");
+    let unread = "a file that is not read here";
+    let file = "rust/src/debug.rs";
+    for (text, reason) in [
+        ("/* /* */ \" */ pub use crate::proved::a; // \"", "a comment in a comment"),
+        ("/*/ \" */ pub use crate::proved::a; // \"", "`proved` outside of the facade"),
+        ("const A: &CStr = cr#\"\"\"#; pub use crate::proved::a; // \"", "a raw text"),
+        ("pub use crate::r#proved::a;", "a raw text"),
+        ("include!(\"a.rs\");", unread),
+        ("#[path = \"a/../../a.rs\"] mod a;", unread),
+        ("#[cfg_attr(not(a), path = \"\\x2e.\\x2fa.rs\")] mod a;", unread),
+        ("#[path = \"a.txt\"] mod a;", unread),
+        ("#[path = \".a.rs\"] mod a;", unread),
+    ] {
+        package.put(file, text.as_bytes());
+        assert_eq!(package.fault(file), format!(":1: {reason}"), "{text}");
+    }
+    package.put(file, b"#[path = \"x86.rs\"] mod a;\nconst A: &str = include_str!(\"a\");");
+    package.build().unwrap();
 }
 
 #[test]
