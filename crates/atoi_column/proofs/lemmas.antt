@@ -12,3 +12,4 @@ pub mod FieldPlaces
 pub mod Pieces
 pub mod Reads
 pub mod Guesses
+pub mod Widths

@@ -6,7 +6,7 @@ ghost use Rattle.atoi_core.specs.Text.{TextWrites};
 ghost use Rattle.atoi_core.specs.Words.{word_of};
 ghost use Rattle.atoi_column.specs.FirstField.{after_field};
 
-use atoi_fast::{number_before, number_of_width};
+use crate::words::{number_before, number_of_width};
 use atoi_simd::{Parse, parse};
 
 /// What is guessed of the next fields: how many digits a number has, and whether a carriage return

@@ -8,6 +8,7 @@ pub mod Readings
 pub mod Windows
 pub mod WordFields
 pub mod WordRuns
+pub mod LoweredWords
 pub mod LoopAnswers
 pub mod Bounds
 pub mod Texts

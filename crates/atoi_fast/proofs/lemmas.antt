@@ -12,4 +12,3 @@ pub mod DigitLanes
 pub mod ShortLanes
 pub mod LaneWindows
 pub mod VectorAnswers
-pub mod Widths

@@ -1,6 +1,6 @@
 //! Two fast engines for the parsers of `atoi_core`: `Swar` reads words, and `Vectors` reads vectors of
 //! sixteen bytes. They report the same windows as every engine of decimal digits, and have parsers of 64
-//! and 128 bits of their own. They are tuned for rustc's build. `atoi_column` uses what `widths` has.
+//! and 128 bits of their own. They are tuned for rustc's build.
 #![tactic(auto)]
 
 mod after_16;
@@ -9,8 +9,6 @@ mod loads;
 mod one_byte;
 mod swar;
 mod vectors;
-mod widths;
 
 pub use crate::swar::Swar;
 pub use crate::vectors::Vectors;
-pub use crate::widths::{number_before, number_of_width};

@@ -1,40 +1,56 @@
 -- Digits after a sign are a text, and the bytes after them end its field.
-use Rattle.std.proofs.Common.{◌≡◌, ◌≢◌, ℕ, zero, suc, ◌+◌, ◌*◌, ◌<◌, ◌≤◌, ◌==◌, Bool, true, Some, List, [], ◌∷◌, length, take, drop, get_or, ℤ, refl, ap, arith}
+use Rattle.std.proofs.Common.{◌≡◌, ◌≢◌, ℕ, zero, suc, ◌+◌, ◌*◌, ◌<◌, ◌≤◌, ◌==◌, Bool, true, Some, List, [], ◌∷◌, length, take, drop, get_or, ℤ, refl, sym, ap, ◌∙◌, arith}
 use Rattle.std.proofs.Math.Nat.{zero-add}
 use Rattle.std.proofs.lemmas.Bool.{eq-eqb, ne_eqb}
 use Rattle.std.specs.Str.Parse.{IsNumeral, digits_value}
+use Rattle.atoi_core.specs.Digit.{decimal_table, is_digit}
 use Rattle.atoi_core.specs.IntType.{IntType, bound_of}
+use Rattle.atoi_core.specs.Run.{run_len, value}
 use Rattle.atoi_core.specs.Sign.{minus_sign, with_sign}
 use Rattle.atoi_core.specs.Text.{no_sign, minus, TextWrites}
 use Rattle.atoi_core.specs.Words.{word_of}
+use Rattle.atoi_core.proofs.lemmas.Runs.{digits_all, run_len-take}
+use Rattle.atoi_core.proofs.lemmas.Texts.{own, to_std}
+use Rattle.std.proofs.lemmas.List.{length-take-le}
+use Rattle.std.proofs.lemmas.List.Sums.{prefix_len-le-length}
 use Rattle.atoi_column.specs.FirstField.{after_field}
 
 take_after : (byte width : ℕ) (bytes : List ℕ) → take 1 bytes ≡ byte ∷ [] → take (1 + width) bytes ≡ byte ∷ take width (drop 1 bytes)
 take_after byte width [] first = absurd (cc first)
 take_after byte width (b ∷ bs) first = let same : b ≡ byte = cc first in let more : 1 + width ≡ suc width = omega arith in rw (more, same) refl
 
+-- The first bytes of a slice, whose run is as long, are a numeral.
+numeral_is : (w : ℕ) (s : List ℕ) {number : ℕ} → 0 < w → w ≤ run_len decimal_table s → number ≡ value decimal_table (take w s)
+    → IsNumeral 10 (take w s) × (number ≡ digits_value 10 (take w s))
+numeral_is w s some run is =
+    let len : length (take w s) ≡ w = length-take-le w s (omega (arith, prefix_len-le-length (is_digit decimal_table) s)) in
+    let digits = to_std (take w s) (digits_all decimal_table (take w s) (run_len-take decimal_table w s run ∙ sym len)) in
+    ((omega arith, digits), is ∙ own.same (take w s) digits)
+
 pub text_of_digits : (int : IntType) (bytes : List ℕ) (sign width magnitude : ℕ) {number : ℤ} → sign ≤ 1
     → (0 < sign → (int.signed ≡ true) × (take 1 bytes ≡ minus_sign ∷ []))
-    → IsNumeral 10 (take width (drop sign bytes)) × (magnitude ≡ digits_value 10 (take width (drop sign bytes)))
+    → 0 < width → width ≤ run_len decimal_table (drop sign bytes) → magnitude ≡ value decimal_table (take width (drop sign bytes))
     → magnitude ≤ bound_of int (sign == 1) → number ≡ with_sign (sign == 1) magnitude
     → TextWrites int true (take (sign + width) bytes) number
-text_of_digits int bytes zero width magnitude few taken is fits number_is = record {
+text_of_digits int bytes zero width magnitude few taken some run is fits number_is =
+  let numeral = numeral_is width bytes some run is in record {
   sign = no_sign;
   digits = take width bytes;
   parts = ap (λ n. take n bytes) (zero-add width);
   signed = λ e. absurd (cc e);
   plus_taken = λ e. absurd (cc e);
-  written = record { numeral = is.0; in_range = rw is.1 at fits; value_is = rw is.1 at number_is };
+  written = record { numeral = numeral.0; in_range = rw numeral.1 at fits; value_is = rw numeral.1 at number_is };
 }
-text_of_digits int bytes (suc zero) width magnitude few taken is fits number_is = record {
+text_of_digits int bytes (suc zero) width magnitude few taken some run is fits number_is =
+  let numeral = numeral_is width (drop 1 bytes) some run is in record {
   sign = minus;
   digits = take width (drop 1 bytes);
   parts = take_after minus_sign width bytes (taken (omega arith)).1;
   signed = λ _. (taken (omega arith)).0;
   plus_taken = λ e. absurd (cc e);
-  written = record { numeral = is.0; in_range = rw is.1 at fits; value_is = rw is.1 at number_is };
+  written = record { numeral = numeral.0; in_range = rw numeral.1 at fits; value_is = rw numeral.1 at number_is };
 }
-text_of_digits int bytes (suc (suc n)) width magnitude few taken is fits number_is = absurd (omega arith)
+text_of_digits int bytes (suc (suc n)) width magnitude few taken some run is fits number_is = absurd (omega arith)
 
 -- A separator ends a field, also after a carriage return.
 pub ended : (trims : Bool) (separator : ℕ) (bytes : List ℕ) → 1 ≤ length bytes → word_of (take 1 bytes) ≡ separator

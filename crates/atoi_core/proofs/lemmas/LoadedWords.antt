@@ -1,8 +1,8 @@
 -- Words that hold the bytes of a slice.
 use Rattle.std.proofs.Common.{◌≡◌, ℕ, zero, suc, ◌+◌, ◌-◌, ◌*◌, ◌/◌, ◌%◌, ◌^◌, ◌<◌, ◌≤◌, List, [], ◌∷◌, ◌++◌, length, take, drop, replicate, get_or, take-take, refl, sym, ap, ◌∙◌, arith, Bool, false}
-use Rattle.std.proofs.Math.Nat.{div-one, div-le_self, zero-div, div-div-eq-div-mul}
+use Rattle.std.proofs.Math.Nat.{div-one, div-le_self, zero-div, zero-mod, suc-mul, div-div-eq-div-mul}
 use Rattle.std.proofs.lemmas.List.{take_all, take-append-drop, append-nil, length-drop, length-take, get_or-drop, get_or_past, drop-drop}
-use Rattle.std.proofs.lemmas.Nat.{or_shifted}
+use Rattle.std.proofs.lemmas.Nat.{mod-pow-add, or_shifted}
 use Rattle.std.specs.Int.{from_le_bytes, w32, w64}
 use Rattle.std.specs.Int.Bits.{bit_or}
 use Rattle.std.specs.Simd.Lanes.{Each1, number_l, digits_l}
@@ -47,6 +47,16 @@ bytes_above zero s fits = div-one (number_l 256 s)
 bytes_above (suc k) [] fits = zero-div (2 ^ (suc k * 8))
 bytes_above (suc k) (b ∷ bs) fits =
     rw (byte_more, ← div-div-eq-div-mul) (grind (arith, bytes_above k bs (λ i. fits (suc i)), fits 0))
+
+-- The lowest n bytes of a word: its first n.
+pub word_start : (n : ℕ) (s : List ℕ) → ((i : ℕ) → get_or s i 0 < 256) → word_of s % 2 ^ (n * 8) ≡ word_of (take n s)
+unfolding word_of
+word_start zero s fits = omega arith
+word_start (suc n) [] fits = zero-mod (2 ^ (suc n * 8))
+word_start (suc n) (b ∷ bs) fits =
+    let word = b + 256 * number_l 256 bs in
+    let rest : word / 256 ≡ number_l 256 bs = omega (arith, fits 0) in
+    rw (suc-mul n 8) (omega (arith, rw rest at (mod-pow-add word (n * 8) 8), word_start n bs (λ i. fits (suc i)), fits 0))
 
 -- The bytes from `at` on, of which n or fewer are there, are the highest of the last n.
 pub word_of_rest : (n : ℕ) (s : List ℕ) (at : ℕ) → n ≤ length s → at ≤ length s → length s ≤ at + n → ((i : ℕ) → get_or s i 0 < 256)

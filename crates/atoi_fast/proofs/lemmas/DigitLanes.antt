@@ -8,7 +8,7 @@ use Rattle.std.specs.Int.Bits.{bit_and}
 use Rattle.atoi_core.specs.Digit.{decimal_table, is_digit, digit_value}
 use Rattle.atoi_core.specs.Run.{run_len, value}
 use Rattle.atoi_core.proofs.lemmas.Runs.{prefix_len-drop, value-replicate}
-use Rattle.atoi_fast.proofs.lemmas.WordRuns.{first_passes}
+use Rattle.atoi_core.proofs.lemmas.LoweredWords.{first_passes}
 use Rattle.atoi_fast.specs.Vectors.{itself, padded}
 use Rattle.atoi_fast.proofs.lemmas.Shuffles.{each_from, first_at_end}
 use lib.Lanes.{Each1, zip2}

@@ -8,12 +8,12 @@ use Rattle.atoi_core.specs.Words.{low_bytes, word_of}
 use Rattle.atoi_core.specs.Digit.{decimal_table, is_zero}
 use Rattle.atoi_core.specs.Run.{zeros}
 use Rattle.atoi_core.proofs.lemmas.WordFields.{byte_more}
-use Rattle.atoi_fast.proofs.lemmas.WordRuns.{shift_cut}
+use Rattle.atoi_core.proofs.lemmas.LoweredWords.{shift_cut}
 use Rattle.std.proofs.lemmas.List.{take_all, drop_all, drop_more, length-drop, get_or_past}
 use Rattle.std.specs.Int.{from_le_bytes, w16, w64}
 use Rattle.std.proofs.lemmas.Bool.{cases_lt}
 use Rattle.std.proofs.lemmas.List.Folds.{prefix_len-append}
-use Rattle.atoi_core.proofs.lemmas.LoadedWords.{word_from_eight, bytes_above, word_of_rest}
+use Rattle.atoi_core.proofs.lemmas.LoadedWords.{word_from_eight, bytes_above, word_of_rest, word_start}
 
 -- ---- Loading a word from a slice
 
@@ -54,16 +54,6 @@ last_bytes s last at enough inside few fits is =
 -- After all bytes, there are none.
 pub word_after_all : (s : List ℕ) (at : ℕ) → length s ≤ at → 0 ≡ word_of (take 8 (drop at s))
 word_after_all s at all = word_of_none (take 8 (drop at s)) (ap (λ l. length (take 8 l)) (drop_all at s all))
-
--- The lowest n bytes of a word: its first n.
-pub word_start : (n : ℕ) (s : List ℕ) → ((i : ℕ) → get_or s i 0 < 256) → word_of s % 2 ^ (n * 8) ≡ word_of (take n s)
-unfolding word_of
-word_start zero s fits = omega arith
-word_start (suc n) [] fits = zero-mod (2 ^ (suc n * 8))
-word_start (suc n) (b ∷ bs) fits =
-    let word = b + 256 * number_l 256 bs in
-    let rest : word / 256 ≡ number_l 256 bs = omega (arith, fits 0) in
-    rw (suc-mul n 8) (omega (arith, rw rest at (mod-pow-add word (n * 8) 8), word_start n bs (λ i. fits (suc i)), fits 0))
 
 -- m bytes of 0 shift a word left.
 pub word_shifted : (m : ℕ) (s : List ℕ) → word_of (replicate m 0 ++ s) ≡ word_of s * 2 ^ (m * 8)

@@ -8,7 +8,7 @@ use Rattle.atoi_core.specs.Digit.{decimal_table}
 use Rattle.atoi_core.specs.Run.{run_len, value}
 use Rattle.atoi_core.specs.Words.{low_bytes, low_value, word_of}
 use Rattle.atoi_core.proofs.lemmas.WordFields.{repeated}
-use Rattle.atoi_fast.proofs.lemmas.WordRuns.{lowered_value}
+use Rattle.atoi_core.proofs.lemmas.LoweredWords.{lowered_value}
 use Rattle.atoi_fast.specs.Vectors.{itself}
 use Rattle.atoi_fast.proofs.lemmas.DigitLanes.{each-append}
 use Rattle.atoi_fast.proofs.lemmas.JoinedDigits.{number-digits}

@@ -11,7 +11,7 @@ use Rattle.std.proofs.lemmas.List.Sums.{prefix_len-le-length}
 use Rattle.atoi_core.specs.Reading.{window_of}
 use Rattle.atoi_core.specs.declared.engine.window.Window.{Window}
 use Rattle.atoi_core.proofs.lemmas.Runs.{prefix_len-drop, prefix_len-replicate_append, value-take-add}
-use Rattle.atoi_fast.proofs.lemmas.LoadedWords.{word_start}
+use Rattle.atoi_core.proofs.lemmas.LoadedWords.{word_start}
 use Rattle.atoi_core.proofs.lemmas.LoadedWords.{fits_after, loaded_run, loaded_part}
 use Rattle.atoi_core.proofs.lemmas.WordWindows.{window_ended, first_run}
 

@@ -8,6 +8,7 @@ mod field_error;
 mod fields;
 mod guesses;
 pub mod laws;
+mod words;
 
 pub use crate::proved::atoi_column::column::{Column, is_separator};
 pub use crate::proved::atoi_column::error::ColumnError;

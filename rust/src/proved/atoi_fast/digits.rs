@@ -25,7 +25,7 @@ const FOUR_ZEROS: u32 = 0x3030_3030;
 // A byte is no digit if adding 70 or subtracting 48 sets its top bit. A carry or a borrow changes only
 // bytes above the first that is no digit.
 /// Returns how many digits the word begins with. `check_len_8` does so with more operations.
-// #[tactic(auto, using(crate::proofs::lemmas::WordRuns::marks_of_8, crate::proofs::lemmas::WordRuns::none_marked))]
+// #[tactic(auto, using(atoi_core::proofs::lemmas::LoweredWords::marks_of_8, crate::proofs::lemmas::WordRuns::none_marked))]
 #[inline] pub(crate) fn digits_of(word: u64) -> u32
     // ensures len { result ≡ run_len decimal_table (low_bytes 8 word) }
     // ensures most { result ≤ 8 }
@@ -74,7 +74,7 @@ const FOUR_ZEROS: u32 = 0x3030_3030;
 }
 
 // The number that the first `len` bytes of the word spell. They are digits, at least one.
-// #[tactic(auto, using(crate::proofs::lemmas::WordRuns::lowered_value, crate::proofs::lemmas::WordRuns::lowered_sum))]
+// #[tactic(auto, using(atoi_core::proofs::lemmas::LoweredWords::lowered_value, crate::proofs::lemmas::WordRuns::lowered_sum))]
 #[inline] pub(crate) fn value_of(word: u64, len: u32) -> u64
     // requires some { 1 ≤ len }
     // requires few { len ≤ 8 }
@@ -86,7 +86,7 @@ const FOUR_ZEROS: u32 = 0x3030_3030;
 }
 
 // `value_of` for at most seven digits, or none: it shifts twice, as no shift is by 64 bits.
-// #[tactic(auto, using(crate::proofs::lemmas::WordRuns::lowered_value, crate::proofs::lemmas::WordRuns::lowered_sum, crate::proofs::lemmas::WordRuns::shifted_twice))]
+// #[tactic(auto, using(atoi_core::proofs::lemmas::LoweredWords::lowered_value, crate::proofs::lemmas::WordRuns::lowered_sum, atoi_core::proofs::lemmas::LoweredWords::shifted_twice))]
 #[inline] pub(crate) fn value_of_fewer(word: u64, len: u32) -> u64
     // requires few { len < 8 }
     // requires digits { len ≤ run_len decimal_table (low_bytes 8 word) }
@@ -107,7 +107,7 @@ const FOUR_ZEROS: u32 = 0x3030_3030;
 
 // `process_8` for bytes below 16. The two sums of four digits are joined by one small product,
 // which needs no 64-bit constant.
-// #[tactic(auto, using(crate::proofs::lemmas::WordRuns::sum_of_fields, atoi_core::proofs::lemmas::WordFields::sum_most))]
+// #[tactic(auto, using(atoi_core::proofs::lemmas::LoweredWords::sum_of_fields, atoi_core::proofs::lemmas::WordFields::sum_most))]
 #[inline] pub(crate) fn sum_of(digits: u64) -> u64
     // requires { bit_and digits 0x0F0F_0F0F_0F0F_0F0F ≡ digits }
     // ensures sum { result ≡ low_value (low_bytes 8 digits) }

@@ -1,6 +1,6 @@
 /* Made by .ci/erase from crates/atoi_fast/src/lib.rt. Do not edit. */ //! Two fast engines for the parsers of `atoi_core`: `Swar` reads words, and `Vectors` reads vectors of
 //! sixteen bytes. They report the same windows as every engine of decimal digits, and have parsers of 64
-//! and 128 bits of their own. They are tuned for rustc's build. `atoi_column` uses what `widths` has.
+//! and 128 bits of their own. They are tuned for rustc's build.
 // #![tactic(auto)]
 
 mod after_16;
@@ -9,8 +9,6 @@ mod loads;
 mod one_byte;
 mod swar;
 #[cfg(feature = "lanes")] mod vectors;
-mod widths;
 
 pub use crate::proved::atoi_fast::swar::Swar;
 #[cfg(feature = "lanes")] pub use crate::proved::atoi_fast::vectors::Vectors;
-pub use crate::proved::atoi_fast::widths::{number_before, number_of_width};

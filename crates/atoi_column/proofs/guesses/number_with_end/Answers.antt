@@ -1,4 +1,4 @@
-use Rattle.std.proofs.Common.{◌∙◌}
+use Rattle.std.proofs.Common.{◌∙◌, arith}
 use Rattle.std.proofs.lemmas.List.{take_rest}
 use Rattle.atoi_column.proofs.lemmas.Guesses.{text_of_digits}
 use Rattle.atoi_column.proofs.guesses.number_with_end.Goals as goal
@@ -6,6 +6,7 @@ use Rattle.atoi_column.proofs.guesses.number_with_end.Goals as goal
 pub returns-clause-written : goal.returns-clause-written
 returns-clause-written g c =
     let sign = c.sign_len-sign.result in
-    text_of_digits g.T.Number.int_type c.args.rest.now sign c.args.width c.in_ok-number_before.field-0 c.sign_len-sign.ensures.few
+    text_of_digits g.T.Number.int_type c.args.rest.now sign c.args.width _ c.sign_len-sign.ensures.few
     (λ some. let taken = c.sign_len-sign.ensures.minus some in (g.met.T.Number.type_is.sign_is ∙ taken.0, taken.1))
-    (rw (take_rest c.args.rest.now sign) at c.in_ok-number_before.ensures.number) c.in_ok-value.ensures.fits c.in_ok-value.ensures.number
+    (omega arith) (rw (take_rest c.args.rest.now sign) at c.in_ok-number_before.ensures.run) (rw (take_rest c.args.rest.now sign) at c.in_ok-number_before.ensures.value)
+    c.in_ok-value.ensures.fits c.in_ok-value.ensures.number

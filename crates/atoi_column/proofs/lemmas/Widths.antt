@@ -3,20 +3,16 @@ use Rattle.std.proofs.Common.{◌≡◌, ℕ, suc, ◌+◌, ◌-◌, ◌*◌, �
 use Rattle.std.proofs.Math.Nat.{mod-add-mod, add-mod-mod, zero-mod, add-mul-mod_self_right, zero-add, zero-div, mul-mod_left, mod-eq_of_lt}
 use Rattle.std.proofs.Math.Pow.{mod-mod-pow}
 use Rattle.std.proofs.lemmas.Bool.{agree_below, agree_below_at, eqb-true}
-use Rattle.std.proofs.lemmas.List.{length-take-le}
 use Rattle.std.proofs.lemmas.Nat.{pow_pos, one_shl, shl_whole, shl-shr, shr_le, shr_high, shr_split, field_of, and_le_r, and_mask, and_shr, and_mod, or_shr, or_mod, le_or_r, mul-mod_first, mul-mod_second}
 use Rattle.std.specs.Int.Bits.{bit_and, bit_or, or_zero_l}
-use Rattle.std.specs.Str.Parse.{IsNumeral, digits_value}
 use Rattle.atoi_core.specs.Digit.{decimal_table, is_digit}
 use Rattle.atoi_core.specs.Run.{run_len, value}
 use Rattle.atoi_core.specs.Words.{low_bytes, low_value, word_of}
-use Rattle.atoi_core.proofs.lemmas.LoadedWords.{bytes_above, fits_after, loaded_part}
+use Rattle.atoi_core.proofs.lemmas.LoadedWords.{bytes_above, fits_after, loaded_part, word_start}
 use Rattle.atoi_core.proofs.lemmas.WordWindows.{first_run}
-use Rattle.atoi_core.proofs.lemmas.Runs.{digits_all, prefix_len-drop, run_len-take, value-take-add}
-use Rattle.atoi_core.proofs.lemmas.Texts.{own, to_std}
+use Rattle.atoi_core.proofs.lemmas.Runs.{prefix_len-drop, value-take-add}
 use Rattle.atoi_core.proofs.lemmas.WordFields.{repeated, zero_field}
-use Rattle.atoi_fast.proofs.lemmas.LoadedWords.{word_start}
-use Rattle.atoi_fast.proofs.lemmas.WordRuns.{lowered_digits, lowered_value, marks_of_8, shift_cut, shifted_twice, sum_of_fields, without_48}
+use Rattle.atoi_core.proofs.lemmas.LoweredWords.{lowered_digits, lowered_value, marks_of_8, shift_cut, shifted_twice, sum_of_fields, without_48}
 
 -- ---- The first bytes of a word, from each of which 48 is subtracted
 
@@ -153,33 +149,20 @@ sum_of_lifted digits shift halves =
     let factor = mul-mod_second digits (0xA01 * 2 ^ shift) (2 ^ 64) ∙ ap (λ x. x % 2 ^ 64) regroup ∙ sym (mul-mod_first (digits * 2 ^ shift) 0xA01 (2 ^ 64)) in
     rw factor (sum_of_fields (digits * 2 ^ shift % 2 ^ 64) (omega arith) halves)
 
--- ---- In std's words
+-- ---- The bytes of a slice
 
--- The first bytes of a slice, whose run is as long, are a numeral.
-numeral_is : (w : ℕ) (s : List ℕ) (number : ℕ) → 0 < w → w ≤ length s → w ≤ run_len decimal_table s → number ≡ value decimal_table (take w s)
-    → IsNumeral 10 (take w s) × (number ≡ digits_value 10 (take w s))
-numeral_is w s number some inside run is =
-    let len : length (take w s) ≡ w = length-take-le w s inside in
-    let digits = to_std (take w s) (digits_all decimal_table (take w s) (run_len-take decimal_table w s run ∙ sym len)) in
-    ((omega arith, digits), is ∙ own.same (take w s) digits)
+pub value_in_word : (w : ℕ) (s : List ℕ) (fits : (i : ℕ) → get_or s i 0 < 256) (first number : ℕ) → first ≡ word_of (take 8 s)
+    → w ≤ run_len decimal_table (low_bytes 8 first) → number ≡ low_value (low_bytes w first)
+    → (w ≤ run_len decimal_table s) × (number ≡ value decimal_table (take w s))
+value_in_word w s fits first number first_is digits is =
+    (omega (arith, first_run s fits first first_is), is ∙ loaded_part 8 s fits first first_is w digits)
 
-module _ (w : ℕ) (s : List ℕ) (fits : (i : ℕ) → get_or s i 0 < 256) (some : 0 < w) (inside : w ≤ length s)
-    (first : ℕ) (first_is : first ≡ word_of (take 8 s)) where
-  pub numeral_in_word : (number : ℕ) → w ≤ run_len decimal_table (low_bytes 8 first) → number ≡ low_value (low_bytes w first)
-      → IsNumeral 10 (take w s) × (number ≡ digits_value 10 (take w s))
-  numeral_in_word number digits is = numeral_is w s number some inside (omega (arith, first_run s fits first first_is)) (is ∙ loaded_part 8 s fits first first_is w digits)
-
-  -- The bytes before the last eight, and these.
-  pub numeral_in_words : (last high low : ℕ) → 8 ≤ w → last ≡ word_of (take 8 (drop (w - 8) s))
-      → w - 8 ≤ run_len decimal_table (low_bytes 8 first) → high ≡ low_value (low_bytes (w - 8) first)
-      → 8 ≤ run_len decimal_table (low_bytes 8 last) → low ≡ low_value (low_bytes 8 last)
-      → IsNumeral 10 (take w s) × (high * 10 ^ 8 + low ≡ digits_value 10 (take w s))
-  numeral_in_words last high low long last_is first_digits high_is last_digits low_is =
-      let front = w - 8 in
-      let all : front + 8 ≡ w = omega arith in
-      let last_fits = fits_after front s fits in
-      let start : front ≤ run_len decimal_table s = omega (arith, first_run s fits first first_is) in
-      numeral_is w s (high * 10 ^ 8 + low) some inside
-      (omega (arith, prefix_len-drop (is_digit decimal_table) front s start, first_run (drop front s) last_fits last last_is))
-      (ap₂ (λ x y. x * 10 ^ 8 + y) (high_is ∙ loaded_part 8 s fits first first_is front first_digits) (low_is ∙ loaded_part 8 (drop front s) last_fits last last_is 8 last_digits)
-      ∙ sym (rw all at (value-take-add decimal_table front 8 s (omega arith))))
+-- Digits before eight more, and these.
+pub joined_values : (front : ℕ) (s : List ℕ) (high low : ℕ) → front + 8 ≤ length s
+    → front ≤ run_len decimal_table s → high ≡ value decimal_table (take front s)
+    → 8 ≤ run_len decimal_table (drop front s) → low ≡ value decimal_table (take 8 (drop front s))
+    → (front + 8 ≤ run_len decimal_table s) × (high * 10 ^ 8 + low ≡ value decimal_table (take (front + 8) s))
+joined_values front s high low inside start high_is end low_is = (
+  omega (arith, prefix_len-drop (is_digit decimal_table) front s start),
+  ap₂ (λ x y. x * 10 ^ 8 + y) high_is low_is ∙ sym (value-take-add decimal_table front 8 s inside),
+)
