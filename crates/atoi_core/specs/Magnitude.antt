@@ -1,6 +1,6 @@
 -- The answer to a *body*, the slice after its sign: a *magnitude*, the value without its sign, or
 -- the first reason to refuse it.
-use Rattle.std.specs.Prelude.{ℕ, ◌+◌, ◌-◌, ◌*◌, ◌/◌, ◌^◌, ◌<◌, ◌≤◌, min, Bool, true, false, not, ◌==◌, nat_lt, if◌then◌else◌, List, length, drop, Option, Some, None, Result, Ok, Err}
+use Rattle.std.specs.Prelude.{◌≡◌, ℕ, ◌+◌, ◌-◌, ◌*◌, ◌/◌, ◌^◌, ◌<◌, ◌≤◌, min, Bool, true, false, not, ◌==◌, nat_lt, if◌then◌else◌, List, length, drop, Option, Some, None, Result, Ok, Err}
 use Rattle.atoi_core.specs.Digit.{Table}
 use Rattle.atoi_core.specs.Run.{run_len, run, zeros, value}
 use Rattle.atoi_core.specs.Refusal.{Refusal, empty, size, overflow, invalid64, invalid128}
@@ -19,6 +19,13 @@ pub data Extent : Type 0 where
 -- The number has exactly `limit` decimal digits.
 abbrev pub HasDigits : ℕ → ℕ → Type 0
 HasDigits limit number = (10 ^ (limit - 1) ≤ number) × (number < 10 ^ limit)
+
+-- What holds of the largest magnitude in range, for a type of these bits with this limit of digits.
+pub record IsBound (bits limit bound : ℕ) : Type 0 where
+  pub narrow_low : bits ≤ 32 → 9 ≤ bound
+  pub narrow_high : bits ≤ 32 → bound ≤ 4294967295
+  pub fits_64 : bits ≡ 64 → bound < 2 ^ 64
+  pub digits : 32 < bits → HasDigits limit bound
 
 -- How many leading zeros are skipped: all or none.
 abbrev pub skipped_zeros : Table → Bool → List ℕ → ℕ

@@ -2,8 +2,8 @@
 use Rattle.std.specs.Prelude.{◌≡◌, ℕ, ◌+◌, ◌-◌, ◌≤◌, min, Bool, true, false, ◌==◌, nat_lt, if◌then◌else◌, List, length, take, drop, Result, Ok, Err}
 use Rattle.atoi_core.specs.Digit.{Table}
 use Rattle.atoi_core.specs.Run.{run_len, run, zeros, value}
-use Rattle.atoi_core.specs.Refusal.{Refusal, empty, size, overflow, invalid64}
-use Rattle.atoi_core.specs.Magnitude.{Class, prefix, rule_of}
+use Rattle.atoi_core.specs.Refusal.{Refusal, empty, size, overflow}
+use Rattle.atoi_core.specs.Magnitude.{Class, prefix, rule_of, invalid}
 use Rattle.atoi_core.specs.declared.engine.window.Window.{Window}
 
 -- A window: the run of the first `count` bytes, its value, and its zeros if it is full.
@@ -45,9 +45,9 @@ answer_by_digits class bound limit skipped significant number s =
     else (if nat_lt bound number then Err (overflow (drop skipped s))
     else Ok (number, skipped + significant)))
 
--- The answer to a narrow whole body, if `len` digits spell `number`.
-abbrev pub narrow_decision : (bound len number : ℕ) → List ℕ → Result ℕ Refusal
-narrow_decision bound len number body =
+-- The answer to a whole body that has too many digits in no case, if `len` digits spell `number`.
+abbrev pub decision : Class → (bound len number : ℕ) → List ℕ → Result ℕ Refusal
+decision class bound len number body =
     if len == 0 then Err empty
     else (if nat_lt bound number then Err (overflow body)
-    else (if len == length body then Ok number else Err (invalid64 number len body)))
+    else (if len == length body then Ok number else Err (invalid class number len body)))

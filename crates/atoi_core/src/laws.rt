@@ -3,7 +3,7 @@
 ghost use Rattle.atoi_core.specs.IntType.{int_type};
 ghost use Rattle.atoi_core.specs.Laws.{TextOfValue, AcceptedTexts, AcceptedNumbers, WholeResults, PrefixResults, PrefixesAndRests, NumberThenByte, OneNumber, PrefixBegins, NoneOrTooLarge, DecimalTexts, PrefixIsWhole, PrefixOfCut, PrefixStopsAtRest, RestChangesNothing, SkippingAgrees, OrderAndSuffix, ZerosChangeNothing};
 
-use crate::types::number::Number;
+use crate::number::Number;
 
 /// `parse` returns each value of the type from its decimal text, whichever flags are on.
 #[tactic(auto, using(crate::proofs::lemmas::Texts::text_of_value))]

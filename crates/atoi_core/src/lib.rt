@@ -2,17 +2,21 @@
 //! they return.
 #![tactic(auto)]
 
+mod calls;
 mod engine;
 mod error;
 mod error_kinds;
 pub mod laws;
 mod loops;
 mod narrow;
+mod number;
 mod text;
-mod types;
 mod wide;
 pub mod words;
 
+pub use crate::calls::{
+    parse_prefix_text, parse_text, prefix_neg, prefix_pos, take_sign, whole_neg, whole_pos,
+};
 pub use crate::engine::Engine;
 pub use crate::engine::alphabet::Alphabet;
 pub use crate::engine::plain::{Plain, narrow_whole};
@@ -21,9 +25,7 @@ pub use crate::engine::window::Window;
 pub use crate::error::{AtoiSimdError, Parsed, clones_are_the_same};
 pub use crate::loops::{count_digits, powers, wide_answer, window_after_zeros};
 pub use crate::narrow::{narrow_prefix, narrow_whole_windows};
+pub use crate::number::{Number, Signed};
 pub use crate::text::decimal;
-pub use crate::types::core_calls::{prefix_neg, prefix_pos, whole_neg, whole_pos};
-pub use crate::types::number::{Number, Signed};
-pub use crate::types::sign::{parse_prefix_text, parse_text, take_sign};
 pub use crate::wide::{whole_64, whole_128};
 pub use crate::words::Words;

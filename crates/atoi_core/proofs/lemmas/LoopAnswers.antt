@@ -1,18 +1,21 @@
 -- The answers that follow from the last window of a loop over zeros.
 use Rattle.std.proofs.Common.{◌≡◌, ℕ, ◌+◌, ◌*◌, ◌^◌, ◌<◌, ◌≤◌, Bool, true, List, length, take, drop, Some, Ok, Err, refl, sym, ◌∙◌, lit<, arith, ◌==◌, false, not, None, Result, if◌then◌else◌, ◌-◌, min, get_or, nat_lt, ◌&&◌, inl, inr, le-ltb}
 use Rattle.std.proofs.lemmas.Bool.{cases_lt, lt-ltb}
-use Rattle.std.proofs.lemmas.List.{length-drop, take_rest}
+use Rattle.std.proofs.Math.Nat.{pow-le-pow_right}
+use Rattle.std.proofs.lemmas.List.{length-drop, take_all, take_rest}
 use Rattle.std.proofs.lemmas.List.Sums.{prefix_len-drop_all, prefix_len-le-length}
 use Rattle.atoi_core.specs.Digit.{Table, IsBelowTen, is_digit}
 use Rattle.atoi_core.specs.Run.{zeros, run_len, run, value}
 use Rattle.atoi_core.specs.Magnitude.{Class, wide64, wide128, prefix, rule_of, HasDigits, prefix_magnitude, narrow, whole, invalid, unless_refused, whole_magnitude, skipped_zeros, is_above}
 use Rattle.atoi_core.specs.Refusal.{empty, Refusal, invalid64, invalid128, size, overflow}
-use Rattle.atoi_core.specs.Reading.{cap, answer_by_digits, window_of, narrow_decision}
+use Rattle.atoi_core.specs.Reading.{cap, answer_by_digits, window_of, decision}
 use Rattle.atoi_core.specs.declared.engine.window.Window.{Window}
 use Rattle.atoi_core.proofs.lemmas.Refusals.{refusal-is, refused_empty, over, limit_at, significant_len, refusal-none, refused_size, refused_overflow}
 use Rattle.atoi_core.proofs.lemmas.Runs.{prefix_len-take, value-take-le, value-least, run_ends, run_more, value_more}
 use Rattle.atoi_core.proofs.lemmas.Readings.{within, below, short, short_below, all_decide}
-use Rattle.atoi_core.proofs.lemmas.Windows.{Shows, Shows-join, Shows-join_two, Skipped, Skipped-short}
+use Rattle.atoi_core.specs.IntType.{IntType, IsSized, class_of, bound_of, limit_of}
+use Rattle.atoi_core.proofs.lemmas.Bounds.{bound-least, limit-least, short_enough}
+use Rattle.atoi_core.proofs.lemmas.Windows.{Shows, Shows-join, Shows-join_two, Skipped, shows}
 use Rattle.std.proofs.lemmas.Bool.Decides.{nat_tests}
 
 -- ---- Wide types
@@ -95,17 +98,6 @@ pub whole_is_128 : (table : Table) (bound limit : ℕ) (skip : Bool) (s : List �
     → whole_magnitude table wide128 bound limit skip s ≡ whole_from_prefix invalid128 s (prefix_magnitude table wide128 bound limit skip s)
 whole_is_128 table bound limit skip s = search (arith, refusal-is, last_reason)
 
--- A window of fewer than 16 bytes decides a whole slice of 64 bits.
-pub whole_by_window : (table : Table) → IsBelowTen table → (bound limit : ℕ) (skip : Bool) (s : List ℕ) {w : Window} → w ≡ window_of table 16 s →
-    length s < 16 → 17 ≤ limit → limit ≤ 20 → HasDigits limit bound →
-    (if w.len == 0 then Err empty else (if w.len == length s then Ok w.number else Err (invalid64 w.number w.len s)))
-    ≡ whole_magnitude table wide64 bound limit skip s
-whole_by_window table ten bound limit skip s {w} e short low high digits =
-    let after_skip : Skipped table skip s 0 0 1 w = Skipped-short ten skip s e refl short in
-    let few : w.len < 16 = omega (arith, short, after_skip.window.len_is, prefix_len-le-length (is_digit table) s) in
-    let prefix_is = answers_short wide64 bound limit (omega arith) after_skip few (omega arith) digits refl refl in
-    rw (whole_is_64 table bound limit skip s, sym prefix_is) (grind (arith, nat_tests))
-
 -- ---- Narrow types
 
 -- The slice of an overflow leaves out the zeros before the last window.
@@ -178,7 +170,7 @@ digit_after_16 table skip s w full is counts =
 module _ (table : Table) (bound limit : ℕ) (skip : Bool) (s : List ℕ) where
   -- The run decides the answer, whatever the limit and the flag.
   narrow_whole_is : (n number : ℕ) → run_len table s ≡ n → value table (take n s) ≡ number
-      → narrow_decision bound n number s ≡ whole_magnitude table narrow bound limit skip s
+      → decision narrow bound n number s ≡ whole_magnitude table narrow bound limit skip s
   narrow_whole_is n number at_n is_number =
       rw (refusal-is table narrow bound limit whole skip s, at_n, is_number) (grind (arith, nat_tests))
 
@@ -215,7 +207,7 @@ module _ (table : Table) (bound limit : ℕ) (skip : Bool) (s : List ℕ) where
 
 -- The last window decides the answer to a narrow whole slice.
 pub narrow_decides : {table : Table} {s : List ℕ} {at before now : ℕ} {w : Window} {len : ℕ} → Skipped table true s at before now w →
-    len ≡ at + w.len → (bound : ℕ) → bound ≤ 4294967295 → narrow_decision bound len w.number s ≡ whole_magnitude table narrow bound 0 false s
+    len ≡ at + w.len → (bound : ℕ) → bound ≤ 4294967295 → decision narrow bound len w.number s ≡ whole_magnitude table narrow bound 0 false s
 narrow_decides {table} {s} {w = w} {len} after_skip len_is bound high =
     let few : true ≡ false → run_len table s ≤ 16 = λ no. absurd (cc no) in
     elim (cases_lt bound w.number) [
@@ -230,3 +222,43 @@ narrow_decides {table} {s} {w = w} {len} after_skip len_is bound high =
           let all : run_len table s ≡ len = rest.0 ∙ sym len_is in
           narrow_whole_is table bound 0 false s len w.number all (rw all at rest.1)
     ]
+
+-- ---- Whole slices of fewer than 16 bytes
+
+-- Only two of the tests are left.
+two_tests : (a d : Bool) (p t : Refusal) (v : ℕ) → (if a then Err p else (if d then Ok v else Err t)) ≡ unless_refused (if a then Some p else (if not d then Some t else None)) v
+two_tests a d p t v = grind (arith, nat_tests)
+
+module _ (table : Table) (ten : IsBelowTen table) (int : IntType) (s : List ℕ) (short : length s < 16) where
+  few : run_len table s ≤ 15
+  few = omega (arith, prefix_len-le-length (is_digit table) s)
+
+  all : take 16 s ≡ s
+  all = take_all 16 s (omega arith)
+
+  -- Fifteen digits are in the range of a wide type.
+  in_range : (bound : ℕ) → 10 ^ 15 ≤ bound → nat_lt bound (value table (run table s)) ≡ false
+  in_range bound enough =
+      let power : 10 ^ run_len table s ≤ 10 ^ 15 = pow-le-pow_right {n = 10} (omega arith) few in
+      let below = rw all at (shows {table = table} ten 16 s refl).below in
+      le-ltb bound (value table (run table s)) (omega arith)
+
+  pub short_in_range : (bound : ℕ) → HasDigits (limit_of int) bound → nat_lt bound (value table (run table (take 16 s))) ≡ false
+  short_in_range bound digits =
+      let long : 15 ≤ limit_of int - 1 = omega (arith, limit-least int) in
+      let power : 10 ^ 15 ≤ 10 ^ (limit_of int - 1) = pow-le-pow_right {n = 10} (omega arith) long in
+      rw all (in_range bound (omega (arith, digits.0)))
+
+  -- One window decides.
+  pub short_decides : IsSized int → (minus skip : Bool)
+      → decision (class_of int) (bound_of int minus) (run_len table (take 16 s)) (value table (run table (take 16 s))) s
+      ≡ whole_magnitude table (class_of int) (bound_of int minus) (limit_of int) skip s
+  short_decides sized minus skip =
+      let class = class_of int in
+      let bound = bound_of int minus in
+      let limit = limit_of int in
+      let enough = short_enough class skip limit (significant_len table skip s) (omega (arith, limit-least int, few)) in
+      elim (bound-least int sized minus) [
+        | inl narrow_is ↦ rw (all, narrow_is) (narrow_whole_is table bound limit skip s (run_len table s) (value table (run table s)) refl refl)
+        | inr fits ↦ rw (all, refusal-is table class bound limit whole skip s, enough, in_range bound fits) (two_tests _ _ _ _ _)
+      ]

@@ -5,7 +5,7 @@ use Rattle.std.proofs.lemmas.List.{drop-drop, take-take, take_rest}
 use Rattle.std.proofs.lemmas.List.Sums.{prefix_len-le-length}
 use Rattle.atoi_core.specs.Digit.{Table, IsBelowTen, is_digit, is_zero}
 use Rattle.atoi_core.specs.Run.{run_len, run, zeros, value}
-use Rattle.atoi_core.specs.Magnitude.{narrow}
+use Rattle.atoi_core.specs.Magnitude.{Class, narrow}
 use Rattle.atoi_core.specs.Reading.{Reading, IsSkipped, window_of}
 use Rattle.atoi_core.proofs.lemmas.Runs.{prefix_len-take, prefix_len-drop, zeros-le, value-drop_zeros}
 use Rattle.atoi_core.specs.declared.engine.window.Window.{Window}
@@ -192,3 +192,8 @@ module _ {table : Table} (ten : IsBelowTen table) where
       w ≡ window_of table 16 s → next ≡ before + 1 → length s < 16 → Skipped table skip s 0 before next w
   Skipped-short skip s e one short =
       Skipped-first skip s e one (omega (arith, short, (shows ten 16 s e).len_is, prefix_len-le-length (is_digit table) s))
+
+-- One load is enough for fewer than 16 bytes.
+pub short_loads : (table : Table) (class : Class) (skip : Bool) (s : List ℕ) {before after : ℕ} → length s < 16 → after ≡ before + 1
+    → LoadsWithin (most_loads table class s) table skip s before after
+short_loads table class skip s short one = grind (arith, nat_tests, prefix_len-le-length (is_zero table) s)

@@ -4,7 +4,7 @@
 // ghost use Rattle.atoi_core.specs.Magnitude.{narrow, whole_magnitude, prefix_magnitude};
 // ghost use Rattle.atoi_core.specs.Refusal.{answer_of, empty, overflow};
 // ghost use Rattle.atoi_core.specs.Run.{run_len};
-// ghost use Rattle.atoi_core.specs.Reading.{window_of, narrow_decision};
+// ghost use Rattle.atoi_core.specs.Reading.{window_of, decision};
 
 use crate::proved::atoi_core::engine::Engine;
 use crate::proved::atoi_core::engine::steps::Steps;
@@ -56,7 +56,7 @@ pub fn narrow_prefix<'a, E: Engine>(
 
 /// Parses all of `s` as digits, and returns their value, at most `bound`. The errors are `Empty`,
 /// `Overflow` and `Invalid64`.
-#[inline(always)]
+#[inline(never)]
 pub fn narrow_whole_windows<'a, E: Engine>(
     bound: u64,
     s: &'a [u8],
@@ -68,45 +68,12 @@ pub fn narrow_whole_windows<'a, E: Engine>(
     // ensures loads { LoadsWithin (most_loads E.table narrow s.now) E.table true s.now
     //     steps.old steps.new }
 {
-    if s.len() < 16 {
-        let (window, is_whole) = only_window::<E>(s, steps);
-        return narrow_answer(bound, window.len as usize, is_whole, window.number, s);
-    }
-    narrow_whole_long::<E>(bound, s, steps)
-}
-
-// `narrow_whole_windows` for at least 16 bytes, most of them zeros if the number is in range.
-#[inline(never)]
-fn narrow_whole_long<'a, E: Engine>(
-    bound: u64,
-    s: &'a [u8],
-    steps: &mut Steps,
-) -> Result<u64, AtoiSimdError<'a>>
-    // requires high { bound ≤ 4294967295 }
-    // ensures answer { answer_of result ≡ whole_magnitude E.table narrow bound 0 false s.now }
-    // ensures loads { LoadsWithin (most_loads E.table narrow s.now) E.table true s.now
-    //     steps.old steps.new }
-{
     let window = E::window(s, steps);
     if window.zeroes > 0 {
         return narrow_whole_after_zeros::<E>(bound, window.zeroes, s, steps);
     }
     let len = window.len as usize;
     narrow_answer(bound, len, len == s.len(), window.number, s)
-}
-
-// The window of fewer than 16 bytes, and whether it holds all of them.
-#[inline(always)]
-pub(crate) fn only_window<E: Engine>(s: &[u8], steps: &mut Steps) -> (Window, bool)
-    // requires { length s.now < 16 }
-    // ensures window { result.0 ≡ window_of E.table 16 s.now }
-    // ensures whole { result.1 ≡ (result.0.len == length s.now) }
-    // ensures one_step { steps.new ≡ steps.old + 1 }
-{
-    // LLVM joins this cast with the engine's.
-    let size = s.len() as u32;
-    let window = E::window(s, steps);
-    (window, window.len == size)
 }
 
 // `narrow_whole_windows`, after a first window that reported `zeroes` > 0.
@@ -131,7 +98,7 @@ fn narrow_whole_after_zeros<'a, E: Engine>(
 
 // The answer for all of `s`, of which `len` digits spell `number`. LLVM joins the first test with the
 // engine's.
-#[inline] fn narrow_answer(
+#[inline] pub(crate) fn narrow_answer(
     bound: u64,
     len: usize,
     is_whole: bool,
@@ -139,7 +106,7 @@ fn narrow_whole_after_zeros<'a, E: Engine>(
     s: &[u8],
 ) -> Result<u64, AtoiSimdError<'_>>
     // requires { is_whole ≡ (len == length s.now) }
-    // ensures { answer_of result ≡ narrow_decision bound len number s.now }
+    // ensures { answer_of result ≡ decision narrow bound len number s.now }
 {
     if !is_whole {
         let number = bounded(bound, len, number, s)?;

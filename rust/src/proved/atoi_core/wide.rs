@@ -7,8 +7,6 @@
 use crate::proved::atoi_core::engine::Engine;
 use crate::proved::atoi_core::engine::steps::Steps;
 use crate::proved::atoi_core::error::AtoiSimdError;
-use crate::proved::atoi_core::loops::wide_answer::found_or_empty;
-use crate::proved::atoi_core::narrow::only_window;
 
 /// Like `Engine::prefix_64`, but parses all of `s`. The errors are `Empty`, `Size`, `Overflow` and
 /// `Invalid64`.
@@ -28,15 +26,6 @@ pub fn whole_64<'a, E: Engine>(
     // ensures loads { LoadsWithin (most_loads E.table wide64 s.now) E.table skip s.now
     //     steps.old steps.new }
 {
-    if s.len() < 16 {
-        let (window, is_whole) = only_window::<E>(s, steps);
-        // LLVM joins this test with the engine's.
-        if is_whole && !s.is_empty() {
-            return Ok(window.number);
-        }
-        let (number, digits) = found_or_empty(window.number, window.len as usize)?;
-        return Err(AtoiSimdError::Invalid64(number, digits, s));
-    }
     let (number, len) = E::prefix_64(bound, limit, skip, s, steps)?;
     if len == s.len() {
         Ok(number)

@@ -1,7 +1,7 @@
 //! What a parse needs to know of an integer type.
 ghost use Rattle.std.specs.Prelude.{◌≡◌, ◌+◌, ◌^◌, ◌<◌, ◌≤◌, ◌<ℤ◌, ◌↔◌, ℕ, ℤ, pos, Bool, true, false, IsTrue, refl};
 ghost use Rattle.atoi_core.specs.IntType.{IntType, IsSized, IsTypeOf, bound_of, limit_of, u8_type, i8_type, u16_type, i16_type, u32_type, i32_type, u64_type, i64_type, u128_type, i128_type, usize_type, isize_type};
-ghost use Rattle.atoi_core.specs.Magnitude.{HasDigits};
+ghost use Rattle.atoi_core.specs.Magnitude.{IsBound};
 ghost use Rattle.atoi_core.specs.Sign.{with_sign};
 
 /// An integer type that a parse can return: a *narrow* one of at most 32 bits, or a *wide* one of 64
@@ -69,10 +69,7 @@ pub trait Signed: Number {
 pub(crate) fn greatest_magnitude<T: Number>(minus: bool) -> u128
     requires signed { minus ≡ true → T.SIGNED ≡ true }
     ensures value { result ≡ bound_of T.int_type minus }
-    ensures narrow_low { T.BITS ≤ 32 → 9 ≤ result }
-    ensures narrow_high { T.BITS ≤ 32 → result ≤ 4294967295 }
-    ensures fits_64 { T.BITS ≡ 64 → result < 2 ^ 64 }
-    ensures digits { 32 < T.BITS → HasDigits (limit_of T.int_type) result }
+    ensures bound { IsBound T.BITS (limit_of T.int_type) result }
 {
     T::GREATEST + u128::from(minus)
 }

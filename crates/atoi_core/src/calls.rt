@@ -1,0 +1,285 @@
+//! The parses of an integer type: they take the sign, and parse the digits after it with the parser for the
+//! type's size. The four *core calls* parse digits without a sign.
+ghost use Rattle.std.specs.Prelude.{◌≡◌, ◌+◌, ◌<◌, ◌≤◌, true, false, IfOk, length, drop};
+ghost use Rattle.atoi_core.specs.Answer.{typed_answer, typed_prefix_answer, text_answer, text_prefix_answer, whole_answer, prefix_answer};
+ghost use Rattle.atoi_core.specs.IntType.{class_of, limit_of};
+ghost use Rattle.atoi_core.specs.Loads.{TypedLoads};
+ghost use Rattle.atoi_core.specs.Magnitude.{IsBound, whole, prefix, whole_magnitude};
+ghost use Rattle.atoi_core.specs.Reading.{decision, window_of};
+ghost use Rattle.atoi_core.specs.Refusal.{answer_of};
+ghost use Rattle.atoi_core.specs.Sign.{sign_of};
+
+use crate::engine::Engine;
+use crate::engine::steps::Steps;
+use crate::error::AtoiSimdError;
+use crate::loops::wide_answer::found_or_empty;
+use crate::narrow::{narrow_answer, narrow_prefix, narrow_whole_windows};
+use crate::number::{Number, Signed, greatest_magnitude, limit_64};
+use crate::wide::{whole_64, whole_128};
+
+/// Parses all of `s` as at most one sign and digits. Returns the errors of `whole_pos` for the
+/// body, or of `whole_neg` after a `-`.
+#[inline(always)]
+pub fn parse_text<'a, E: Engine, T: Number>(
+    skip: bool,
+    skip_plus: bool,
+    s: &'a [u8],
+    steps: &mut Steps,
+) -> Result<T, AtoiSimdError<'a>>
+    ensures answer { typed_answer T.number result ≡ text_answer E.table T.int_type skip skip_plus s.now }
+    ensures loads { TypedLoads E.table T.int_type whole skip (sign_of T.SIGNED skip_plus s.now).body
+        steps.old steps.new }
+{
+    if s.len() <= 1 {
+        return match s {
+            [b'0'..=b'9'] => whole_pos::<E, T>(skip, s, steps),
+            _ => parse_no_digit::<E, T>(skip, skip_plus, s, steps),
+        };
+    }
+    let (minus, body) = take_sign(T::SIGNED, skip_plus, s);
+    whole_with_sign::<E, T>(minus, skip, body, steps)
+}
+
+// `parse_text` for a byte that is no digit, or none.
+#[cold]
+#[inline(never)]
+fn parse_no_digit<'a, E: Engine, T: Number>(
+    skip: bool,
+    skip_plus: bool,
+    s: &'a [u8],
+    steps: &mut Steps,
+) -> Result<T, AtoiSimdError<'a>>
+    requires { length s.now ≤ 1 }
+    ensures answer { typed_answer T.number result ≡ text_answer E.table T.int_type skip skip_plus s.now }
+    ensures loads { TypedLoads E.table T.int_type whole skip (sign_of T.SIGNED skip_plus s.now).body
+        steps.old steps.new }
+{
+    let (minus, body) = take_sign(T::SIGNED, skip_plus, s);
+    // LLVM then leaves out the parser of longer slices.
+    whole_with_sign::<E, T>(minus, skip, &body[..body.len().min(1)], steps)
+}
+
+/// Parses the number at the start of `s`, and returns it with its length, the sign included. Returns the
+/// errors of `prefix_pos` for the body, or of `prefix_neg` after a `-`.
+#[inline(always)]
+pub fn parse_prefix_text<'a, E: Engine, T: Number>(
+    skip: bool,
+    skip_plus: bool,
+    s: &'a [u8],
+    steps: &mut Steps,
+) -> Result<(T, usize), AtoiSimdError<'a>>
+    ensures answer { typed_prefix_answer T.number result
+        ≡ text_prefix_answer E.table T.int_type skip skip_plus s.now }
+    ensures within { IfOk result (λ found. found.1 ≤ length s.now) }
+    ensures loads { TypedLoads E.table T.int_type prefix skip (sign_of T.SIGNED skip_plus s.now).body
+        steps.old steps.new }
+    ensures unskipped { T.BITS ≤ 32 → skip ≡ false → steps.new ≤ steps.old + 2 }
+{
+    let (minus, body) = take_sign(T::SIGNED, skip_plus, s);
+    let (number, len) = prefix_with_sign::<E, T>(minus, skip, body, steps)?;
+    Ok((number, len + (s.len() - body.len())))
+}
+
+/// Consumes a `+` if `skip_plus` is on, or a `-` if `signed` is on. Returns whether it was a `-`, and
+/// the body after it.
+#[inline(always)]
+pub fn take_sign(signed: bool, skip_plus: bool, s: &[u8]) -> (bool, &[u8])
+    ensures minus { result.0 ≡ (sign_of signed skip_plus s.now).minus }
+    ensures body { result.1.now ≡ (sign_of signed skip_plus s.now).body }
+    ensures taken { length result.1.now + (sign_of signed skip_plus s.now).taken ≡ length s.now }
+    ensures minus_if_signed { result.0 ≡ true → signed ≡ true }
+{
+    if !signed && !skip_plus {
+        return (false, s);
+    }
+    let [first, ..] = s else {
+        return (false, s);
+    };
+    // Before the `+`: with the sign set on two paths, the compiler would branch on it.
+    let minus = signed & (*first == b'-');
+    if skip_plus && *first == b'+' {
+        return (minus, without_first(s));
+    }
+    // Sliced by 0 or 1: with mixed signs, a branch would be mispredicted.
+    (minus, &s[usize::from(minus)..])
+}
+
+// Never inlined, so that a `+` is a branch: with a select, the digits' address would wait for the
+// first byte.
+#[inline(never)]
+fn without_first(s: &[u8]) -> &[u8]
+    requires { 1 ≤ length s.now }
+    ensures { result.now ≡ drop 1 s.now }
+{
+    &s[1..]
+}
+
+/// Parses all of `s`, digits without a sign, as a `T` that is not negative. With `skip`, leading
+/// zeros do not count towards a limit of digits. The errors are of every kind, and `s` is the body.
+#[inline(always)]
+pub fn whole_pos<'a, E: Engine, T: Number>(
+    skip: bool,
+    s: &'a [u8],
+    steps: &mut Steps,
+) -> Result<T, AtoiSimdError<'a>>
+    ensures answer { typed_answer T.number result ≡ whole_answer E.table T.int_type false skip s.now }
+    ensures loads { TypedLoads E.table T.int_type whole skip s.now steps.old steps.new }
+{
+    whole_with_sign::<E, T>(false, skip, s, steps)
+}
+
+/// Like `whole_pos`, but returns minus the value of the digits. The errors are the same.
+#[inline(always)]
+pub fn whole_neg<'a, E: Engine, T: Signed>(
+    skip: bool,
+    s: &'a [u8],
+    steps: &mut Steps,
+) -> Result<T, AtoiSimdError<'a>>
+    ensures answer { typed_answer T.number result ≡ whole_answer E.table T.int_type true skip s.now }
+    ensures loads { TypedLoads E.table T.int_type whole skip s.now steps.old steps.new }
+{
+    whole_with_sign::<E, T>(true, skip, s, steps)
+}
+
+/// Like `whole_pos`, but parses the digits at the start of `s`. Also returns how many there are.
+/// The errors are `Empty`, `Size` and `Overflow`.
+#[inline(always)]
+pub fn prefix_pos<'a, E: Engine, T: Number>(
+    skip: bool,
+    s: &'a [u8],
+    steps: &mut Steps,
+) -> Result<(T, usize), AtoiSimdError<'a>>
+    ensures answer { typed_prefix_answer T.number result
+        ≡ prefix_answer E.table T.int_type false skip s.now }
+    ensures within { IfOk result (λ found. found.1 ≤ length s.now) }
+    ensures loads { TypedLoads E.table T.int_type prefix skip s.now steps.old steps.new }
+    ensures unskipped { T.BITS ≤ 32 → skip ≡ false → steps.new ≤ steps.old + 2 }
+{
+    prefix_with_sign::<E, T>(false, skip, s, steps)
+}
+
+/// Like `prefix_pos`, but returns minus the value of the digits. The errors are the same.
+#[inline(always)]
+pub fn prefix_neg<'a, E: Engine, T: Signed>(
+    skip: bool,
+    s: &'a [u8],
+    steps: &mut Steps,
+) -> Result<(T, usize), AtoiSimdError<'a>>
+    ensures answer { typed_prefix_answer T.number result
+        ≡ prefix_answer E.table T.int_type true skip s.now }
+    ensures within { IfOk result (λ found. found.1 ≤ length s.now) }
+    ensures loads { TypedLoads E.table T.int_type prefix skip s.now steps.old steps.new }
+    ensures unskipped { T.BITS ≤ 32 → skip ≡ false → steps.new ≤ steps.old + 2 }
+{
+    prefix_with_sign::<E, T>(true, skip, s, steps)
+}
+
+// Like `whole_neg` if `minus` is set, otherwise like `whole_pos`.
+#[inline(always)]
+#[tactic(auto, using(crate::proofs::lemmas::Calls::whole_in_bounds))]
+fn whole_with_sign<'a, E: Engine, T: Number>(
+    minus: bool,
+    skip: bool,
+    s: &'a [u8],
+    steps: &mut Steps,
+) -> Result<T, AtoiSimdError<'a>>
+    requires signed { minus ≡ true → T.SIGNED ≡ true }
+    ensures answer { typed_answer T.number result ≡ whole_answer E.table T.int_type minus skip s.now }
+    ensures loads { TypedLoads E.table T.int_type whole skip s.now steps.old steps.new }
+{
+    let bound = greatest_magnitude::<T>(minus);
+    if s.len() < 16 {
+        let magnitude = whole_short::<E, T>(bound, s, steps)?;
+        return Ok(T::from_parts(minus, magnitude));
+    }
+    let magnitude = whole_long::<E, T>(bound, skip, s, steps)?;
+    Ok(T::from_parts(minus, magnitude))
+}
+
+// Returns the magnitude of fewer than 16 bytes, which one window decides: they never have too many digits,
+// and only in a narrow type can they be out of range.
+#[inline(always)]
+fn whole_short<'a, E: Engine, T: Number>(
+    bound: u128,
+    s: &'a [u8],
+    steps: &mut Steps,
+) -> Result<u128, AtoiSimdError<'a>>
+    requires bound { IsBound T.BITS (limit_of T.int_type) bound }
+    requires short { length s.now < 16 }
+    ensures answer { answer_of result ≡ decision (class_of T.int_type) bound (window_of E.table 16 s.now).len
+        (window_of E.table 16 s.now).number s.now }
+    ensures one_step { steps.new ≡ steps.old + 1 }
+{
+    // LLVM joins this cast with the engine's.
+    let size = s.len() as u32;
+    let window = E::window(s, steps);
+    let is_whole = window.len == size;
+    let len = window.len as usize;
+    if T::BITS <= 32 {
+        let number = narrow_answer(bound as u64, len, is_whole, window.number, s)?;
+        return Ok(u128::from(number));
+    }
+    if is_whole && !s.is_empty() {
+        return Ok(u128::from(window.number));
+    }
+    let (number, digits) = found_or_empty(window.number, len)?;
+    if T::BITS == 64 {
+        Err(AtoiSimdError::Invalid64(number, digits, s))
+    } else {
+        Err(AtoiSimdError::Invalid128(u128::from(number), digits, s))
+    }
+}
+
+// Returns the magnitude, by the parser for the type's size.
+#[inline(always)]
+#[tactic(auto, using(crate::proofs::lemmas::Refusals::narrow_whole_limit))]
+fn whole_long<'a, E: Engine, T: Number>(
+    bound: u128,
+    skip: bool,
+    s: &'a [u8],
+    steps: &mut Steps,
+) -> Result<u128, AtoiSimdError<'a>>
+    requires bound { IsBound T.BITS (limit_of T.int_type) bound }
+    ensures answer { answer_of result ≡ whole_magnitude E.table (class_of T.int_type) bound
+        (limit_of T.int_type) skip s.now }
+    ensures loads { TypedLoads E.table T.int_type whole skip s.now steps.old steps.new }
+{
+    if T::BITS <= 32 {
+        let number = narrow_whole_windows::<E>(bound as u64, s, steps)?;
+        Ok(u128::from(number))
+    } else if T::BITS == 64 {
+        let number = whole_64::<E>(bound as u64, limit_64::<T>(), skip, s, steps)?;
+        Ok(u128::from(number))
+    } else {
+        whole_128::<E>(bound, skip, s, steps)
+    }
+}
+
+// Like `prefix_neg` if `minus` is set, otherwise like `prefix_pos`.
+#[inline(always)]
+#[tactic(auto, using(crate::proofs::lemmas::Calls::prefix_in_bounds, crate::proofs::lemmas::Refusals::narrow_prefix_limit))]
+fn prefix_with_sign<'a, E: Engine, T: Number>(
+    minus: bool,
+    skip: bool,
+    s: &'a [u8],
+    steps: &mut Steps,
+) -> Result<(T, usize), AtoiSimdError<'a>>
+    requires signed { minus ≡ true → T.SIGNED ≡ true }
+    ensures answer { typed_prefix_answer T.number result
+        ≡ prefix_answer E.table T.int_type minus skip s.now }
+    ensures within { IfOk result (λ found. found.1 ≤ length s.now) }
+    ensures loads { TypedLoads E.table T.int_type prefix skip s.now steps.old steps.new }
+    ensures unskipped { T.BITS ≤ 32 → skip ≡ false → steps.new ≤ steps.old + 2 }
+{
+    let bound = greatest_magnitude::<T>(minus);
+    let (magnitude, len) = if T::BITS <= 32 {
+        let (number, len) = narrow_prefix::<E>(bound as u64, skip, s, steps)?;
+        (u128::from(number), len)
+    } else if T::BITS == 64 {
+        let (number, len) = E::prefix_64(bound as u64, limit_64::<T>(), skip, s, steps)?;
+        (u128::from(number), len)
+    } else {
+        E::prefix_128(bound, skip, s, steps)?
+    };
+    Ok((T::from_parts(minus, magnitude), len))
+}
