@@ -59,8 +59,7 @@ pub fn prefix_begins<T: Number>()
     ensures { PrefixBegins T.int_type }
 {}
 
-/// An error of a prefix parse that skips zeros means no digit, or digits of a number that is too
-/// large; `count_digits` says how many.
+/// An error of a prefix parse that skips zeros means no digit, or digits of a number that is too large.
 #[tactic(auto, using(crate::proofs::lemmas::Numbers::none_or_too_large))]
 pub fn none_or_too_large<T: Number>()
     ensures { NoneOrTooLarge T.int_type }

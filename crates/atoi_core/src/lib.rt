@@ -23,7 +23,7 @@ pub use crate::engine::plain::{Plain, narrow_whole};
 pub use crate::engine::steps::Steps;
 pub use crate::engine::window::Window;
 pub use crate::error::{AtoiSimdError, Parsed, clones_are_the_same};
-pub use crate::loops::{count_digits, powers, wide_answer, window_after_zeros};
+pub use crate::loops::{powers, wide_answer, window_after_zeros};
 pub use crate::narrow::{narrow_prefix, narrow_whole_windows};
 pub use crate::number::{Number, Signed};
 pub use crate::text::decimal;

@@ -1,10 +1,11 @@
 //! Reads durations such as `1h30m15s`.
 ghost use Rattle.std.specs.Prelude.{◌≡◌, ◌<◌, ◌^◌, ◌≤◌, ◌++◌, ◌∷◌, ℕ, List, length, min, IfOk, IfErr, IfSome, IfNone, MatchOption};
 ghost use Rattle.std.specs.Str.Parse.{IsNumeral};
+ghost use Rattle.atoi_core.specs.Digit.{decimal_table};
+ghost use Rattle.atoi_core.specs.Run.{run_len};
 ghost use Rattle.atoi_uses.specs.Durations.{AreLeadingDigits, HasParts, IsDuration, IsNoDuration, capped, total_of};
 
 use atoi_core::laws::none_or_too_large;
-use atoi_core::{Steps, Words, count_digits};
 use atoi_formats::after;
 use atoi_simd::parse_prefix_pos;
 
@@ -77,9 +78,16 @@ fn capped_number(text: &[u8]) -> (u128, usize)
     none_or_too_large::<u64>();
     match parse_prefix_pos::<u64, true>(text) {
         Ok((number, count)) => (u128::from(number), count),
-        Err(_) => match count_digits::<Words>(text, &mut Steps::new()) {
+        Err(_) => match leading_digits(text) {
             0 => (0, 0),
             count => (1 << 64, count),
         },
     }
+}
+
+// Returns how many digits `text` begins with.
+fn leading_digits(text: &[u8]) -> usize
+    ensures { result ≡ run_len decimal_table text.now }
+{
+    text.iter().take_while(|byte| byte.is_ascii_digit()).count()
 }

@@ -59,8 +59,7 @@ use crate::proved::atoi_core::number::Number;
     // ensures { PrefixBegins T.int_type }
 {}
 
-/// An error of a prefix parse that skips zeros means no digit, or digits of a number that is too
-/// large; `count_digits` says how many.
+/// An error of a prefix parse that skips zeros means no digit, or digits of a number that is too large.
 // #[tactic(auto, using(crate::proofs::lemmas::Numbers::none_or_too_large))]
 #[inline] pub fn none_or_too_large<T: Number>()
     // ensures { NoneOrTooLarge T.int_type }

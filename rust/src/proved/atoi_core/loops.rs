@@ -35,19 +35,3 @@ pub fn window_after_zeros<E: Engine>(zeroes: u32, s: &[u8], steps: &mut Steps) -
         at += window.zeroes as usize;
     }
 }
-
-/// Returns how many digits `s` starts with. Loads 16 bytes at a time, until fewer than 16 of a load
-/// are digits.
-#[inline] pub fn count_digits<E: Engine>(s: &[u8], steps: &mut Steps) -> usize
-    // ensures count { result ≡ run_len E.table s.now }
-    // ensures loads { steps.new ≡ steps.old + (run_len E.table s.now / 16 + 1) }
-{
-    let mut at = 0;
-    loop {
-        let len = E::window(&s[at..], steps).len as usize;
-        if len < 16 {
-            return at + len;
-        }
-        at += 16;
-    }
-}

@@ -23,7 +23,7 @@ pub use crate::proved::atoi_core::engine::plain::{Plain, narrow_whole};
 pub use crate::proved::atoi_core::engine::steps::Steps;
 pub use crate::proved::atoi_core::engine::window::Window;
 pub use crate::proved::atoi_core::error::{AtoiSimdError, Parsed, clones_are_the_same};
-pub use crate::proved::atoi_core::loops::{count_digits, powers, wide_answer, window_after_zeros};
+pub use crate::proved::atoi_core::loops::{powers, wide_answer, window_after_zeros};
 pub use crate::proved::atoi_core::narrow::{narrow_prefix, narrow_whole_windows};
 pub use crate::proved::atoi_core::number::{Number, Signed};
 pub use crate::proved::atoi_core::text::decimal;
