@@ -1,9 +1,9 @@
 //! The code that the pages quote and that no example has.
 
 use std::io::{self, Read};
-use std::num::{NonZero, ParseIntError};
+use std::num::ParseIntError;
 use torkettle::column::{Column, ColumnError, FieldError, Fields, LineReader, is_separator};
-use torkettle::formats::{after, canonical_prefix, canonical_then, digits_then, json_integer};
+use torkettle::formats::{after, digits_then, json_integer};
 use torkettle::{
     AtoiSimdError, Parse, parse, parse_neg, parse_pos, parse_prefix, parse_prefix_neg,
     parse_prefix_pos,
@@ -24,19 +24,22 @@ fn numbers() {
 
 #[test]
 fn errors() {
-    // No digit at the start: SKIP_PLUS is off, so the `+` is not accepted. The message is `atoi_simd string is empty`.
+    // No digit at the start: SKIP_PLUS is off, so the `+` is not accepted.
     assert_eq!(parse::<i8, false, false>(b"+5"), Err(AtoiSimdError::Empty));
     // Too many digits: without SKIP_ZEROES, leading zeros count towards the limit.
     let text = b"09223372036854775807";
     assert_eq!(parse::<i64, false, false>(text), Err(AtoiSimdError::Size(20, text)));
-    // Out of range. Here, the slice in the error leaves out the skipped zeros. With one zero fewer, it keeps them.
+    // Out of range. The slice extends to the end of the input.
+    assert_eq!(parse_prefix::<u8, true, false>(b"256,1"), Err(AtoiSimdError::Overflow(b"256,1")));
+    // A byte that is not a digit follows the digits, at offset 7. The value of the digits is 12.
+    let text = b"0000012x";
+    assert_eq!(parse::<u128, true, false>(text), Err(AtoiSimdError::Invalid128(12, 7, text)));
+
+    // Here, the slice in the error leaves out the skipped zeros. With one zero fewer, it keeps them.
     let text = b"0000000000000999x";
     assert_eq!(parse_prefix::<u8, true, false>(text), Err(AtoiSimdError::Overflow(b"999x")));
     let text = b"000000000000999x";
     assert_eq!(parse_prefix::<u8, true, false>(text), Err(AtoiSimdError::Overflow(text)));
-    // A byte that is not a digit follows the digits, at offset 7. The value of the digits is 12.
-    let text = b"0000012x";
-    assert_eq!(parse::<u128, true, false>(text), Err(AtoiSimdError::Invalid128(12, 7, text)));
 
     let mut buffer = [0; 400];
     let length = AtoiSimdError::Overflow(b"256").text(&mut buffer);
@@ -120,14 +123,6 @@ fn version(text: &[u8]) -> Option<(u32, u32, u32)> {
     Some((major, minor, patch))
 }
 
-fn name_and_numbers(line: &str) -> Option<(&str, u32, i8)> {
-    let (name, rest) = line.split_once(',')?;
-    let (price, change) = rest.split_once(',')?;
-    let price = parse::<u32, true, false>(price.as_bytes()).ok()?;
-    let change = parse::<i8, true, false>(change.as_bytes()).ok()?;
-    Some((name, price, change))
-}
-
 // Returns the total, and how many lines have no number there.
 fn total_of_second_column(table: impl Read) -> io::Result<(u64, usize)> {
     let (mut reader, mut total, mut bad) = (LineReader::new(table), 0, 0);
@@ -141,20 +136,8 @@ fn total_of_second_column(table: impl Read) -> io::Result<(u64, usize)> {
     Ok((total, bad))
 }
 
-// Returns the numbers of a version such as `1.22.333-rc.1`, and what follows them.
-fn version_and_rest(text: &[u8]) -> Option<([u64; 3], &[u8])> {
-    let (major, rest) = canonical_then(text, b'.')?;
-    let (minor, rest) = canonical_then(rest, b'.')?;
-    let (patch, rest) = canonical_prefix(rest)?;
-    Some(([major, minor, patch], rest))
-}
-
 fn parse_as_std(text: &str) -> Result<u32, ParseIntError> {
     parse::<u32, true, true>(text.as_bytes()).or_else(|_| text.parse())
-}
-
-fn parse_nonzero(text: &[u8]) -> Option<NonZero<u32>> {
-    NonZero::new(parse::<u32, true, true>(text.trim_ascii()).ok()?)
 }
 
 // Returns the numbers of a row such as `1,2,3`. The row `1,2,` has three cells, of which the last is empty.
@@ -188,21 +171,15 @@ fn totals() {
     assert_eq!(total_between(b"1;2", b'-'), None);
     assert_eq!(version(b"1.22.333"), Some((1, 22, 333)));
     assert_eq!(version(b"1.22.x"), None);
-    assert_eq!(name_and_numbers("tea,250,-3"), Some(("tea", 250, -3)));
-    assert_eq!(name_and_numbers("tea,250"), None);
     let table = b"tea\t250\t-3\r\nmilk\t90\r\nr\xf6sti\n\t\xff\n";
     assert_eq!(total_of_second_column(&table[..]).unwrap(), (340, 2));
 }
 
 #[test]
 fn recipes() {
-    assert_eq!(version_and_rest(b"1.22.333-rc.1"), Some(([1, 22, 333], &b"-rc.1"[..])));
-    assert_eq!(version_and_rest(b"1.22.0333"), None);
     for text in ["7", "+7", "", "-", "4294967296", "7 "] {
         assert_eq!(parse_as_std(text), text.parse());
     }
-    assert_eq!(parse_nonzero(b" 7\n"), NonZero::new(7));
-    assert_eq!(parse_nonzero(b"0"), None);
     assert_eq!(row(b"1,2,3"), Some([1, 2, 3]));
     for line in [&b"1,2"[..], b"1,2,", b",2,3", b"1,2,3,", b"1,2,3,4", b"1,2,x"] {
         assert_eq!(row(line), None);
