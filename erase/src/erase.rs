@@ -42,7 +42,8 @@ const CONDITIONS: [(&str, &str); 3] = [
 // can name mentions `Engine`. Only private methods of `impl` are meant.
 const UNTESTED: &str = "atoi_core::Number::from_pos atoi_core::Number::from_parts \
     atoi_core::Signed::from_neg atoi_core::Engine::prefix_64 atoi_core::Engine::prefix_128 \
-    atoi_column::impl::read_guessed atoi_column::impl::read_part";
+    atoi_column::impl::read_guessed atoi_column::impl::read_part \
+    atoi_column::impl::read_plain";
 
 /// The line of what is refused, and why it is.
 pub type Refusal = (usize, String);

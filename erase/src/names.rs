@@ -41,7 +41,7 @@ pub const METHODS: &str = "len is_empty iter first first_chunk last_chunk split_
     count enumerate take_while ok unwrap write_str dot4 simd_eq simd_ge simd_le \
     reduce_sum swizzle_dyn_within to_array to_bitmask";
 const OWN_METHODS: &str = "index parts text tick \
-    guess guessed_number next_number number read_guessed read_part taken_out";
+    guess guessed_number next_number number read_guessed read_part read_plain taken_out";
 
 // All other small names that Rust has without a declaration: keywords, types and functions.
 const REFUSED: &str = "abstract async await become box do dyn extern final gen macro macro_rules \

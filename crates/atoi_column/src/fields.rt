@@ -23,7 +23,7 @@ use std::marker::{Model, PhantomData};
 // How many fields are read before a guess, and how many after one that was wrong or not likely.
 const PART: usize = 16;
 
-const LONG_PART: usize = 64;
+const LONG_PART: usize = 1024;
 
 const NO_GUESS: Guess = Guess {
     width: 0,
@@ -222,22 +222,24 @@ impl<'a, T: Parse> Fields<'a, T> {
     {
         let mut read = 0;
         let mut part = PART;
+        let mut are_short = true;
         while read < values.len() {
             let most = part.min(values.len() - read);
             let before = self.rest.len();
-            let found = self.read_part::<false>(values, read, most, NO_GUESS);
+            let found = self.read_plain(values, read, most, are_short);
             read += found;
-            if found < most {
+            if found < most || read == values.len() {
                 break;
             }
-            let guess = self.guess();
-            if is_likely::<T>(guess.width, most, before.saturating_sub(self.rest.len())) {
-                let run = self.read_guessed(values, read, guess);
-                read += run;
-                part = if run < PART { LONG_PART } else { PART };
+            let used = before.saturating_sub(self.rest.len());
+            let run = self.read_guessed(values, read, most, used);
+            read += run;
+            are_short = used / most < 3;
+            part = if run < PART {
+                (4 * part).min(LONG_PART)
             } else {
-                part = LONG_PART;
-            }
+                PART
+            };
         }
         read
     }
@@ -270,29 +272,51 @@ impl<'a, T: Parse> Fields<'a, T> {
         }
     }
 
-    // Reads numbers as guessed to `values[from..]`. No number waits for the end of the one before.
+    // Reads numbers of any width. If most have one digit, a test for that is predicted.
+    #[inline(always)]
+    fn read_plain(&mut self, values: &mut [T], from: usize, most: usize, are_short: bool) -> usize
+        requires { from + most ≤ length values.old }
+        ensures within { result ≤ most }
+        ensures fills { FillsMore T.int_type T.number self.old self.new values.old values.new from
+            result }
+        ensures stops { result < most → BeginsWithNoNumber (field_items_left T.int_type self.new) }
+    {
+        if are_short {
+            self.read_part::<false, true>(values, from, most, NO_GUESS)
+        } else {
+            self.read_part::<false, false>(values, from, most, NO_GUESS)
+        }
+    }
+
+    // Guesses what the next fields look like. If `most` fields of `used` bytes may look so, reads numbers to
+    // `values[from..]` as guessed: none waits for the end of the one before.
     #[inline(never)]
-    fn read_guessed(&mut self, values: &mut [T], from: usize, guess: Guess) -> usize
-        requires { from ≤ length values.old }
+    fn read_guessed(&mut self, values: &mut [T], from: usize, most: usize, used: usize) -> usize
+        requires from { from ≤ length values.old }
+        requires some { 0 < most }
         ensures within { from + result ≤ length values.old }
         ensures fills { FillsMore T.int_type T.number self.old self.new values.old values.new from
             result }
     {
-        let most = values.len() - from;
+        let guess = self.guess();
+        if !is_likely::<T>(guess.width, most, used) {
+            return 0;
+        }
+        let room = values.len() - from;
         // The compiler makes a loop for each case.
         if is_short(guess) {
-            return self.read_part::<true>(values, from, most, guess);
+            return self.read_part::<true, false>(values, from, room, guess);
         }
         match guess.width {
-            1..=8 => self.read_part::<true>(values, from, most, guess),
-            9..=16 => self.read_part::<true>(values, from, most, guess),
-            _ => self.read_part::<true>(values, from, most, guess),
+            1..=8 => self.read_part::<true, false>(values, from, room, guess),
+            9..=16 => self.read_part::<true, false>(values, from, room, guess),
+            _ => self.read_part::<true, false>(values, from, room, guess),
         }
     }
 
     // Reads at most `most` numbers to `values[from..]`. With `GUESSES`, they look as guessed.
     #[inline(always)]
-    fn read_part<const GUESSES: bool>(
+    fn read_part<const GUESSES: bool, const ONE_DIGIT: bool>(
         &mut self,
         values: &mut [T],
         from: usize,
@@ -311,7 +335,7 @@ impl<'a, T: Parse> Fields<'a, T> {
         let mut fields = self.taken_out();
         let mut at = from;
         while at < end {
-            match fields.number::<GUESSES>(guess) {
+            match fields.number::<GUESSES, ONE_DIGIT>(guess) {
                 Some(value) => {
                     values[at] = value;
                     at += 1;
@@ -326,7 +350,7 @@ impl<'a, T: Parse> Fields<'a, T> {
     // Returns the number of the next field. If there is none, or `GUESSES` and it does not look as
     // guessed, nothing changes.
     #[inline(always)]
-    fn number<const GUESSES: bool>(&mut self, guess: Guess) -> Option<T>
+    fn number<const GUESSES: bool, const ONE_DIGIT: bool>(&mut self, guess: Guess) -> Option<T>
         ensures some { IfSome result (λ value. (field_items_left T.int_type self.old
             ≡ Ok (T.number value) ∷ field_items_left T.int_type self.new)
             × (self.new ≡ after_first_field self.old)) }
@@ -337,7 +361,7 @@ impl<'a, T: Parse> Fields<'a, T> {
         if GUESSES {
             self.guessed_number(guess)
         } else {
-            self.next_number()
+            self.next_number::<ONE_DIGIT>()
         }
     }
 
@@ -358,7 +382,7 @@ impl<'a, T: Parse> Fields<'a, T> {
 
     // Returns the number of the next field, if it is one. Otherwise, nothing changes.
     #[inline(always)]
-    fn next_number(&mut self) -> Option<T>
+    fn next_number<const ONE_DIGIT: bool>(&mut self) -> Option<T>
         ensures some { IfSome result (λ value. (field_items_left T.int_type self.old
             ≡ Ok (T.number value) ∷ field_items_left T.int_type self.new)
             × (self.new ≡ after_first_field self.old)) }
@@ -369,7 +393,7 @@ impl<'a, T: Parse> Fields<'a, T> {
         if rest.is_empty() {
             return None;
         }
-        match accepted_field::<T, false>(rest, self.separator, self.trims) {
+        match accepted_field::<T, false, ONE_DIGIT>(rest, self.separator, self.trims) {
             Some((value, following)) => {
                 self.index = index + 1;
                 self.rest = following;
@@ -406,7 +430,7 @@ impl<'a, T: Parse> Iterator for Fields<'a, T> {
             return None;
         }
         self.index = index + 1;
-        match accepted_field::<T, false>(rest, self.separator, self.trims) {
+        match accepted_field::<T, false, true>(rest, self.separator, self.trims) {
             Some((value, following)) => {
                 self.rest = following;
                 Some(Ok(value))
@@ -439,7 +463,7 @@ impl<'a, T: Parse> FusedIterator for Fields<'a, T> {}
 // Returns the value of the first field of `rest`, and what follows its separator, if the field is a
 // number. `PLUS` accepts a plus.
 #[inline(always)]
-fn accepted_field<T: Parse, const PLUS: bool>(
+fn accepted_field<T: Parse, const PLUS: bool, const ONE_DIGIT: bool>(
     rest: &[u8],
     separator: u8,
     trims: bool,
@@ -453,8 +477,10 @@ fn accepted_field<T: Parse, const PLUS: bool>(
     fields_are_prefixes::<T>();
     accepted_texts::<T>();
     prefix_begins::<T>();
-    if let Some((value, following)) = short_field::<T>(rest, separator) {
-        return Some((value, following));
+    if ONE_DIGIT {
+        if let Some((value, following)) = short_field::<T>(rest, separator) {
+            return Some((value, following));
+        }
     }
     let (value, count) = first_number::<T, PLUS>(rest).ok()?;
     let following = after_field(&rest[count..], separator, trims)?;
@@ -553,7 +579,7 @@ fn read_field<'a, T: Parse>(
     ensures following { result.1.now ≡ after_first (λ byte. byte == separator) rest.now }
 {
     let after_plus = match rest {
-        [b'+', ..] => accepted_field::<T, true>(rest, separator, trims),
+        [b'+', ..] => accepted_field::<T, true, false>(rest, separator, trims),
         _ => None,
     };
     if let Some((value, following)) = after_plus {

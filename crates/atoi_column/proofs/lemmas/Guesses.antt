@@ -33,23 +33,23 @@ pub text_of_digits : (int : IntType) (bytes : List ℕ) (sign width magnitude : 
     → magnitude ≤ bound_of int (sign == 1) → number ≡ with_sign (sign == 1) magnitude
     → TextWrites int true (take (sign + width) bytes) number
 text_of_digits int bytes zero width magnitude few taken some run is fits number_is =
-  let numeral = numeral_is width bytes some run is in record {
-  sign = no_sign;
-  digits = take width bytes;
-  parts = ap (λ n. take n bytes) (zero-add width);
-  signed = λ e. absurd (cc e);
-  plus_taken = λ e. absurd (cc e);
-  written = record { numeral = numeral.0; in_range = rw numeral.1 at fits; value_is = rw numeral.1 at number_is };
-}
+    let numeral = numeral_is width bytes some run is in record {
+      sign = no_sign;
+      digits = take width bytes;
+      parts = ap (λ n. take n bytes) (zero-add width);
+      signed = λ e. absurd (cc e);
+      plus_taken = λ e. absurd (cc e);
+      written = record { numeral = numeral.0; in_range = rw numeral.1 at fits; value_is = rw numeral.1 at number_is };
+    }
 text_of_digits int bytes (suc zero) width magnitude few taken some run is fits number_is =
-  let numeral = numeral_is width (drop 1 bytes) some run is in record {
-  sign = minus;
-  digits = take width (drop 1 bytes);
-  parts = take_after minus_sign width bytes (taken (omega arith)).1;
-  signed = λ _. (taken (omega arith)).0;
-  plus_taken = λ e. absurd (cc e);
-  written = record { numeral = numeral.0; in_range = rw numeral.1 at fits; value_is = rw numeral.1 at number_is };
-}
+    let numeral = numeral_is width (drop 1 bytes) some run is in record {
+      sign = minus;
+      digits = take width (drop 1 bytes);
+      parts = take_after minus_sign width bytes (taken (omega arith)).1;
+      signed = λ _. (taken (omega arith)).0;
+      plus_taken = λ e. absurd (cc e);
+      written = record { numeral = numeral.0; in_range = rw numeral.1 at fits; value_is = rw numeral.1 at number_is };
+    }
 text_of_digits int bytes (suc (suc n)) width magnitude few taken some run is fits number_is = absurd (omega arith)
 
 -- A separator ends a field, also after a carriage return.
