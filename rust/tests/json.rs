@@ -5,9 +5,9 @@
 
 #![allow(dead_code)]
 
-#[path = "../../diff/common/src/random.rs"]
+#[path = "../../tools/common/src/random.rs"]
 mod random;
-#[path = "../../diff/compare/src/texts.rs"]
+#[path = "../../tools/compare/src/texts.rs"]
 mod texts;
 
 use random::Random;

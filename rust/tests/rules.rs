@@ -1,28 +1,28 @@
-//! Compares the results of generated calls with the rules of `docs/SPECIFICATION.md`, which `diff/compare`
+//! Compares the results of generated calls with the rules of `docs/SPECIFICATION.md`, which `tools/compare`
 //! states digit by digit, and with `str::parse`. With the feature `lanes`, the calls are those of
 //! `lanes`.
 //!
 //! `TORKETTLE_TEXTS` sets how many texts are generated. Every call, type and choice of flags is asked
 //! about each of them.
 
-// The texts, the rules and the calls are those of `diff/compare`, which uses more of them.
+// The texts, the rules and the calls are those of `tools/compare`, which uses more of them.
 #![allow(dead_code)]
 
-#[path = "../../diff/compare/src/answer.rs"]
+#[path = "../../tools/compare/src/answer.rs"]
 mod answer;
-#[path = "../../diff/compare/exports/ask.rs"]
+#[path = "../../tools/compare/exports/ask.rs"]
 mod ask;
-#[path = "../../diff/common/src/integer.rs"]
+#[path = "../../tools/common/src/integer.rs"]
 mod integer;
-#[path = "../../diff/compare/src/question.rs"]
+#[path = "../../tools/compare/src/question.rs"]
 mod question;
-#[path = "../../diff/common/src/random.rs"]
+#[path = "../../tools/common/src/random.rs"]
 mod random;
-#[path = "../../diff/compare/src/rules.rs"]
+#[path = "../../tools/compare/src/rules.rs"]
 mod rules;
-#[path = "../../diff/compare/src/standard.rs"]
+#[path = "../../tools/compare/src/standard.rs"]
 mod standard;
-#[path = "../../diff/compare/src/texts.rs"]
+#[path = "../../tools/compare/src/texts.rs"]
 mod texts;
 
 mod calls {

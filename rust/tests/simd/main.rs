@@ -10,7 +10,7 @@ mod by_arrays;
 mod by_core;
 mod by_target;
 mod inputs;
-#[path = "../../../diff/common/src/random.rs"]
+#[path = "../../../tools/common/src/random.rs"]
 #[allow(dead_code)]
 mod random;
 #[path = "../../src/simd/mod.rs"]

@@ -10,7 +10,7 @@ use torkettle_common::command::run;
 use torkettle_common::package::Package;
 
 // The file that names the engines of the package, and what is written into it for `Against::Words`.
-const ENGINES: &str = "erase/src/engines.rs";
+const ENGINES: &str = "tools/erase/src/engines.rs";
 const TUNED: &str = "atoi_fast::Swar";
 const PLAIN: &str = "atoi_core::Words";
 
@@ -54,7 +54,7 @@ fn pack_commit(cache: &Cache, commit: &str, archive: &Path) -> Result<String, St
 fn pack_checkout(cache: &Cache, archive: &Path) -> Result<String, String> {
     let mut tar = Command::new("tar");
     tar.args(["--exclude=target", "--exclude=out", "-cf"]).arg(archive);
-    let parts = ["Cargo.toml", "crates", "erase", "rust"];
+    let parts = ["Cargo.toml", "crates", "rust", "tools"];
     run(tar.arg("-C").arg(cache.repository()).args(parts))?;
     Ok(String::from("with Words"))
 }
@@ -62,7 +62,7 @@ fn pack_checkout(cache: &Cache, archive: &Path) -> Result<String, String> {
 // Makes the Rust of a package anew, with the engines that its eraser names.
 fn erase(cache: &Cache, room: &Path) -> Result<(), String> {
     let mut cargo = Command::new("cargo");
-    cargo.args(["run", "--quiet", "--manifest-path", "erase/Cargo.toml"]).current_dir(room);
+    cargo.args(["run", "--quiet", "--manifest-path", "tools/erase/Cargo.toml"]).current_dir(room);
     run(cargo.env("CARGO_TARGET_DIR", cache.folder("erase"))).map(|_| ())
 }
 
@@ -90,7 +90,7 @@ fn with_other_version(manifest: &str) -> String {
 
 #[cfg(test)]
 mod tests {
-    use super::{READ, with_other_version, with_words};
+    use super::{ENGINES, READ, with_other_version, with_words};
 
     #[test]
     fn words_replace_the_tuned_engine() {
@@ -104,13 +104,13 @@ mod tests {
         assert_eq!(with_words(&tuned), Ok(engines("atoi_core::Words")));
         assert!(with_words(include_str!("../../../erase/src/engines.rs")).is_ok());
         for refused in [engines("atoi_core::Words"), tuned.repeat(2)] {
-            assert!(with_words(&refused).is_err_and(|it| it.contains("erase/src/engines.rs")));
+            assert!(with_words(&refused).is_err_and(|it| it.contains(ENGINES)));
         }
     }
 
     #[test]
     fn fields_of_the_package_have_read() {
-        let fields = include_str!("../../../rust/src/proved/atoi_column/fields.rs");
+        let fields = include_str!("../../../../rust/src/proved/atoi_column/fields.rs");
         assert_eq!(fields.matches(READ).count(), 1);
     }
 

@@ -1,4 +1,4 @@
-//! What is timed and counted: the lines of `bench/*.txt`.
+//! What is timed and counted: the lines of `tools/bench/*.txt`.
 
 use crate::numbers::Digits;
 use crate::real;
@@ -296,7 +296,7 @@ fn rows<T>(
     let lines = text.lines().filter(|line| !line.starts_with('#'));
     let row = |line: &str| {
         let words: Vec<&str> = line.split_whitespace().collect();
-        read(&words).map_err(|fault| format!("bench/{file}: {line}: {fault}"))
+        read(&words).map_err(|fault| format!("tools/bench/{file}: {line}: {fault}"))
     };
     lines.map(row).collect()
 }

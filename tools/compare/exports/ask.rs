@@ -1,6 +1,6 @@
 //! Exports a single function, which makes any call of a Rust crate with the interface of the
-//! original. `diff/compare` writes a crate around this file, in which `calls` is the crate or its module
-//! `lanes`. The files `answer` and `question` are its own, and `integer` is from `diff/common`.
+//! original. `tools/compare` writes a crate around this file, in which `calls` is the crate or its module
+//! `lanes`. The files `answer` and `question` are its own, and `integer` is from `tools/common`.
 
 use crate::answer::{Answer, RawAnswer};
 use crate::calls::{self, AtoiSimdError, Parse, ParseNeg};

@@ -3,7 +3,7 @@
 use crate::integer::Integer;
 use std::fmt;
 
-/// One of the ten functions. Their order is the order of their numbers in `diff/compare/exports/ask.rt.in`.
+/// One of the ten functions. Their order is the order of their numbers in `tools/compare/exports/ask.rt.in`.
 #[derive(Clone, Copy, PartialEq, Eq)]
 pub enum Call {
     Parse,

@@ -10,7 +10,7 @@ pub trait Bits: Copy {
 
 macro_rules! integers {
     ($($variant:ident: $type:ty,)*) => {
-        /// One of the types. Their order is the order of their numbers in `diff/compare/exports/ask.rt.in`.
+        /// One of the types. Their order is the order of their numbers in `tools/compare/exports/ask.rt.in`.
         #[derive(Clone, Copy, PartialEq, Eq)]
         pub enum Integer {
             $($variant,)*

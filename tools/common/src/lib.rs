@@ -1,4 +1,4 @@
-//! What `diff/compare` and `bench` share: how they read arguments, a cache outside the repository, and what
+//! What `compare` and `bench` share: how they read arguments, a cache outside the repository, and what
 //! builds the Cargo package and the original there.
 
 pub mod arguments;

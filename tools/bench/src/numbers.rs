@@ -6,7 +6,7 @@ use std::ops::RangeInclusive;
 use std::str::FromStr;
 use torkettle_common::random::Random;
 
-/// How many digits the numbers of an input list have, as `bench/input_lists.txt` describes.
+/// How many digits the numbers of an input list have, as `tools/bench/input_lists.txt` describes.
 #[derive(Clone)]
 pub struct Digits {
     text: String,

@@ -1,4 +1,4 @@
-//! Real lists: the numbers of `bench/real/*.txt`, in the order of their files.
+//! Real lists: the numbers of `tools/bench/real/*.txt`, in the order of their files.
 
 use crate::tables::{Function, TimedCall};
 use std::fmt;
@@ -40,7 +40,8 @@ pub struct RealList {
 impl RealList {
     fn read(name: &'static str, text: &'static str) -> Result<RealList, String> {
         let numbers: Vec<&str> = text.lines().collect();
-        let integer = own_type(&numbers).ok_or(format!("bench/real/{name}.txt: no type fits"))?;
+        let integer =
+            own_type(&numbers).ok_or(format!("tools/bench/real/{name}.txt: no type fits"))?;
         Ok(RealList { name, numbers, integer, is_own: true })
     }
 
