@@ -1,5 +1,5 @@
 /*
- * The samples of c/README.md that are no whole programs. .ci/samples compares them with the page, and .ci/c runs
+ * The samples of c/README.md that are no whole programs. .ci/texts compares them with the page, and .ci/c runs
  * this program.
  */
 #include <torkettle.h>

@@ -1,4 +1,4 @@
-// The samples of c/README.md for C++ that are no whole programs. .ci/samples compares them with the page, and .ci/c
+// The samples of c/README.md for C++ that are no whole programs. .ci/texts compares them with the page, and .ci/c
 // runs this program.
 #include <torkettle.hpp>
 

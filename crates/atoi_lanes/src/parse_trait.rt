@@ -1,5 +1,5 @@
 //! Parses with a sign, by the engine of this crate.
-//! atoi_simd and atoi_lanes each have this file (`.ci/twins`), and `.ci/one-call` reads its bodies.
+//! atoi_simd and atoi_lanes each have this file. `.ci/texts` compares the two, and reads their bodies.
 ghost use Rattle.std.specs.Prelude.{◌≡◌, ◌≤◌, IfOk, length};
 ghost use Rattle.atoi_core.specs.Answer.{typed_answer, typed_prefix_answer, parse_answer, parse_prefix_answer};
 

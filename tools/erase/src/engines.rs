@@ -1,6 +1,6 @@
 //! The engines of the package. Which engine the ten functions run on is one alias per crate,
 //! `src/default_engine.rt`. Here other engines stand in its place, which are tuned for rustc. The clauses
-//! are over every engine, and `.ci/engines` proves the crates with these, too.
+//! are over every engine, and `.ci/kit` proves the crates with these, too.
 
 use super::erase::{Refusal, refusal};
 use std::path::Path;
