@@ -12,7 +12,7 @@ pub struct Arguments {
     pub cpu: Option<String>,
     /// Whether lanes of the package are timed too.
     pub has_lanes: bool,
-    /// Whether the ratios on real lists and the times on input lists are printed in Markdown too.
+    /// Whether tables are printed in Markdown too.
     pub is_markdown: bool,
     /// The folder with the original.
     pub original: Option<PathBuf>,
@@ -71,7 +71,7 @@ cargo run --release -- [ARGUMENT..]
   --only TEXT         time only what has TEXT in its line, as 'parse u64 -- 16' or 'column u64'. The line of a real
                       list is as 'real csv-cells u32', so 'real' times all of these. The line of a column that is
                       read with many numbers a call is as 'read u32 5'
-  --markdown          print the ratios of real lists and the times of input lists once more, as tables in Markdown
+  --markdown          print each table once more, in Markdown
   --cpu CPU           build the package for a processor (x86-64 and x86-64-v3)
   --passes N          how often everything is timed (5, at least 3)
   --seed N            which random numbers are taken (1)

@@ -3,9 +3,10 @@
 //! Valgrind runs this program once more, which then makes the calls of each cell. It counts only
 //! what is executed inside the exports, and writes the count when `cell_ends` is called.
 
-use crate::builds::Build;
+use crate::builds::Compared;
+use crate::report::Table;
 use crate::tables;
-use crate::timing::Input;
+use crate::timing::{Input, Side, Times};
 use std::env;
 use std::fs;
 use std::path::Path;
@@ -19,34 +20,30 @@ use torkettle_common::random::Random;
 // How many texts a cell has.
 const TEXTS: usize = 1024;
 
-/// The counts of one build, in one form.
-pub struct Counts {
-    pub name: String,
-    pub form: Form,
-    // For each cell the instructions per call, if the build exports the call.
-    cells: Vec<Option<Cell>>,
-}
+// For each cell, the instructions per call, if there is such a call, and whether its answers are wrong.
+type Counts = Vec<(Option<f64>, bool)>;
 
-#[derive(Clone, Copy)]
-struct Cell {
-    instructions: f64,
-    is_right: bool,
-}
-
-/// Counts the calls of a build, in each form that it exports.
-pub fn counts(cache: &Cache, build: &Build) -> Result<Vec<Counts>, String> {
-    let counts = Form::BOTH.into_iter().map(|form| {
-        let cells = cells(cache, build.object(), form)?;
-        Ok(Counts { name: build.name.clone(), form, cells })
+/// Counts the calls of builds, in each form that they export.
+pub fn table(cache: &Cache, compared: &Compared, cpu: &str) -> Result<Table, String> {
+    let (mut sides, mut counts): (Vec<_>, Vec<Counts>) = (Vec::new(), Vec::new());
+    for (number, build) in compared.builds.iter().enumerate() {
+        for form in Form::BOTH {
+            let cells = count(cache, build.object(), form)?;
+            if cells.iter().any(|(count, _)| count.is_some()) {
+                sides.push(Side { build: number, form, name: build.name.clone() });
+                counts.push(cells);
+            }
+        }
+    }
+    let times = tables::cells()?.into_iter().enumerate().map(|(number, cell)| {
+        Times::counted(cell.to_string(), vec!["all"], counts.iter().map(|cells| cells[number]))
     });
-    let has_cells = |counts: &Result<Counts, String>| {
-        counts.as_ref().is_ok_and(|counts| counts.cells.iter().all(Option::is_none))
-    };
-    counts.filter(|counts| !has_cells(counts)).collect()
+    let unit = format!("instructions per call, built for {cpu}, by callgrind");
+    Ok(Table { unit, sides, times: times.collect(), pairs: compared.pairs.clone() })
 }
 
 // Has valgrind count each cell of a shared object.
-fn cells(cache: &Cache, file: &Path, form: Form) -> Result<Vec<Option<Cell>>, String> {
+fn count(cache: &Cache, file: &Path, form: Form) -> Result<Counts, String> {
     let dump = cache.empty_folder("counted")?.join("callgrind");
     let program = env::current_exe().map_err(|error| format!("this program: {error}"))?;
     let mut valgrind = Command::new("valgrind");
@@ -56,14 +53,13 @@ fn cells(cache: &Cache, file: &Path, form: Form) -> Result<Vec<Option<Cell>>, St
     let said = run(valgrind.arg(program).arg("--cells").arg(file).arg(form.name()))?;
     let dump = fs::read_to_string(&dump).map_err(|error| failed(&dump, error))?;
     let mut totals = dump.lines().filter_map(|line| line.strip_prefix("totals: "));
-    let cell = |line: &str| match line {
-        "none" => Ok(None),
-        line => {
-            let total = totals.next().and_then(|total| total.trim().parse::<f64>().ok());
-            let total = total.ok_or("valgrind counted another number of cells")?;
-            let instructions = total / TEXTS as f64;
-            Ok(Some(Cell { instructions, is_right: line == "right" }))
+    let cell = |line: &str| {
+        if line == "none" {
+            return Ok((None, false));
         }
+        let total = totals.next().and_then(|total| total.trim().parse::<f64>().ok());
+        let total = total.ok_or("valgrind counted another number of cells")?;
+        Ok((Some(total / TEXTS as f64), line != "right"))
     };
     said.lines().map(cell).collect()
 }
@@ -90,61 +86,4 @@ pub fn make_calls(file: &Path, form: &str) -> Result<bool, String> {
 #[inline(never)]
 extern "C" fn cell_ends() {
     std::hint::black_box(());
-}
-
-/// Prints the counts of what was built for a processor, of which the first are ours, and returns how many cells
-/// had wrong answers.
-pub fn print(counts: &[Counts], cpu: &str) -> Result<usize, String> {
-    println!("\ninstructions per call, built for {cpu}, by callgrind:");
-    for (counts, letter) in counts.iter().zip('A'..) {
-        println!("    {letter}  {}, {}", counts.form.name(), counts.name);
-    }
-    let mut wrong = 0;
-    for (number, cell) in tables::cells()?.iter().enumerate() {
-        print!("{} {:3}", cell.call, cell.digits);
-        for counts in counts {
-            let shown = counts.cells[number].map(|cell| format!("{:.1}", cell.instructions));
-            print!("{:>8}", shown.unwrap_or_default());
-        }
-        let differs = |counts: &&Counts| counts.cells[number].is_some_and(|cell| !cell.is_right);
-        let differ = counts.iter().filter(differs).count();
-        println!("{}", if differ > 0 { "  WRONG ANSWERS" } else { "" });
-        wrong += differ;
-    }
-    print_means(counts);
-    Ok(wrong)
-}
-
-// Prints the geometric means, ours alone and divided by those of the other builds.
-fn print_means(counts: &[Counts]) {
-    let Some(ours) = counts.first().map(|counts| counts.name.clone()) else { return };
-    for own in counts.iter().filter(|counts| counts.name == ours) {
-        let all: Vec<f64> = own.cells.iter().flatten().map(|cell| cell.instructions).collect();
-        println!("{}: {} cells, geometric mean {:.1}", own.form.name(), all.len(), mean(&all));
-        for other in counts.iter().filter(|counts| counts.name != ours) {
-            let has_form = counts.iter().any(|it| it.name == other.name && it.form == own.form);
-            if other.form == own.form || !has_form {
-                print_ratios(own, other);
-            }
-        }
-    }
-}
-
-fn print_ratios(ours: &Counts, theirs: &Counts) {
-    let cells = ours.cells.iter().zip(&theirs.cells);
-    let ratios: Vec<f64> = cells
-        .filter_map(|(ours, theirs)| Some((*ours)?.instructions / (*theirs)?.instructions))
-        .collect();
-    let fewer = ratios.iter().filter(|ratio| **ratio < 1.0).count();
-    let worst = ratios.iter().copied().fold(0.0, f64::max);
-    println!(
-        "    {:.2} of {}, at most {worst:.2}, fewer in {fewer} of {} cells",
-        mean(&ratios),
-        theirs.name,
-        ratios.len()
-    );
-}
-
-fn mean(numbers: &[f64]) -> f64 {
-    (numbers.iter().map(|number| number.ln()).sum::<f64>() / numbers.len() as f64).exp()
 }

@@ -21,6 +21,15 @@ impl Digits {
         self.counts.iter().all(|count| *count == first).then_some(first)
     }
 
+    /// The group of lists that it belongs to.
+    pub fn group(&self) -> &'static str {
+        match self.width() {
+            None => "mixed",
+            Some(..=4) => "one width, 1 to 4 digits",
+            Some(_) => "one width, 5 digits or more",
+        }
+    }
+
     // Reads how many digits are equally likely.
     fn range(text: &str) -> Result<RangeInclusive<usize>, String> {
         let number = |text: &str| match text.parse() {

@@ -110,6 +110,8 @@ pub struct Shape {
     pub integer: Integer,
     pub digits: Digits,
     pub cut: Cut,
+    /// The groups of columns whose means include it.
+    pub groups: Vec<&'static str>,
 }
 
 /// How texts are cut into numbers.
@@ -155,9 +157,9 @@ impl Shape {
         self.cut.export(self.integer)
     }
 
-    /// The groups whose means include it in a table with the ratio of each line. Some columns are in none: lines,
-    /// short columns, and signed numbers of one width.
-    pub fn groups(&self) -> Vec<&'static str> {
+    // The groups of columns that are timed with many numbers a call. Some are in none: lines, short columns, and signed
+    // numbers of one width.
+    fn groups_of_reads(&self) -> Vec<&'static str> {
         let group = match (self.cut, self.digits.width()) {
             (Cut::Column, None) => "mixed",
             (Cut::Column, Some(width)) if !self.integer.is_signed() => match width {
@@ -203,7 +205,8 @@ pub fn shapes() -> Result<Vec<Shape>, String> {
 pub fn reads() -> Result<Vec<Shape>, String> {
     rows("reads.txt", include_str!("../reads.txt"), |words| {
         let (number, cut) = words.split_at(words.len().min(2));
-        Ok(Shape { cut: Cut::read(cut)?, ..shape(number)? })
+        let shape = Shape { cut: Cut::read(cut)?, ..shape(number)? };
+        Ok(Shape { groups: shape.groups_of_reads(), ..shape })
     })
 }
 
@@ -276,8 +279,9 @@ pub fn each_once<T: PartialEq>(all: impl Iterator<Item = T>) -> Vec<T> {
 fn shape(words: &[&str]) -> Result<Shape, String> {
     match *words {
         [integer, digits] => {
-            let (integer, digits) = (integer_named(integer)?, digits.parse()?);
-            Ok(Shape { integer, digits, cut: Cut::Column })
+            let (integer, digits): (_, Digits) = (integer_named(integer)?, digits.parse()?);
+            let groups = vec![digits.group()];
+            Ok(Shape { integer, digits, cut: Cut::Column, groups })
         }
         _ => Err(String::from("a line is TYPE DIGITS")),
     }
@@ -326,13 +330,11 @@ mod tests {
     #[test]
     fn groups_of_reads() {
         let reads = reads().unwrap();
-        let count = |part| {
-            let groups = |shape: &Shape| shape.groups().concat();
-            reads.iter().filter(|shape| groups(shape).contains(part)).count()
-        };
+        let count =
+            |part| reads.iter().filter(|shape| shape.groups.concat().contains(part)).count();
         let parts = ["1 to 8 digits", "9 to 15 digits", "16 digits or more", "mixed"];
         assert_eq!(parts.map(count), [16, 8, 5, 5]);
-        let has_none = |shape: &&Shape| shape.groups().is_empty();
+        let has_none = |shape: &&Shape| shape.groups.is_empty();
         assert_eq!(reads.iter().filter(has_none).count(), 2 + 2 + 8);
     }
 

@@ -46,8 +46,8 @@ const CUTS: [Cut; 3] = [Cut::Column, Cut::Lines, Cut::Columns(1)];
 
 /// What is called from C and C++.
 pub struct OfC {
-    /// The C library, and then what it is compared with.
-    pub builds: Vec<Build>,
+    /// The C library and what it is compared with.
+    pub calls: Compared,
     /// What parses slices of a text of real numbers: ours, and then what it is compared with.
     pub slices: Compared,
     /// What reads a text of real numbers: four ways of ours, and then what they are compared with.
@@ -101,11 +101,11 @@ pub fn builds(cache: &Cache, package: &Package, other: Option<&Other>) -> Result
         Some((name, files)) => vec![build(name.to_string(), OURS, files)],
         None => vec![standard.clone(), build("the column in C, by _next".into(), NEXT, &ours)],
     };
-    let builds = [vec![build(name.into(), OURS, &ours)], others].concat();
+    let calls = Compared::with_first([vec![build(name.into(), OURS, &ours)], others].concat());
     let mut reads = compared(READS);
     let range = READS.len() - 1;
     reads.pairs.extend((0..range).map(|read| (range, read)));
-    Ok(OfC { builds, slices: compared(SLICES), texts: compared(TEXTS), reads })
+    Ok(OfC { calls, slices: compared(SLICES), texts: compared(TEXTS), reads })
 }
 
 fn version(compiler: &str) -> Result<String, String> {

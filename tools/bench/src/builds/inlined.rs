@@ -22,12 +22,14 @@ const LAYOUTS: [&str; 2] = ["", " -C llvm-args=-align-all-nofallthru-blocks=5"];
 
 /// A program with inlined calls, and what is timed of it.
 pub struct Inlined {
-    /// Both forms of ours, and then the libraries that it is compared with.
-    pub builds: Vec<Build>,
-    /// The iterator that goes on after an error, and then what it is compared with. Not for another package.
-    pub going_on: Vec<Build>,
+    /// Ours and the libraries that it is compared with.
+    pub calls: Compared,
+    /// The iterator that goes on after an error and what it is compared with. There are none for another package.
+    pub going_on: Compared,
+    /// The same without `Column`, which does not go on.
+    pub with_errors: Compared,
     /// What reads formats.
-    pub formats: Vec<Build>,
+    pub formats: Compared,
     /// What reads a text of real numbers: four ways of ours, and then what they are compared with.
     pub texts: Compared,
     /// What reads many numbers a call, and what that is compared with.
@@ -180,15 +182,19 @@ fn program(
     let builds = |is_in: fn(&Part) -> bool| -> Vec<Build> {
         parts.iter().filter(|part| is_in(part)).map(|part| part.build(&files)).collect()
     };
-    let mut going_on = builds(|part| part.use_of == Use::ColumnsThatGoOn);
+    let with_errors = builds(|part| part.use_of == Use::ColumnsThatGoOn);
+    let mut going_on = with_errors.clone();
     if !going_on.is_empty() {
-        going_on.insert(1, Build { name: String::from("Column"), ..parts[0].build(&files) });
+        going_on.push(Build { name: String::from("Column"), ..parts[0].build(&files) });
     }
-    let formats = builds(|part| part.formats.is_some());
-    let texts = compared(parts, &files, Part::reads_texts);
-    let reads = compared(parts, &files, Part::is_in_reads);
-    let builds = builds(|part| part.use_of == Use::CallsAndColumns);
-    Ok(Inlined { builds, going_on, formats, texts, reads })
+    Ok(Inlined {
+        calls: Compared::with_first(builds(|part| part.use_of == Use::CallsAndColumns)),
+        going_on: Compared::with_first(going_on),
+        with_errors: Compared::with_first(with_errors),
+        formats: Compared::with_first(builds(|part| part.formats.is_some())),
+        texts: compared(parts, &files, Part::reads_texts),
+        reads: compared(parts, &files, Part::is_in_reads),
+    })
 }
 
 // What reads texts. Each way of ours is compared with the same way of another package, and with every way of

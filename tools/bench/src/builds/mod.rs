@@ -44,6 +44,14 @@ pub struct Compared {
     pub pairs: Vec<(usize, usize)>,
 }
 
+impl Compared {
+    /// The first with each of the others.
+    pub fn with_first(builds: Vec<Build>) -> Compared {
+        let pairs = (1..builds.len()).map(|theirs| (0, theirs)).collect();
+        Compared { builds, pairs }
+    }
+}
+
 /// Code that is timed or counted, under the name that the tables have.
 #[derive(Clone)]
 pub struct Build {

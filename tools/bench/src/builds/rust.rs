@@ -1,7 +1,7 @@
 //! The libraries whose instructions are counted. Each is a shared object with an export for each call.
 
 use super::source::{HEAD, Parse};
-use super::{Build, Others};
+use super::{Build, Compared, Others};
 use crate::tables;
 use std::process::Command;
 use torkettle_common::Form;
@@ -26,7 +26,7 @@ pub fn counted(
     ours: &Package,
     others: &Others,
     cpu: &str,
-) -> Result<Vec<Build>, String> {
+) -> Result<Compared, String> {
     let build = |name: &str, forms, dependency| build(cache, name, forms, dependency, cpu);
     let package = |name: &str, package: &Package| {
         build(name, PACKAGE, Some(package.dependency("calls").with_feature("lanes")))
@@ -43,7 +43,7 @@ pub fn counted(
             builds.push(build(&prefix, STANDARD_PREFIX, None)?);
         }
     }
-    Ok(builds)
+    Ok(Compared::with_first(builds))
 }
 
 /// What tables call `str::parse` on whole texts, and on the digits at the start of a text.

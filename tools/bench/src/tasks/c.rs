@@ -1,9 +1,8 @@
 //! Times the calls from C and C++.
 
-use super::{MANY, columns, lists, reads, real_columns, slices};
+use super::{MANY, columns, lists, print, reads, real_columns, slices};
 use crate::arguments::{Arguments, Work};
 use crate::builds::{self, Compared};
-use crate::report::Table;
 use crate::tables;
 use crate::timing::Task;
 use torkettle_common::cache::Cache;
@@ -24,18 +23,13 @@ pub fn run(arguments: &Arguments, cache: &Cache) -> Result<usize, String> {
             return Ok(0);
         }
     };
-    let time = |tasks: Vec<Task>, unit: &str| {
-        Ok::<usize, String>(Table::new(&built.builds, tasks, unit, arguments.passes)?.print())
+    let time = |compared: &Compared, tasks: Vec<Task>, item: &str| {
+        print(arguments, compared, tasks, &format!("{item}, from C and C++"))
     };
-    let time_texts = |compared: &Compared, tasks: Vec<Task>, unit: &str| {
-        let table = Table::new(&compared.builds, tasks, unit, arguments.passes)?;
-        Ok::<usize, String>(table.print_lists(&compared.pairs, arguments.is_markdown))
-    };
-    let unit = "number of a real list in one text, from C and C++";
     let random = &mut Random::new(arguments.seed);
-    Ok(time_texts(&built.slices, slices(arguments)?, "slice of a real list, from C++")?
-        + time_texts(&built.texts, real_columns(arguments)?, unit)?
-        + time_texts(&built.reads, reads(arguments)?, &format!("{MANY}, from C and C++"))?
-        + time(lists(arguments, tables::c_lists()?, random), "call, from C++")?
-        + time(columns(arguments, false, random)?, "field, from C and C++")?)
+    Ok(time(&built.slices, slices(arguments)?, "slice of a real list")?
+        + time(&built.texts, real_columns(arguments)?, "number of a real list in one text")?
+        + time(&built.reads, reads(arguments)?, MANY)?
+        + time(&built.calls, lists(arguments, tables::c_lists()?, random), "call")?
+        + time(&built.calls, columns(arguments, false, random)?, "field")?)
 }

@@ -13,11 +13,8 @@ pub fn run(arguments: &Arguments, cache: &Cache) -> Result<usize, String> {
     let others = others(arguments, cache)?;
     let mut wrong = 0;
     for cpu in arguments.processors() {
-        let mut counts = Vec::new();
-        for build in builds::counted(cache, &ours, &others, cpu)? {
-            counts.extend(count::counts(cache, &build)?);
-        }
-        wrong += count::print(&counts, cpu)?;
+        let compared = builds::counted(cache, &ours, &others, cpu)?;
+        wrong += count::table(cache, &compared, cpu)?.print(arguments.is_markdown);
     }
     Ok(wrong)
 }

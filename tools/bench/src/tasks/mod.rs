@@ -5,9 +5,10 @@ mod count;
 mod inlined;
 
 use crate::arguments::{Arguments, Work};
-use crate::builds::{self, Others};
+use crate::builds::{self, Compared, Others};
 use crate::formats::Format;
 use crate::real::{self, RealList};
+use crate::report::Table;
 use crate::tables::{self, InputList};
 use crate::timing::{Task, processor};
 use torkettle_common::cache::Cache;
@@ -37,6 +38,20 @@ pub fn run(arguments: &Arguments) -> Result<usize, String> {
         wrong += c::run(arguments, &cache)?;
     }
     Ok(wrong)
+}
+
+// Times tasks, prints their table, and returns how many builds gave wrong answers to a line.
+fn print(
+    arguments: &Arguments,
+    compared: &Compared,
+    tasks: Vec<Task>,
+    unit: &str,
+) -> Result<usize, String> {
+    if tasks.is_empty() || compared.builds.is_empty() {
+        return Ok(0);
+    }
+    let table = Table::timed(compared, tasks, unit, arguments.passes)?;
+    Ok(table.print(arguments.is_markdown))
 }
 
 // What the package is compared with.

@@ -6,7 +6,7 @@ pub mod processor;
 mod ratios;
 
 pub use input::Input;
-pub use ratios::{Comparison, Ratios};
+pub use ratios::Comparison;
 
 use crate::builds::Build;
 use crate::formats::Format;
@@ -53,9 +53,7 @@ pub struct Task {
 /// The times of all sides on one input list, column or format.
 pub struct Times {
     pub name: String,
-    /// The number of digits, if all numbers have the same.
-    pub width: Option<usize>,
-    /// The groups of lines to which it belongs in a table with the ratio of each line.
+    /// The groups of lines whose means include it.
     pub groups: Vec<&'static str>,
     // For each pass and side, the best round at each placement.
     passes: Vec<Vec<Vec<f64>>>,
@@ -68,15 +66,22 @@ pub struct Times {
 }
 
 impl Times {
-    /// A line that is not timed yet.
-    pub fn new(name: String, width: Option<usize>, groups: Vec<&'static str>) -> Times {
+    // A line that is not timed yet.
+    fn new(name: String, groups: Vec<&'static str>) -> Times {
         let (passes, is_wrong) = (Vec::new(), Vec::new());
-        Times { name, width, groups, passes, is_wrong, rounds: 0, shared: 0 }
+        Times { name, groups, passes, is_wrong, rounds: 0, shared: 0 }
     }
 
-    /// Adds a pass: for each side, the best round at each placement.
-    pub fn push_pass(&mut self, best: Vec<Vec<f64>>) {
-        self.passes.push(best);
+    /// A line that is counted and not timed: for each side, its figure, if it has one, and whether its answers were
+    /// wrong.
+    pub fn counted(
+        name: String,
+        groups: Vec<&'static str>,
+        sides: impl IntoIterator<Item = (Option<f64>, bool)>,
+    ) -> Times {
+        let (figures, is_wrong): (Vec<Option<f64>>, _) = sides.into_iter().unzip();
+        let pass = figures.into_iter().map(|figure| figure.into_iter().collect()).collect();
+        Times { passes: vec![pass], is_wrong, rounds: 1, ..Times::new(name, groups) }
     }
 
     /// The time of a side in nanoseconds, over all passes.
@@ -105,24 +110,21 @@ impl Task {
     pub fn list(list: &InputList, random: &mut Random) -> Task {
         let exports = Form::BOTH.map(|form| (form, list.call.export(form))).to_vec();
         let input = Input::list(list, ROWS, random);
-        let times = Times::new(list.to_string(), list.digits.width(), Vec::new());
-        Task::new(times, exports, input)
+        Task::new(Times::new(list.to_string(), vec![list.digits.group()]), exports, input)
     }
 
     /// What is done with a column, or with many of them. One field in ten is no number if `has_errors`.
     pub fn column(shape: &Shape, has_errors: bool, random: &mut Random) -> Task {
         let exports = vec![(Form::Words, shape.export())];
         let input = Input::column(shape, has_errors, random);
-        let times = Times::new(shape.to_string(), shape.digits.width(), shape.groups());
-        Task::new(times, exports, input)
+        Task::new(Times::new(shape.to_string(), shape.groups.clone()), exports, input)
     }
 
     /// What is done with texts of a format.
     pub fn format(format: Format, random: &mut Random) -> Task {
         let exports = vec![(Form::Words, format.export())];
         let input = Input::format(format, ROWS, random);
-        let times = Times::new(format!("{:10}", format.name()), None, Vec::new());
-        Task::new(times, exports, input)
+        Task::new(Times::new(String::from(format.name()), Vec::new()), exports, input)
     }
 
     /// What is done with the slices of a real list.
@@ -138,7 +140,7 @@ impl Task {
     }
 
     fn real(list: &RealList, exports: Vec<(Form, String)>, input: Input) -> Task {
-        let times = Times::new(list.to_string(), None, list.groups());
+        let times = Times::new(list.to_string(), list.groups());
         Task { rounds: REAL_ROUNDS, ..Task::new(times, exports, input) }
     }
 
@@ -161,7 +163,7 @@ impl Task {
         for round in 0..self.rounds * places {
             self.round(round % places, &mut best);
         }
-        self.times.push_pass(best);
+        self.times.passes.push(best);
     }
 
     // Runs each side once at one placement, which all sides have that have an export.
@@ -201,7 +203,6 @@ pub fn sides(builds: &[Build], tasks: &mut [Task]) -> Result<Vec<Side>, String> 
 
 /// Times every task in each pass. This also keeps the program on one processor.
 pub fn time(mut tasks: Vec<Task>, passes: usize) -> Vec<Times> {
-    let passes = if tasks.is_empty() { 0 } else { passes };
     processor::pin();
     for pass in 1..=passes {
         tasks.iter_mut().for_each(Task::pass);
