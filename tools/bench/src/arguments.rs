@@ -42,7 +42,7 @@ pub enum Work {
     Inlined,
     /// The calls from C and C++ are timed.
     C,
-    /// Instructions are counted.
+    /// The instructions of the calls inlined in Rust are counted.
     Count,
 }
 
@@ -63,7 +63,7 @@ cargo run --release -- [ARGUMENT..]
   (no argument)       time everything
   --inlined-only      only time the Cargo package and other libraries, inlined in Rust
   --c-only            only time the C library and std::from_chars, called from C and C++
-  --count             only count instructions, of the package and of other libraries, --against or --words
+  --count             only count the instructions of input lists and columns, inlined in Rust
   --against COMMIT    only time the package and that of a commit, inlined in Rust, or with --c-only the C library
                       and that of a commit
   --words             only time the package and the same with the engine Words, inlined in Rust

@@ -1,82 +1,82 @@
-//! Counts the instructions of calls with valgrind. They are the same on a busy machine.
+//! Counts the instructions of loops with valgrind. They are the same on a busy machine.
 //!
-//! Valgrind runs this program once more, which then makes the calls of each cell. It counts only
-//! what is executed inside the exports, and writes the count when `cell_ends` is called.
+//! Valgrind runs this program once more, which then calls each export of a build with its input. It counts only what
+//! is executed inside the exports, and writes the count when `export_ends` is called.
 
-use crate::builds::Compared;
+use crate::builds::{Build, Compared};
 use crate::report::Table;
-use crate::tables;
-use crate::timing::{Input, Side, Times};
+use crate::timing::{Side, Task, Times};
 use std::env;
 use std::fs;
-use std::path::Path;
 use std::process::Command;
 use torkettle_common::Form;
 use torkettle_common::cache::{Cache, failed};
 use torkettle_common::command::run;
-use torkettle_common::object::Object;
-use torkettle_common::random::Random;
 
-// How many texts a cell has.
-const TEXTS: usize = 1024;
+// The instructions of a task per item, if the build has an export for it, and whether the answer is wrong.
+type Count = (Option<f64>, bool);
 
-// For each cell, the instructions per call, if there is such a call, and whether its answers are wrong.
-type Counts = Vec<(Option<f64>, bool)>;
-
-/// Counts the calls of builds, in each form that they export.
-pub fn table(cache: &Cache, compared: &Compared, cpu: &str) -> Result<Table, String> {
-    let (mut sides, mut counts): (Vec<_>, Vec<Counts>) = (Vec::new(), Vec::new());
-    for (number, build) in compared.builds.iter().enumerate() {
-        for form in Form::BOTH {
-            let cells = count(cache, build.object(), form)?;
-            if cells.iter().any(|(count, _)| count.is_some()) {
-                sides.push(Side { build: number, form, name: build.name.clone() });
-                counts.push(cells);
+/// Counts what the builds execute for the tasks of a table, which this program finds by its number once more.
+pub fn table(
+    cache: &Cache,
+    compared: &Compared,
+    (number, tasks): (usize, &[Task]),
+    unit: &str,
+) -> Result<Table, String> {
+    let (mut sides, mut counts): (Vec<Side>, Vec<Vec<Count>>) = (Vec::new(), Vec::new());
+    for (build, it) in compared.builds.iter().enumerate() {
+        let counted = count(cache, it, number, tasks)?;
+        for (form, counted) in Form::BOTH.into_iter().zip(counted.chunks(tasks.len())) {
+            if counted.iter().any(|(count, _)| count.is_some()) {
+                sides.push(Side { build, form, name: it.name.clone() });
+                counts.push(counted.to_vec());
             }
         }
     }
-    let times = tables::cells()?.into_iter().enumerate().map(|(number, cell)| {
-        Times::counted(cell.to_string(), vec!["all"], counts.iter().map(|cells| cells[number]))
+    let times = tasks.iter().enumerate().map(|(row, task)| {
+        let Times { name, groups, .. } = task.times();
+        Times::counted(name.clone(), groups.clone(), counts.iter().map(|side| side[row]))
     });
-    let unit = format!("instructions per call, built for {cpu}, by callgrind");
+    let unit = format!("instructions per {unit}, by callgrind");
     Ok(Table { unit, sides, times: times.collect(), pairs: compared.pairs.clone() })
 }
 
-// Has valgrind count each cell of a shared object.
-fn count(cache: &Cache, file: &Path, form: Form) -> Result<Counts, String> {
+// Has valgrind count each task, in each form.
+fn count(cache: &Cache, build: &Build, table: usize, tasks: &[Task]) -> Result<Vec<Count>, String> {
     let dump = cache.empty_folder("counted")?.join("callgrind");
     let program = env::current_exe().map_err(|error| format!("this program: {error}"))?;
     let mut valgrind = Command::new("valgrind");
-    valgrind.args(["--tool=callgrind", "--combine-dumps=yes", "--dump-after=cell_ends"]);
-    valgrind.arg("--toggle-collect=speed_*");
-    valgrind.arg(format!("--callgrind-out-file={}", dump.display()));
-    let said = run(valgrind.arg(program).arg("--cells").arg(file).arg(form.name()))?;
+    valgrind.args(["--tool=callgrind", "--combine-dumps=yes", "--dump-after=export_ends"]);
+    valgrind.arg(format!("--toggle-collect={}*", build.prefix));
+    valgrind.arg(format!("--callgrind-out-file={}", dump.display())).arg(program);
+    valgrind.arg("--exports").arg(table.to_string()).arg(build.object()).arg(&build.prefix);
+    let said = run(valgrind.args(env::args().skip(1)))?;
     let dump = fs::read_to_string(&dump).map_err(|error| failed(&dump, error))?;
     let mut totals = dump.lines().filter_map(|line| line.strip_prefix("totals: "));
-    let cell = |line: &str| {
+    let count = |(line, task): (&str, &Task)| {
         if line == "none" {
             return Ok((None, false));
         }
         let total = totals.next().and_then(|total| total.trim().parse::<f64>().ok());
-        let total = total.ok_or("valgrind counted another number of cells")?;
-        Ok((Some(total / TEXTS as f64), line != "right"))
+        let total = total.ok_or("valgrind counted another number of exports")?;
+        Ok((Some(total / task.items() as f64), line != "right"))
     };
-    said.lines().map(cell).collect()
+    said.lines().zip(tasks.iter().chain(tasks)).map(count).collect()
 }
 
-/// Makes the calls of each cell, and prints whether the answers are right. Valgrind runs it.
-pub fn make_calls(file: &Path, form: &str) -> Result<bool, String> {
-    let form = if form == Form::Lanes.name() { Form::Lanes } else { Form::Words };
-    let object = Object::open(file)?;
-    for (number, cell) in tables::cells()?.iter().enumerate() {
-        let Some(call) = object.call(&cell.call.export(form)) else {
-            println!("none");
-            continue;
-        };
-        let input = Input::list(cell, TEXTS, &mut Random::new(number as u64));
-        let is_right = input.sum_of_calls(call) == input.expected;
-        cell_ends();
-        println!("{}", if is_right { "right" } else { "wrong" });
+/// Calls the export of a build for each task, in each form, and prints whether the answer is right. Valgrind runs it.
+pub fn call_exports(build: &Build, tasks: &[Task]) -> Result<bool, String> {
+    for (form, task) in
+        Form::BOTH.into_iter().flat_map(|form| tasks.iter().map(move |it| (form, it)))
+    {
+        let is_right = task.is_right(build, form)?;
+        if is_right.is_some() {
+            export_ends();
+        }
+        println!(
+            "{}",
+            is_right.map_or("none", |is_right| if is_right { "right" } else { "wrong" })
+        );
     }
     Ok(true)
 }
@@ -84,6 +84,6 @@ pub fn make_calls(file: &Path, form: &str) -> Result<bool, String> {
 /// Valgrind writes a count when this returns.
 #[unsafe(no_mangle)]
 #[inline(never)]
-extern "C" fn cell_ends() {
+extern "C" fn export_ends() {
     std::hint::black_box(());
 }

@@ -1,4 +1,4 @@
-//! What is timed and counted: the lines of `tools/bench/*.txt`.
+//! What is timed: the lines of `tools/bench/*.txt`.
 
 use crate::numbers::Digits;
 use crate::real;
@@ -213,33 +213,13 @@ pub fn reads() -> Result<Vec<Shape>, String> {
 /// What is timed from C and C++: two calls for each line of the file.
 pub fn c_lists() -> Result<Vec<InputList>, String> {
     let numbers = rows("c_lists.txt", include_str!("../c_lists.txt"), shape)?;
-    let list = |function| numbers.iter().map(move |shape| shape.list(function, false, false));
+    let list = |function| numbers.iter().map(move |shape| shape.list(function));
     Ok(list(Function::Parse).chain(list(Function::Prefix)).collect())
-}
-
-/// The cells whose instructions are counted: five calls for each line of the file.
-pub fn cells() -> Result<Vec<InputList>, String> {
-    let numbers = rows("cells.txt", include_str!("../cells.txt"), shape)?;
-    let cells = |shape: &Shape| {
-        [
-            shape.list(Function::Parse, false, false),
-            shape.list(Function::Parse, true, true),
-            shape.list(Function::Prefix, false, false),
-            shape.list(Function::Prefix, true, true),
-            shape.list(Function::PrefixPos, true, false),
-        ]
-    };
-    Ok(numbers.iter().flat_map(cells).collect())
 }
 
 /// Each call that is timed in Rust, once.
 pub fn calls() -> Result<Vec<TimedCall>, String> {
     Ok(each_once(input_lists()?.into_iter().map(|list| list.call)))
-}
-
-/// Each call whose instructions are counted, once.
-pub fn counted_calls() -> Result<Vec<TimedCall>, String> {
-    Ok(each_once(cells()?.into_iter().map(|cell| cell.call)))
 }
 
 /// Each call that is timed from C and C++, once.
@@ -260,8 +240,9 @@ pub fn column_types() -> Result<Vec<Integer>, String> {
 
 impl Shape {
     // An input list of numbers of this type and of so many digits.
-    fn list(&self, function: Function, skip_zeroes: bool, skip_plus: bool) -> InputList {
-        let call = TimedCall { function, integer: self.integer, skip_zeroes, skip_plus };
+    fn list(&self, function: Function) -> InputList {
+        let (integer, skip_zeroes, skip_plus) = (self.integer, false, false);
+        let call = TimedCall { function, integer, skip_zeroes, skip_plus };
         InputList { call, digits: self.digits.clone() }
     }
 }
@@ -307,7 +288,7 @@ fn rows<T>(
 
 #[cfg(test)]
 mod tests {
-    use super::{Cut, Shape, c_lists, calls, cells, counted_calls, input_lists, reads, shapes};
+    use super::{Cut, Shape, c_lists, calls, input_lists, reads, shapes};
     use std::collections::BTreeSet;
     use torkettle_common::Form;
 
@@ -316,7 +297,6 @@ mod tests {
         assert_eq!(input_lists().map(|lists| lists.len() >= 30), Ok(true));
         assert_eq!(shapes().map(|shapes| shapes.len() >= 8), Ok(true));
         assert_eq!(reads().map(|reads| reads.len() >= 40), Ok(true));
-        assert_eq!(cells().map(|cells| cells.len() % 5), Ok(0));
         assert_eq!(c_lists().map(|lists| lists.len() % 2), Ok(0));
     }
 
@@ -349,9 +329,8 @@ mod tests {
 
     #[test]
     fn exports_have_names_of_their_own() {
-        for calls in [calls().unwrap(), counted_calls().unwrap()] {
-            let names = calls.iter().flat_map(|call| Form::BOTH.map(|form| call.export(form)));
-            assert_eq!(names.collect::<BTreeSet<_>>().len(), 2 * calls.len());
-        }
+        let calls = calls().unwrap();
+        let names = calls.iter().flat_map(|call| Form::BOTH.map(|form| call.export(form)));
+        assert_eq!(names.collect::<BTreeSet<_>>().len(), 2 * calls.len());
     }
 }

@@ -74,8 +74,11 @@ pub fn builds(cache: &Cache, package: &Package, other: Option<&Other>) -> Result
             Ok(vec![loops, columns, library(&folder, &cache.folder(target))?])
         })
     };
-    let build =
-        |name: String, prefix, files: &Vec<PathBuf>| Build { name, prefix, files: files.clone() };
+    let build = |name, prefix: &str, files: &Vec<PathBuf>| Build {
+        name,
+        prefix: prefix.into(),
+        files: files.clone(),
+    };
     let ours = files(package, cache.repository(), "c")?;
     let theirs = match other {
         Some(other) => Some((&other.name, files(&other.package, &other.folder, "c-other")?)),

@@ -3,16 +3,17 @@
 //! addresses: the layout and the address of a loop alone would move its time by up to 30 %.
 
 use super::place::{WITHIN_32_BYTES, placed};
-use super::rust::names_of_standard;
 use super::source::{Calls, Column, HEAD, Parse};
 use super::{Build, Compared, Others};
 use crate::formats::{self, Bodies, Format};
 use crate::real;
 use crate::tables::{self, Cut, TimedCall};
 use std::path::PathBuf;
+use std::process::Command;
 use torkettle_common::Form;
 use torkettle_common::cache::Cache;
 use torkettle_common::cargo::{Dependency, Generated, Kind};
+use torkettle_common::command::run;
 use torkettle_common::integer::Integer;
 use torkettle_common::original;
 use torkettle_common::package::Package;
@@ -113,9 +114,12 @@ fn libraries(has_original: bool, cpu: &str) -> Result<Vec<Part>, String> {
         Part { use_of: Use::Texts, ..part(&name, "original_split_", split) },
     ];
     let original = original.into_iter().filter(|_| has_original);
-    let [whole, prefix] = names_of_standard()?;
+    let version = run(Command::new("rustc").arg("--version"))?;
+    let version = version.split_whitespace().nth(1).unwrap_or_default();
+    let whole = part(&format!("str::parse, rustc {version}"), "std_", STANDARD);
+    let prefix = format!("str::parse on the leading digits, {version}");
     let standard = [
-        Part { formats: Some(formats::standard), ..part(&whole, "std_", STANDARD) },
+        Part { formats: Some(formats::standard), ..whole },
         part(&prefix, "digits_", STANDARD_PREFIX),
         Part {
             formats: Some(formats::by_hand),
@@ -233,7 +237,8 @@ fn source(parts: &[Part]) -> Result<(String, Vec<String>), String> {
 
 impl Part {
     fn build(&self, files: &[PathBuf]) -> Build {
-        Build { name: self.name.clone(), prefix: self.prefix, files: files.to_vec() }
+        let (name, prefix) = (self.name.clone(), self.prefix.to_string());
+        Build { name, prefix, files: files.to_vec() }
     }
 
     // The name and the source of each loop.

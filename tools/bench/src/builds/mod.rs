@@ -1,4 +1,4 @@
-//! Builds what is timed and counted: the package of this checkout, another package, other libraries and the C
+//! Builds what is timed: the package of this checkout, another package, other libraries and the C
 //! library. All builds export their calls under the same names (`TimedCall::export`), so that each is called
 //! in the same way.
 
@@ -6,13 +6,11 @@ mod c;
 mod inlined;
 mod packages;
 mod place;
-mod rust;
 mod source;
 
 pub use c::builds as of_c;
 pub use inlined::{Inlined, inlined};
 pub use packages::package;
-pub use rust::counted;
 
 use std::path::{Path, PathBuf};
 use torkettle_common::cargo::Dependency;
@@ -56,13 +54,18 @@ impl Compared {
 #[derive(Clone)]
 pub struct Build {
     pub name: String,
-    // What the names of its exports begin with.
-    prefix: &'static str,
+    /// What the names of its exports begin with.
+    pub prefix: String,
     // Shared objects of the same code, each at another placement.
     files: Vec<PathBuf>,
 }
 
 impl Build {
+    /// A build of which only one file is known, and what the names of its exports begin with.
+    pub fn of_file(file: &str, prefix: &str) -> Build {
+        Build { name: String::new(), prefix: prefix.to_string(), files: vec![PathBuf::from(file)] }
+    }
+
     /// An export at each placement. There are none if it has no such export.
     pub fn calls(&self, export: &str) -> Result<Vec<Call>, String> {
         let name = format!("{}{export}", self.prefix);

@@ -1,5 +1,5 @@
-//! The text of the exports of libraries in Rust: a call, a loop over an input list, a loop over slices
-//! of a text, and a loop over a column or over many.
+//! The text of the exports of libraries in Rust: a loop over an input list, over slices of a text, and over a
+//! column or many.
 
 use crate::tables::{Cut, Function, TimedCall};
 use torkettle_common::integer::Integer;
@@ -32,16 +32,6 @@ impl Parse {
             (Parse::StandardPrefix, false) => Some(String::from("from_prefix::<T>(text)")),
             (Parse::Standard | Parse::StandardPrefix, _) => None,
         }
-    }
-
-    /// An export that makes one call. None if the library has no such call.
-    pub fn call(self, name: &str, call: &TimedCall) -> Option<String> {
-        let found = found(call);
-        let body = format!(
-            "\n    match {} {{\n        {found}\n        None => ERROR,\n    }}",
-            self.expression(call)?
-        );
-        Some(export(name, call.integer, &body))
     }
 }
 

@@ -1,8 +1,9 @@
 //! Does what the arguments say. Each task is a module.
 
 mod c;
-mod count;
 mod inlined;
+
+pub use inlined::call_exports;
 
 use crate::arguments::{Arguments, Work};
 use crate::builds::{self, Compared, Others};
@@ -28,10 +29,7 @@ pub fn run(arguments: &Arguments) -> Result<usize, String> {
         println!("the processor does not predict indirect jumps: libraries with them take longer");
     }
     let mut wrong = 0;
-    if work == Work::Count {
-        wrong += count::run(arguments, &cache)?;
-    }
-    if work.includes(Work::Inlined) {
+    if work == Work::Count || work.includes(Work::Inlined) {
         wrong += inlined::run(arguments, &cache)?;
     }
     if work.includes(Work::C) {

@@ -137,14 +137,6 @@ impl Input {
             }
         }
     }
-
-    /// Calls an export with each row, and returns the sum of the answers. Other texts have no rows.
-    pub fn sum_of_calls(&self, call: Call) -> u64 {
-        let Texts::Rows(rows) = &self.texts else { return 0 };
-        // SAFETY: an export reads as many bytes of the text as the length says.
-        let answer = |row: &Row| unsafe { call(row.bytes.as_ptr(), row.length) };
-        rows.iter().map(answer).fold(0, u64::wrapping_add)
-    }
 }
 
 // The sum of the values of these texts at a type.

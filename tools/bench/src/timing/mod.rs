@@ -156,6 +156,22 @@ impl Task {
         }
     }
 
+    /// What is known of its line.
+    pub fn times(&self) -> &Times {
+        &self.times
+    }
+
+    /// How many texts or fields it has.
+    pub fn items(&self) -> usize {
+        self.input.items
+    }
+
+    /// Calls the export of a build once, and returns whether the answer is right. None if there is no such export.
+    pub fn is_right(&self, build: &Build, form: Form) -> Result<Option<bool>, String> {
+        let call = self.calls(build, form)?.first().copied();
+        Ok(call.map(|call| self.input.sum(call) == self.input.expected))
+    }
+
     fn pass(&mut self) {
         let places = self.sides.iter().map(Vec::len).max().unwrap_or_default();
         let mut best: Vec<Vec<f64>> =
