@@ -148,27 +148,25 @@ mod tests {
 
     #[test]
     fn tasks() {
-        let task = |words| read(words).map(|arguments| arguments.work);
-        assert_eq!(task(""), Ok(Work::Everything));
-        assert_eq!(task("--against HEAD"), Ok(Work::Inlined));
-        assert_eq!(task("--inlined-only --against HEAD"), Ok(Work::Inlined));
-        assert_eq!(task("--count --against HEAD"), Ok(Work::Count));
-        assert_eq!(task("--c-only --against HEAD"), Ok(Work::C));
-        assert_eq!(task("--words"), Ok(Work::Inlined));
-        assert_eq!(task("--count --words"), Ok(Work::Count));
-        let refused =
-            ["--c-only --words", "--words --against HEAD", "--c-only --count", "--passes 2"];
-        for words in refused {
-            assert!(read(words).is_err());
+        let against = || Some(Against::Commit(String::from("HEAD")));
+        for (words, work, against) in [
+            ("", Work::Everything, None),
+            ("--against HEAD", Work::Inlined, against()),
+            ("--inlined-only --against HEAD", Work::Inlined, against()),
+            ("--count", Work::Count, None),
+            ("--count --against HEAD", Work::Count, against()),
+            ("--c-only --against HEAD", Work::C, against()),
+            ("--words", Work::Inlined, Some(Against::Words)),
+            ("--count --words", Work::Count, Some(Against::Words)),
+        ] {
+            let read = read(words).map(|arguments| (arguments.work, arguments.against));
+            assert_eq!(read, Ok((work, against)), "{words}");
         }
-    }
-
-    #[test]
-    fn packages() {
-        let against = |words| read(words).map(|arguments| arguments.against);
-        assert_eq!(against("--count"), Ok(None));
-        assert_eq!(against("--words"), Ok(Some(Against::Words)));
-        assert_eq!(against("--against HEAD"), Ok(Some(Against::Commit(String::from("HEAD")))));
+        for refused in
+            ["--c-only --words", "--words --against HEAD", "--c-only --count", "--passes 2"]
+        {
+            assert!(read(refused).is_err(), "{refused}");
+        }
     }
 
     #[test]

@@ -1,5 +1,6 @@
 //! The formats that are timed: dates, addresses and versions, as programs read them from texts.
 
+use std::fmt;
 use torkettle_common::random::Random;
 
 /// A format.
@@ -18,16 +19,7 @@ impl Format {
 
     /// The name under which a build exports the loop over texts of this format.
     pub fn export(self) -> String {
-        format!("format_{}", self.name())
-    }
-
-    /// Its name in tables.
-    pub fn name(self) -> &'static str {
-        match self {
-            Format::Date => "date",
-            Format::Address => "address",
-            Format::Version => "version",
-        }
+        format!("format_{self}")
     }
 
     /// A random text, and the sum of its numbers, each multiplied by its place from 1.
@@ -43,6 +35,16 @@ impl Format {
             _ => numbers.iter().map(u64::to_string).collect::<Vec<_>>().join("."),
         };
         (text.into_bytes(), numbers.iter().zip(1..).map(|(number, place)| number * place).sum())
+    }
+}
+
+impl fmt::Display for Format {
+    fn fmt(&self, f: &mut fmt::Formatter<'_>) -> fmt::Result {
+        f.write_str(match self {
+            Format::Date => "date",
+            Format::Address => "address",
+            Format::Version => "version",
+        })
     }
 }
 

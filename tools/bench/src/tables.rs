@@ -228,14 +228,9 @@ pub fn c_calls() -> Result<Vec<TimedCall>, String> {
 }
 
 /// Each type of a column, of many numbers a call or of a real list, once.
-pub fn all_column_types() -> Result<Vec<Integer>, String> {
-    let reads = reads()?.into_iter().map(|shape| shape.integer);
-    Ok(each_once(column_types()?.into_iter().chain(reads).chain(real::types()?)))
-}
-
-/// Each type of a column, once.
 pub fn column_types() -> Result<Vec<Integer>, String> {
-    Ok(each_once(shapes()?.into_iter().map(|shape| shape.integer)))
+    let shapes = shapes()?.into_iter().chain(reads()?).map(|shape| shape.integer);
+    Ok(each_once(shapes.chain(real::types()?)))
 }
 
 impl Shape {

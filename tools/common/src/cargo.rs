@@ -47,8 +47,6 @@ impl Dependency {
 pub enum Kind {
     /// An archive of many units of code, built as cargo builds a program in release mode.
     ArchiveOfUnits,
-    /// A shared object, in which the crates are inlined into each other.
-    InlinedSharedObject,
     /// A shared object, built as cargo builds a program in release mode.
     SharedObject,
     /// The same without optimisation, and with checks for overflow.
@@ -86,7 +84,7 @@ impl Generated {
         cargo.args(["build", "--quiet"]).current_dir(folder);
         let (profile, file) = match self.kind {
             Kind::ArchiveOfUnits => ("release", "libtimed.a"),
-            Kind::InlinedSharedObject | Kind::SharedObject => ("release", OBJECT),
+            Kind::SharedObject => ("release", OBJECT),
             Kind::DebugSharedObject => ("debug", OBJECT),
         };
         if profile == "release" {
@@ -109,18 +107,15 @@ impl Generated {
     }
 
     fn manifest(&self) -> String {
-        let (kind, profile) = match self.kind {
-            Kind::ArchiveOfUnits => ("staticlib", "codegen-units = 256\n"),
-            Kind::InlinedSharedObject => {
-                ("cdylib", "panic = \"abort\"\nlto = true\ncodegen-units = 1\n")
-            }
-            Kind::SharedObject | Kind::DebugSharedObject => ("cdylib", "codegen-units = 256\n"),
+        let kind = match self.kind {
+            Kind::ArchiveOfUnits => "staticlib",
+            Kind::SharedObject | Kind::DebugSharedObject => "cdylib",
         };
         let lines = self.dependencies.iter().map(|it| it.line.as_str());
         let dependencies = lines.collect::<Vec<_>>().join("\n");
         format!(
             "[package]\nname = \"timed\"\nversion = \"0.1.0\"\nedition = \"2024\"\n\n\
-             [lib]\ncrate-type = [\"{kind}\"]\n\n[profile.release]\n{profile}\n\
+             [lib]\ncrate-type = [\"{kind}\"]\n\n[profile.release]\ncodegen-units = 256\n\n\
              [workspace]\n\n[dependencies]\n{dependencies}\n"
         )
     }

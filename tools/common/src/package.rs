@@ -1,6 +1,6 @@
 //! The Cargo package at the top of the repository.
 
-use crate::cache::{entries, failed};
+use crate::cache::failed;
 use crate::cargo::Dependency;
 use crate::stamp::Stamp;
 use std::fs;
@@ -21,17 +21,9 @@ impl Package {
     pub fn of_folder(folder: &Path) -> Result<Package, String> {
         let manifest = folder.join("Cargo.toml");
         let text = fs::read(&manifest).map_err(|error| failed(&manifest, error))?;
-        let mut contents = Stamp::new().with(text).with_folder(&folder.join("rust/src"))?;
-        // Once, a build script made Rust of the sources.
-        let script = folder.join("rust/build");
-        if script.is_dir() {
-            contents = contents.with_folder(&script)?;
-            let crates = entries(&folder.join("crates"))?;
-            for source in crates.iter().map(|it| it.join("src")).filter(|source| source.is_dir()) {
-                contents =
-                    contents.with(source.to_string_lossy().as_bytes()).with_folder(&source)?;
-            }
-        }
+        // Once, a build script in `rust` made Rust of the sources in `crates`.
+        let contents = Stamp::new().with(text).with_folder(&folder.join("rust"))?;
+        let contents = contents.with_folder(&folder.join("crates"))?;
         Ok(Package { folder: folder.to_path_buf(), contents })
     }
 

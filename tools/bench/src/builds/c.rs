@@ -27,11 +27,14 @@ const READ_1024: &str = "read_1024_";
 // How our functions are called in a table, and what the names of the exports begin with that call them so.
 type Ways = &'static [(&'static str, &'static str)];
 
+const BY_NEXT: &str = "the column in C, by _next";
+
+const CALLS: Ways = &[("torkettle::from_chars, and the column in C, by _read", OURS)];
 const SLICES: Ways = &[("torkettle::parse", OURS)];
 const TEXTS: Ways = &[
     ("torkettle::from_chars", CHARS),
     ("the column in C, by _read", OURS),
-    ("the column in C, by _next", NEXT),
+    (BY_NEXT, NEXT),
     ("the range torkettle::fields", RANGE),
 ];
 // The last is also compared with the others.
@@ -56,59 +59,76 @@ pub struct OfC {
     pub reads: Compared,
 }
 
+// The C library of a package, with the program that calls it, under the name that tables have.
+struct Library {
+    name: Option<String>,
+    files: Vec<PathBuf>,
+}
+
 /// The C library and what it is compared with.
 pub fn builds(cache: &Cache, package: &Package, other: Option<&Other>) -> Result<OfC, String> {
     let compilers = [version("g++")?, version("cc")?];
-    let sources = Sources::new(&tables::c_calls()?, &real::types()?, &tables::all_column_types()?);
-    let files = |package: &Package, folder: &Path, target: &str| {
-        let folder = folder.join("c");
-        let stamp = package.stamp().with_folder(&folder)?.with(&sources.cpp).with(&sources.c);
-        let stamp = compilers.iter().fold(stamp, |stamp: Stamp, version| stamp.with(version));
-        placed(cache, &format!("c-{stamp}"), &sources.names, |room| {
-            let include = format!("-I{}", folder.join("include").display());
-            let (loops, columns) = (room.join("loops.o"), room.join("columns.o"));
-            let cpp = ["-std=gnu++17", ASSEMBLED_WITHIN_32_BYTES, &include];
-            compile("g++", &cpp, &room.join("loops.cc"), &sources.cpp, &loops)?;
-            let c = ["-std=c99", ASSEMBLED_WITHIN_32_BYTES, &include];
-            compile("cc", &c, &room.join("columns.c"), &sources.c, &columns)?;
-            Ok(vec![loops, columns, library(&folder, &cache.folder(target))?])
-        })
+    let files = |package: &Package, folder: &Path, target| {
+        placed_library(cache, package, folder, target, &compilers)
     };
-    let build = |name, prefix: &str, files: &Vec<PathBuf>| Build {
-        name,
-        prefix: prefix.into(),
-        files: files.clone(),
-    };
-    let ours = files(package, cache.repository(), "c")?;
+    let ours = Library { name: None, files: files(package, cache.repository(), "c")? };
     let theirs = match other {
-        Some(other) => Some((&other.name, files(&other.package, &other.folder, "c-other")?)),
-        None => None,
+        Some(other) => Library {
+            name: Some(other.name.clone()),
+            files: files(&other.package, &other.folder, "c-other")?,
+        },
+        None => Library { name: None, files: Vec::new() },
     };
-    let standard = build(format!("std::from_chars, g++ {}", compilers[0]), STANDARD, &ours);
+    let standard = ours.build(&format!("std::from_chars, g++ {}", compilers[0]), STANDARD);
     // Each way of ours is compared with the same way of theirs, or with `std::from_chars`.
     let compared = |ways: Ways| {
-        let ours = ways.iter().map(|(way, prefix)| build(way.to_string(), prefix, &ours));
-        let theirs: Vec<Build> = match &theirs {
-            Some((name, files)) => {
-                let build = |(way, prefix)| build(format!("{way}, {name}"), prefix, files);
-                ways.iter().copied().map(build).collect()
-            }
-            None => vec![standard.clone()],
+        let of = |library: &Library| -> Vec<Build> {
+            ways.iter().map(|(way, prefix)| library.build(way, prefix)).collect()
         };
+        let theirs = if other.is_some() { of(&theirs) } else { vec![standard.clone()] };
         let pair = |way: usize| (way, ways.len() + way.min(theirs.len() - 1));
         let pairs = (0..ways.len()).map(pair).collect();
-        Compared { builds: ours.chain(theirs).collect(), pairs }
+        Compared { builds: [of(&ours), theirs].concat(), pairs }
     };
-    let name = "torkettle::from_chars, and the column in C, by _read";
-    let others = match &theirs {
-        Some((name, files)) => vec![build(name.to_string(), OURS, files)],
-        None => vec![standard.clone(), build("the column in C, by _next".into(), NEXT, &ours)],
-    };
-    let calls = Compared::with_first([vec![build(name.into(), OURS, &ours)], others].concat());
+    let mut calls = compared(CALLS);
+    if other.is_none() {
+        calls = Compared::with_first([calls.builds, vec![ours.build(BY_NEXT, NEXT)]].concat());
+    }
     let mut reads = compared(READS);
     let range = READS.len() - 1;
     reads.pairs.extend((0..range).map(|read| (range, read)));
     Ok(OfC { calls, slices: compared(SLICES), texts: compared(TEXTS), reads })
+}
+
+impl Library {
+    // What of it has exports with this prefix.
+    fn build(&self, way: &str, prefix: &str) -> Build {
+        let name = self.name.as_ref().map_or(way.to_string(), |name| format!("{way}, {name}"));
+        Build { name, prefix: prefix.to_string(), files: self.files.clone() }
+    }
+}
+
+// The library of a package in a folder, linked with the program that calls it.
+fn placed_library(
+    cache: &Cache,
+    package: &Package,
+    folder: &Path,
+    target: &str,
+    compilers: &[String],
+) -> Result<Vec<PathBuf>, String> {
+    let sources = Sources::new(&tables::c_calls()?, &real::types()?, &tables::column_types()?);
+    let folder = folder.join("c");
+    let stamp = package.stamp().with_folder(&folder)?.with(&sources.cpp).with(&sources.c);
+    let stamp = compilers.iter().fold(stamp, |stamp: Stamp, version| stamp.with(version));
+    placed(cache, &format!("c-{stamp}"), &sources.names, |room| {
+        let include = format!("-I{}", folder.join("include").display());
+        let (loops, columns) = (room.join("loops.o"), room.join("columns.o"));
+        let cpp = ["-std=gnu++17", ASSEMBLED_WITHIN_32_BYTES, &include];
+        compile("g++", &cpp, &room.join("loops.cc"), &sources.cpp, &loops)?;
+        let c = ["-std=c99", ASSEMBLED_WITHIN_32_BYTES, &include];
+        compile("cc", &c, &room.join("columns.c"), &sources.c, &columns)?;
+        Ok(vec![loops, columns, library(&folder, &cache.folder(target))?])
+    })
 }
 
 fn version(compiler: &str) -> Result<String, String> {
@@ -149,39 +169,40 @@ impl Sources {
         let mut cpp = String::from(include_str!("../../exports/from_chars.hpp"));
         let mut c = String::from(include_str!("../../exports/columns.h"));
         let mut names = Vec::new();
-        for call in calls {
-            for (prefix, by) in [(OURS, "Ours"), (STANDARD, "Standard")] {
-                let name = format!("{prefix}{}", call.export(Form::Words));
+        let mut export = |name: String, sum: String| {
+            cpp += &format!("EXPORT({name}, {sum})\n");
+            names.push(name);
+        };
+        for (prefix, by) in [(OURS, "Ours"), (STANDARD, "Standard")] {
+            for call in calls {
                 let (integer, is_whole) = (c_type(call.integer), call.is_whole());
-                cpp += &format!("EXPORT({name}, rows<{by}, {integer}, {is_whole}>)\n");
-                names.push(name);
+                let name = format!("{prefix}{}", call.export(Form::Words));
+                export(name, format!("rows<{by}, {integer}, {is_whole}>"));
             }
-        }
-        for integer in types_of_slices {
-            for (prefix, by) in [(OURS, "Ours"), (STANDARD, "Standard")] {
+            for integer in types_of_slices {
                 let name = format!("{prefix}{}", real::export(*integer, Form::Words));
-                cpp += &format!("EXPORT({name}, slices<{by}, {}>)\n", c_type(*integer));
-                names.push(name);
+                export(name, format!("slices<{by}, {}>", c_type(*integer)));
             }
         }
         for integer in types {
-            let (name, c_type) = (Cut::Column.export(*integer), c_type(*integer));
-            c += &format!("COLUMN({}, {c_type})\n", integer.name());
-            cpp += &format!("EXPORT({CHARS}{name}, column<Ours, {c_type}, false>)\n");
-            names.extend([NEXT, CHARS].map(|prefix| format!("{prefix}{name}")));
+            let (column, c_type) = (Cut::Column.export(*integer), c_type(*integer));
+            export(format!("{CHARS}{column}"), format!("column<Ours, {c_type}, false>"));
             for cut in CUTS {
                 let (name, are_lines) = (cut.export(*integer), cut == Cut::Lines);
+                let of_columns = matches!(cut, Cut::Columns(_));
+                let sum = |sum: String| if of_columns { format!("columns<{sum}>") } else { sum };
                 let standard = format!("column<Standard, {c_type}, {are_lines}>");
-                for (prefix, sum) in
-                    [(STANDARD, standard), (RANGE, format!("fields<{c_type}, {are_lines}>"))]
-                {
-                    let of_columns = matches!(cut, Cut::Columns(_));
-                    let sum = if of_columns { format!("columns<{sum}>") } else { sum };
-                    cpp += &format!("EXPORT({prefix}{name}, {sum})\n");
-                }
-                let prefixes = [OURS, READ_64, READ_1024, STANDARD, RANGE];
-                names.extend(prefixes.map(|prefix| format!("{prefix}{name}")));
+                export(format!("{STANDARD}{name}"), sum(standard));
+                export(format!("{RANGE}{name}"), sum(format!("fields<{c_type}, {are_lines}>")));
             }
+        }
+        for integer in types {
+            c += &format!("COLUMN({}, {})\n", integer.name(), c_type(*integer));
+            names.push(format!("{NEXT}{}", Cut::Column.export(*integer)));
+            let in_c = |cut: Cut| {
+                [OURS, READ_64, READ_1024].map(|it| it.to_string() + &cut.export(*integer))
+            };
+            names.extend(CUTS.into_iter().flat_map(in_c));
         }
         Sources { cpp, c, names }
     }

@@ -3,11 +3,11 @@
 //! addresses: the layout and the address of a loop alone would move its time by up to 30 %.
 
 use super::place::{WITHIN_32_BYTES, placed};
-use super::source::{Calls, Column, HEAD, Parse};
+use super::source::{Calls, Column, HEAD, Parse, ROWS, SLICES};
 use super::{Build, Compared, Others};
 use crate::formats::{self, Bodies, Format};
 use crate::real;
-use crate::tables::{self, Cut, TimedCall};
+use crate::tables::{self, Cut};
 use std::path::PathBuf;
 use std::process::Command;
 use torkettle_common::Form;
@@ -241,54 +241,44 @@ impl Part {
         Build { name, prefix, files: files.to_vec() }
     }
 
-    // The name and the source of each loop.
+    // The name and the source of each loop. Lines of several tables have the same loop.
     fn loops(&self) -> Result<Vec<(String, String)>, String> {
-        let has_calls = self.use_of == Use::CallsAndColumns;
-        let calls = if has_calls { tables::calls()? } else { Vec::new() };
-        let in_lanes = if self.has_lanes { calls.clone() } else { Vec::new() };
-        let lanes = Calls { parse: Parse::By("calls::lanes"), ..self.calls };
-        let rows = |form, calls: Calls| {
-            move |call: TimedCall| self.named(call.export(form), |name| calls.rows(name, &call))
+        let mut loops = Vec::new();
+        let mut push = |export: String, source: &dyn Fn(&str) -> Option<String>| {
+            let name = format!("{}{export}", self.prefix);
+            loops.extend(source(&name).map(|source| (name, source)));
         };
-        let words = calls.into_iter().filter_map(rows(Form::Words, self.calls));
-        let lanes = in_lanes.into_iter().filter_map(rows(Form::Lanes, lanes));
-        let columns = self.columns()?.into_iter().filter_map(|(cut, integer)| {
-            self.named(cut.export(integer), |name| self.calls.column(name, cut, integer))
-        });
-        let formats = Format::ALL.into_iter().filter_map(|format| {
-            let body = self.formats?(format);
-            self.named(format.export(), |name| Calls::format(name, body))
-        });
-        let slices = self.slices()?.into_iter();
-        // Lines of several tables have the same loop.
-        let columns = tables::each_once(columns);
-        Ok(words.chain(lanes).chain(slices).chain(columns).chain(formats).collect())
+        for (form, calls) in self.forms() {
+            for call in tables::calls()? {
+                push(call.export(form), &|name| calls.each(ROWS, name, &call));
+            }
+            for call in real::types()?.into_iter().map(real::whole) {
+                push(real::export(call.integer, form), &|name| calls.each(SLICES, name, &call));
+            }
+        }
+        for (cut, integer) in self.columns()? {
+            push(cut.export(integer), &|name| self.calls.column(name, cut, integer));
+        }
+        for (format, bodies) in Format::ALL.into_iter().zip(self.formats.into_iter().cycle()) {
+            push(format.export(), &|name| Calls::format(name, bodies(format)));
+        }
+        Ok(tables::each_once(loops.into_iter()))
     }
 
-    // The loops over slices, in each form.
-    fn slices(&self) -> Result<Vec<(String, String)>, String> {
-        let types = match self.use_of {
-            Use::CallsAndColumns => real::types()?,
-            _ => Vec::new(),
-        };
+    // The forms in which its calls are timed.
+    fn forms(&self) -> Vec<(Form, Calls)> {
         let lanes = Calls { parse: Parse::By("calls::lanes"), ..self.calls };
         let forms = [(Form::Words, self.calls), (Form::Lanes, lanes)];
-        let forms = forms.into_iter().take(1 + usize::from(self.has_lanes));
-        let of_form = |(form, calls): (Form, Calls)| {
-            let slices = types.iter().filter_map(move |integer| {
-                let call = real::whole(*integer);
-                self.named(real::export(*integer, form), |name| calls.slices(name, &call))
-            });
-            slices.collect::<Vec<_>>()
-        };
-        Ok(forms.flat_map(of_form).collect())
+        match self.use_of {
+            Use::CallsAndColumns => forms[..1 + usize::from(self.has_lanes)].to_vec(),
+            _ => Vec::new(),
+        }
     }
 
     // How texts are cut that it adds up, and into numbers of which type.
     fn columns(&self) -> Result<Vec<(Cut, Integer)>, String> {
         let types = match self.use_of {
-            Use::CallsAndColumns => tables::all_column_types()?,
-            Use::ColumnsThatGoOn => tables::column_types()?,
+            Use::CallsAndColumns | Use::ColumnsThatGoOn => tables::column_types()?,
             Use::Texts => real::types()?,
             Use::FormatsAlone => Vec::new(),
         };
@@ -327,16 +317,6 @@ impl Part {
             Column::Iterator(_) | Column::IteratorGoesOn(_) => String::from("Fields"),
             Column::Read(room) => format!("read into {room}"),
         }
-    }
-
-    // An export of the library, and its source, if it has one.
-    fn named(
-        &self,
-        export: String,
-        source: impl Fn(&str) -> Option<String>,
-    ) -> Option<(String, String)> {
-        let name = format!("{}{export}", self.prefix);
-        source(&name).map(|source| (name, source))
     }
 }
 

@@ -79,25 +79,17 @@ fn from_prefix<T: std::str::FromStr>(text: &[u8]) -> Option<(T, usize)> {
 );
 
 impl Calls {
-    /// An export that makes a call with each row of an input list. None if the library has no such call.
-    pub fn rows(&self, name: &str, call: &TimedCall) -> Option<String> {
+    /// An export that makes a call with each text: of `ROWS` or of `SLICES`. None if the library has no such call.
+    pub fn each(&self, texts: &str, name: &str, call: &TimedCall) -> Option<String> {
         let parse = self.parse.expression(call)?;
-        let body = ROWS.replace("PARSE", &parse).replace("FOUND", found(call));
-        Some(export(name, call.integer, &body))
-    }
-
-    /// An export that makes a call with each slice of a text. None if the library has no such call.
-    pub fn slices(&self, name: &str, call: &TimedCall) -> Option<String> {
-        let parse = self.parse.expression(call)?;
-        let body = SLICES.replace("PARSE", &parse).replace("FOUND", found(call));
+        let body = format!("{texts}{SUM}").replace("PARSE", &parse).replace("FOUND", found(call));
         Some(export(name, call.integer, &body))
     }
 
     /// An export that reads each row of texts of a format, by the body of a function. None if it is empty.
     pub fn format(name: &str, body: &str) -> Option<String> {
-        let read = format!("{FORMAT}{}", ROWS.replace("PARSE", "read(text)"))
-            .replace("BODY", body)
-            .replace("FOUND", "Some(value) => value,");
+        let read = format!("{FORMAT}{ROWS}{SUM}").replace("PARSE", "read(text)");
+        let read = read.replace("BODY", body).replace("FOUND", "Some(value) => value,");
         (!body.is_empty()).then(|| export(name, Integer::U64, &read))
     }
 
@@ -152,27 +144,24 @@ pub unsafe extern \"C\" fn {name}(text: *const u8, length: usize) -> u64 {{
     )
 }
 
-// Here the length is the length of the list, and `text` is first its rows.
-const ROWS: &str = "
+/// The head of a loop over the texts of an input list. The length is that of the list, and `text` is first its rows.
+pub const ROWS: &str = "
     let rows = unsafe { std::slice::from_raw_parts(text.as_ptr().cast::<Row>(), length) };
     let mut sum = 0_u64;
     for row in rows {
-        let text = unsafe { row.bytes.get_unchecked(..row.length) };
-        sum = sum.wrapping_add(match PARSE {
-            FOUND
-            None => ERROR,
-        });
-    }
-    sum";
+        let text = unsafe { row.bytes.get_unchecked(..row.length) };";
 
-// Here `text` is first the bytes of `Slices`.
-const SLICES: &str = "
+/// The head of a loop over slices. `text` is first the bytes of `Slices`.
+pub const SLICES: &str = "
     let slices = unsafe { &*text.as_ptr().cast::<Slices>() };
     let places = unsafe { std::slice::from_raw_parts(slices.places, slices.count) };
     let mut sum = 0_u64;
     for place in places {
         let start = unsafe { slices.text.add(place.start as usize) };
-        let text = unsafe { std::slice::from_raw_parts(start, place.length as usize) };
+        let text = unsafe { std::slice::from_raw_parts(start, place.length as usize) };";
+
+// The rest of these loops.
+const SUM: &str = "
         sum = sum.wrapping_add(match PARSE {
             FOUND
             None => ERROR,

@@ -30,6 +30,6 @@ pub fn run(arguments: &Arguments, cache: &Cache) -> Result<usize, String> {
     Ok(time(&built.slices, slices(arguments)?, "slice of a real list")?
         + time(&built.texts, real_columns(arguments)?, "number of a real list in one text")?
         + time(&built.reads, reads(arguments)?, MANY)?
-        + time(&built.calls, lists(arguments, tables::c_lists()?, random), "call")?
+        + time(&built.calls, lists(arguments, &tables::c_lists()?, random), "call")?
         + time(&built.calls, columns(arguments, false, random)?, "field")?)
 }

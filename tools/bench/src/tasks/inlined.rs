@@ -28,7 +28,7 @@ pub fn run(arguments: &Arguments, cache: &Cache) -> Result<usize, String> {
 // The tables whose instructions are counted, each with what its items are.
 fn counted(arguments: &Arguments) -> Result<[(Vec<Task>, &'static str); 2], String> {
     let random = &mut Random::new(arguments.seed);
-    let lists = lists(arguments, tables::input_lists()?, random);
+    let lists = lists(arguments, &tables::input_lists()?, random);
     Ok([(lists, "call"), (columns(arguments, false, random)?, "field")])
 }
 
@@ -65,7 +65,7 @@ fn time(arguments: &Arguments, built: &Inlined, cpu: &str) -> Result<usize, Stri
     Ok(time(&built.calls, slices(arguments)?, "slice of a real list")?
         + time(&built.texts, real_columns(arguments)?, "number of a real list in one text")?
         + time(&built.reads, reads(arguments)?, MANY)?
-        + time(&built.calls, lists(arguments, tables::input_lists()?, random), "call")?
+        + time(&built.calls, lists(arguments, &tables::input_lists()?, random), "call")?
         + time(&built.calls, columns(arguments, false, random)?, "field")?
         + time(&built.going_on, columns(arguments, false, random)?, "field of numbers alone")?
         + time(

@@ -10,8 +10,9 @@ use crate::builds::{self, Compared, Others};
 use crate::formats::Format;
 use crate::real::{self, RealList};
 use crate::report::Table;
-use crate::tables::{self, InputList};
+use crate::tables::{self, InputList, Shape};
 use crate::timing::{Task, processor};
+use std::fmt;
 use torkettle_common::cache::Cache;
 use torkettle_common::original;
 use torkettle_common::random::Random;
@@ -66,9 +67,9 @@ fn others(arguments: &Arguments, cache: &Cache) -> Result<Others, String> {
 // Refuses an argument `--only` that leaves nothing.
 fn check_only(arguments: &Arguments) -> Result<(), String> {
     let random = &mut Random::new(arguments.seed);
-    let has_none = real_lists(arguments)?.is_empty()
-        && lists(arguments, tables::input_lists()?, random).is_empty()
-        && lists(arguments, tables::c_lists()?, random).is_empty()
+    let has_none = slices(arguments)?.is_empty()
+        && lists(arguments, &tables::input_lists()?, random).is_empty()
+        && lists(arguments, &tables::c_lists()?, random).is_empty()
         && columns(arguments, false, random)?.is_empty()
         && reads(arguments)?.is_empty()
         && formats(arguments, random).is_empty();
@@ -78,53 +79,48 @@ fn check_only(arguments: &Arguments) -> Result<(), String> {
     }
 }
 
-// What is done with those of the input lists that are timed.
-fn lists(arguments: &Arguments, mut lists: Vec<InputList>, random: &mut Random) -> Vec<Task> {
-    lists.retain(|list| arguments.has(&list.to_string()));
-    lists.iter().map(|list| Task::list(list, random)).collect()
+// What is done with those of these that are timed. In `--only`, their kind precedes the line of a table.
+fn tasks<T: fmt::Display>(
+    arguments: &Arguments,
+    kind: &str,
+    all: &[T],
+    task: impl FnMut(&T) -> Task,
+) -> Vec<Task> {
+    all.iter().filter(|it| arguments.has(&format!("{kind} {it}"))).map(task).collect()
 }
 
-// What is done with the columns that are timed.
+fn lists(arguments: &Arguments, lists: &[InputList], random: &mut Random) -> Vec<Task> {
+    tasks(arguments, "", lists, |list| Task::list(list, random))
+}
+
 fn columns(
     arguments: &Arguments,
     has_errors: bool,
     random: &mut Random,
 ) -> Result<Vec<Task>, String> {
-    let mut shapes = tables::shapes()?;
-    shapes.retain(|shape| arguments.has(&format!("column {shape}")));
-    Ok(shapes.iter().map(|shape| Task::column(shape, has_errors, random)).collect())
+    let column = |shape: &Shape| Task::column(shape, has_errors, random);
+    Ok(tasks(arguments, "column", &tables::shapes()?, column))
 }
 
-// What is done with the columns that are timed with many numbers a call.
+// The columns that are read with many numbers a call.
 fn reads(arguments: &Arguments) -> Result<Vec<Task>, String> {
-    let mut shapes = tables::reads()?;
-    shapes.retain(|shape| arguments.has(&format!("read {shape}")));
     let random = &mut Random::new(arguments.seed);
-    Ok(shapes.iter().map(|shape| Task::column(shape, false, random)).collect())
+    let column = |shape: &Shape| Task::column(shape, false, random);
+    Ok(tasks(arguments, "read", &tables::reads()?, column))
 }
 
-// The real lists that are timed.
-fn real_lists(arguments: &Arguments) -> Result<Vec<RealList>, String> {
-    let mut lists = real::lists()?;
-    lists.retain(|list| arguments.has(&format!("real {list}")));
-    Ok(lists)
-}
-
-// What is done with the slices of real lists. Each list has the same order in every table.
+// The slices of real lists. Each list has the same order in every table.
 fn slices(arguments: &Arguments) -> Result<Vec<Task>, String> {
     let task = |list: &RealList| Task::slices(list, &mut Random::new(arguments.seed));
-    Ok(real_lists(arguments)?.iter().map(task).collect())
+    Ok(tasks(arguments, "real", &real::lists()?, task))
 }
 
-// What is done with real lists as columns.
+// Real lists as columns.
 fn real_columns(arguments: &Arguments) -> Result<Vec<Task>, String> {
     let task = |list: &RealList| Task::real_column(list, &mut Random::new(arguments.seed));
-    Ok(real_lists(arguments)?.iter().map(task).collect())
+    Ok(tasks(arguments, "real", &real::lists()?, task))
 }
 
-// What is done with the formats that are timed.
 fn formats(arguments: &Arguments, random: &mut Random) -> Vec<Task> {
-    let is_timed = |format: &Format| arguments.has(&format!("format {}", format.name()));
-    let formats = Format::ALL.into_iter().filter(is_timed);
-    formats.map(|format| Task::format(format, random)).collect()
+    tasks(arguments, "format", &Format::ALL, |format| Task::format(*format, random))
 }

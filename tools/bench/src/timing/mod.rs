@@ -124,7 +124,7 @@ impl Task {
     pub fn format(format: Format, random: &mut Random) -> Task {
         let exports = vec![(Form::Words, format.export())];
         let input = Input::format(format, ROWS, random);
-        Task::new(Times::new(String::from(format.name()), Vec::new()), exports, input)
+        Task::new(Times::new(format.to_string(), Vec::new()), exports, input)
     }
 
     /// What is done with the slices of a real list.
