@@ -5,7 +5,7 @@ use std::collections::BTreeMap;
 use std::fs;
 use std::path::{Path, PathBuf};
 use std::process::Command;
-use torkettle_common::cache::{entries, failed, write};
+use torkettle_common::cache::{failed, write};
 use torkettle_common::command::run;
 use torkettle_common::stamp::Stamp;
 
@@ -49,14 +49,16 @@ impl Library {
         for (name, uses) in self.crates(top)? {
             graph += &format!("{name}:{uses}\n");
             let folder = workspace.join("crates").join(&name);
-            for part in PARTS {
-                mirror(&top.join("crates").join(&name).join(part), &folder.join(part))?;
+            fs::create_dir_all(&folder).map_err(|error| failed(&folder, error))?;
+            for part in PARTS.iter().map(|part| folder.join(part)).filter(|part| part.is_dir()) {
+                fs::remove_dir_all(&part).map_err(|error| failed(&part, error))?;
             }
+            run(Command::new("cp").arg("-a").args(parts(top, &name)).arg(&folder))?;
         }
         let folder = workspace.join("crates").join(self.name);
-        write_changed(&workspace.join("crates.txt"), graph.as_bytes())?;
+        write(&workspace.join("crates.txt"), graph)?;
         for (file, text) in &self.files {
-            write_changed(&folder.join("src").join(file), text.as_bytes())?;
+            write(&folder.join("src").join(file), text)?;
         }
         run(Command::new("rt").args(["lib", "--cpu", cpu]).current_dir(&folder))?;
         Ok(folder.join("out").join(format!("lib{}.a", self.name)))
@@ -84,34 +86,4 @@ impl Library {
 fn parts(top: &Path, name: &str) -> impl Iterator<Item = PathBuf> {
     let folder = top.join("crates").join(name);
     PARTS.into_iter().map(move |part| folder.join(part)).filter(|part| part.is_dir())
-}
-
-// Gives a folder the files of another. A file that stays the same is not touched.
-fn mirror(from: &Path, to: &Path) -> Result<(), String> {
-    let files = |folder: &Path| if folder.is_dir() { entries(folder) } else { Ok(Vec::new()) };
-    for old in files(to)? {
-        let new = from.join(old.file_name().unwrap_or_default());
-        let removed = match (old.is_dir(), new.is_dir()) {
-            (true, false) => fs::remove_dir_all(&old),
-            (false, is_folder) if is_folder || !new.exists() => fs::remove_file(&old),
-            _ => Ok(()),
-        };
-        removed.map_err(|error| failed(&old, error))?;
-    }
-    for new in files(from)? {
-        let copy = to.join(new.file_name().unwrap_or_default());
-        if new.is_dir() {
-            mirror(&new, &copy)?;
-        } else {
-            write_changed(&copy, &fs::read(&new).map_err(|error| failed(&new, error))?)?;
-        }
-    }
-    Ok(())
-}
-
-fn write_changed(file: &Path, text: &[u8]) -> Result<(), String> {
-    match fs::read(file) {
-        Ok(now) if now == text => Ok(()),
-        _ => write(file, text),
-    }
 }
