@@ -136,17 +136,15 @@ impl Cut {
         format!("{texts}_{}", integer.name())
     }
 
-    fn read(words: &[&str]) -> Result<Cut, String> {
-        match *words {
-            [] => Ok(Cut::Column),
-            ["\\r\\n"] => Ok(Cut::Lines),
-            [count, "field" | "fields"] => match count.parse() {
-                Ok(count @ 1..) => Ok(Cut::Columns(count)),
+    // Reads the end of a line that may be cut, and returns what is before it.
+    fn read<'a, 'b>(words: &'a [&'b str]) -> Result<(Cut, &'a [&'b str]), String> {
+        match words {
+            [numbers @ .., "\\r\\n"] => Ok((Cut::Lines, numbers)),
+            [numbers @ .., count, "field" | "fields"] => match count.parse() {
+                Ok(count @ 1..) => Ok((Cut::Columns(count), numbers)),
                 _ => Err(format!("{count} is no number of fields")),
             },
-            _ => Err(String::from(
-                "a line is TYPE DIGITS, and then \\r\\n or N fields, if it goes on",
-            )),
+            numbers => Ok((Cut::Column, numbers)),
         }
     }
 }
@@ -187,32 +185,36 @@ impl fmt::Display for Shape {
 
 /// The input lists, in the order of their file.
 pub fn input_lists() -> Result<Vec<InputList>, String> {
-    rows("input_lists.txt", include_str!("../input_lists.txt"), |words| match *words {
-        [function, integer, flags, digits] => {
-            let call = TimedCall::read(function, integer, flags)?;
-            Ok(InputList { call, digits: digits.parse()? })
-        }
-        _ => Err(String::from("a line is CALL TYPE FLAGS DIGITS")),
+    rows("input_lists.txt", include_str!("../input_lists.txt"), |words| {
+        let [function, integer, flags, digits @ ..] = words else {
+            return Err(String::from("a line is CALL TYPE FLAGS DIGITS.."));
+        };
+        let call = TimedCall::read(function, integer, flags)?;
+        digits.iter().map(|digits| Ok(InputList { call, digits: digits.parse()? })).collect()
     })
 }
 
 /// The columns, in the order of their file.
 pub fn shapes() -> Result<Vec<Shape>, String> {
-    rows("columns.txt", include_str!("../columns.txt"), shape)
+    rows("columns.txt", include_str!("../columns.txt"), columns)
 }
 
 /// The columns that are timed with many numbers a call, in the order of their file.
 pub fn reads() -> Result<Vec<Shape>, String> {
     rows("reads.txt", include_str!("../reads.txt"), |words| {
-        let (number, cut) = words.split_at(words.len().min(2));
-        let shape = Shape { cut: Cut::read(cut)?, ..shape(number)? };
-        Ok(Shape { groups: shape.groups_of_reads(), ..shape })
+        let (cut, numbers) = Cut::read(words)?;
+        let mut shapes = columns(numbers)?;
+        for shape in &mut shapes {
+            shape.cut = cut;
+            shape.groups = shape.groups_of_reads();
+        }
+        Ok(shapes)
     })
 }
 
 /// What is timed from C and C++: two calls for each line of the file.
 pub fn c_lists() -> Result<Vec<InputList>, String> {
-    let numbers = rows("c_lists.txt", include_str!("../c_lists.txt"), shape)?;
+    let numbers = rows("c_lists.txt", include_str!("../c_lists.txt"), columns)?;
     let list = |function| numbers.iter().map(move |shape| shape.list(function));
     Ok(list(Function::Parse).chain(list(Function::Prefix)).collect())
 }
@@ -252,38 +254,41 @@ pub fn each_once<T: PartialEq>(all: impl Iterator<Item = T>) -> Vec<T> {
     })
 }
 
-fn shape(words: &[&str]) -> Result<Shape, String> {
-    match *words {
-        [integer, digits] => {
-            let (integer, digits): (_, Digits) = (integer_named(integer)?, digits.parse()?);
-            let groups = vec![digits.group()];
-            Ok(Shape { integer, digits, cut: Cut::Column, groups })
-        }
-        _ => Err(String::from("a line is TYPE DIGITS")),
-    }
+fn columns(words: &[&str]) -> Result<Vec<Shape>, String> {
+    let (integer, digits) = words.split_first().ok_or("a line is TYPE DIGITS..")?;
+    let integer = integer_named(integer)?;
+    let column = |digits: &&str| {
+        let digits: Digits = digits.parse()?;
+        Ok(Shape { integer, groups: vec![digits.group()], digits, cut: Cut::Column })
+    };
+    digits.iter().map(column).collect()
 }
 
 fn integer_named(name: &str) -> Result<Integer, String> {
     Integer::named(name).ok_or_else(|| format!("{name} is no type"))
 }
 
-// Reads each line of a table, except comments.
+// Reads what is on the lines of a table, except comments.
 fn rows<T>(
     file: &str,
     text: &str,
-    read: impl Fn(&[&str]) -> Result<T, String>,
+    read: impl Fn(&[&str]) -> Result<Vec<T>, String>,
 ) -> Result<Vec<T>, String> {
     let lines = text.lines().filter(|line| !line.starts_with('#'));
     let row = |line: &str| {
         let words: Vec<&str> = line.split_whitespace().collect();
-        read(&words).map_err(|fault| format!("tools/bench/{file}: {line}: {fault}"))
+        let found = read(&words).and_then(|found| match found.is_empty() {
+            true => Err(String::from("it has no DIGITS")),
+            false => Ok(found),
+        });
+        found.map_err(|fault| format!("tools/bench/{file}: {line}: {fault}"))
     };
-    lines.map(row).collect()
+    Ok(lines.map(row).collect::<Result<Vec<_>, String>>()?.into_iter().flatten().collect())
 }
 
 #[cfg(test)]
 mod tests {
-    use super::{Cut, Shape, c_lists, calls, input_lists, reads, shapes};
+    use super::{Cut, Shape, c_lists, calls, columns, input_lists, reads, shapes};
     use std::collections::BTreeSet;
     use torkettle_common::Form;
 
@@ -296,10 +301,17 @@ mod tests {
     }
 
     #[test]
-    fn lines_of_reads_are_shown_as_they_are() {
-        let text = include_str!("../reads.txt").lines().filter(|line| !line.starts_with('#'));
-        let words = |line: &str| line.split_whitespace().collect::<Vec<_>>().join(" ");
-        assert!(reads().unwrap().iter().map(|shape| words(&shape.to_string())).eq(text));
+    fn reads_are_shown_as_their_lines() {
+        let words = |shape: &Shape| {
+            shape.to_string().split_whitespace().map(String::from).collect::<Vec<_>>()
+        };
+        let shown: BTreeSet<String> =
+            reads().unwrap().iter().map(|it| words(it).join(" ")).collect();
+        for line in
+            ["u32 log", "u64 20", "i64 13", "u64 5 \\r\\n", "u32 1-5 1 field", "u32 5 30 fields"]
+        {
+            assert!(shown.contains(line), "{line}");
+        }
     }
 
     #[test]
@@ -315,10 +327,15 @@ mod tests {
 
     #[test]
     fn cuts() {
-        assert!(Cut::read(&[]) == Ok(Cut::Column) && Cut::read(&["\\r\\n"]) == Ok(Cut::Lines));
-        assert!(Cut::read(&["30", "fields"]) == Ok(Cut::Columns(30)));
-        for refused in [&["\\n"][..], &["0", "fields"], &["x", "fields"], &["4", "fields", "4"]] {
-            assert!(Cut::read(refused).is_err());
+        let cut = |line: &str| {
+            let words: Vec<&str> = line.split(' ').collect();
+            let (cut, numbers) = Cut::read(&words)?;
+            columns(numbers).map(|columns| (cut, columns.len()))
+        };
+        assert!(cut("u8 1 2") == Ok((Cut::Column, 2)) && cut("u8 1 \\r\\n") == Ok((Cut::Lines, 1)));
+        assert!(cut("u8 1-2 3 30 fields") == Ok((Cut::Columns(30), 2)));
+        for refused in ["u8 1 \\n", "u8 1 0 fields", "u8 1 x fields", "u8 1 4 fields 4", "8 1"] {
+            assert!(cut(refused).is_err(), "{refused}");
         }
     }
 

@@ -166,45 +166,48 @@ struct Sources {
 
 impl Sources {
     fn new(calls: &[TimedCall], types_of_slices: &[Integer], types: &[Integer]) -> Sources {
-        let mut cpp = String::from(include_str!("../../exports/from_chars.hpp"));
-        let mut c = String::from(include_str!("../../exports/columns.h"));
-        let mut names = Vec::new();
-        let mut export = |name: String, sum: String| {
-            cpp += &format!("EXPORT({name}, {sum})\n");
-            names.push(name);
-        };
+        let cpp = String::from(include_str!("../../exports/from_chars.hpp"));
+        let c = String::from(include_str!("../../exports/columns.h"));
+        let mut sources = Sources { cpp, c, names: Vec::new() };
         for (prefix, by) in [(OURS, "Ours"), (STANDARD, "Standard")] {
             for call in calls {
                 let (integer, is_whole) = (c_type(call.integer), call.is_whole());
                 let name = format!("{prefix}{}", call.export(Form::Words));
-                export(name, format!("rows<{by}, {integer}, {is_whole}>"));
+                sources.export(name, &format!("rows<{by}, {integer}, {is_whole}>"));
             }
             for integer in types_of_slices {
                 let name = format!("{prefix}{}", real::export(*integer, Form::Words));
-                export(name, format!("slices<{by}, {}>", c_type(*integer)));
+                sources.export(name, &format!("slices<{by}, {}>", c_type(*integer)));
             }
         }
-        for integer in types {
-            let (column, c_type) = (Cut::Column.export(*integer), c_type(*integer));
-            export(format!("{CHARS}{column}"), format!("column<Ours, {c_type}, false>"));
-            for cut in CUTS {
-                let (name, are_lines) = (cut.export(*integer), cut == Cut::Lines);
+        types.iter().for_each(|integer| sources.export_columns(*integer));
+        sources
+    }
+
+    // Exports a function in C++.
+    fn export(&mut self, name: String, sum: &str) {
+        self.cpp += &format!("EXPORT({name}, {sum})\n");
+        self.names.push(name);
+    }
+
+    // Exports what adds up columns of a type, in C++ and in C.
+    fn export_columns(&mut self, integer: Integer) {
+        let (column, c_type) = (Cut::Column.export(integer), c_type(integer));
+        self.export(format!("{CHARS}{column}"), &format!("column<Ours, {c_type}, false>"));
+        self.c += &format!("COLUMN({}, {c_type})\n", integer.name());
+        self.names.push(format!("{NEXT}{column}"));
+        for cut in CUTS {
+            let (name, are_lines) = (cut.export(integer), cut == Cut::Lines);
+            let standard = format!("column<Standard, {c_type}, {are_lines}>");
+            for (prefix, sum) in
+                [(STANDARD, standard), (RANGE, format!("fields<{c_type}, {are_lines}>"))]
+            {
                 let of_columns = matches!(cut, Cut::Columns(_));
-                let sum = |sum: String| if of_columns { format!("columns<{sum}>") } else { sum };
-                let standard = format!("column<Standard, {c_type}, {are_lines}>");
-                export(format!("{STANDARD}{name}"), sum(standard));
-                export(format!("{RANGE}{name}"), sum(format!("fields<{c_type}, {are_lines}>")));
+                let sum = if of_columns { format!("columns<{sum}>") } else { sum };
+                self.export(format!("{prefix}{name}"), &sum);
             }
+            self.names.extend([OURS, READ_64, READ_1024].map(|it| format!("{it}{name}")));
         }
-        for integer in types {
-            c += &format!("COLUMN({}, {})\n", integer.name(), c_type(*integer));
-            names.push(format!("{NEXT}{}", Cut::Column.export(*integer)));
-            let in_c = |cut: Cut| {
-                [OURS, READ_64, READ_1024].map(|it| it.to_string() + &cut.export(*integer))
-            };
-            names.extend(CUTS.into_iter().flat_map(in_c));
-        }
-        Sources { cpp, c, names }
     }
 }
 

@@ -67,7 +67,11 @@ fn time(arguments: &Arguments, built: &Inlined, cpu: &str) -> Result<usize, Stri
         + time(&built.reads, reads(arguments)?, MANY)?
         + time(&built.calls, lists(arguments, &tables::input_lists()?, random), "call")?
         + time(&built.calls, columns(arguments, false, random)?, "field")?
-        + time(&built.going_on, columns(arguments, false, random)?, "field of numbers alone")?
+        + time(
+            &built.going_on,
+            columns(arguments, false, random)?,
+            "field of a column of numbers",
+        )?
         + time(
             &built.with_errors,
             columns(arguments, true, random)?,
