@@ -66,17 +66,15 @@ fn count(cache: &Cache, build: &Build, table: usize, tasks: &[Task]) -> Result<V
 
 /// Calls the export of a build for each task, in each form, and prints whether the answer is right. Valgrind runs it.
 pub fn call_exports(build: &Build, tasks: &[Task]) -> Result<bool, String> {
-    for (form, task) in
-        Form::BOTH.into_iter().flat_map(|form| tasks.iter().map(move |it| (form, it)))
-    {
-        let is_right = task.is_right(build, form)?;
-        if is_right.is_some() {
-            export_ends();
+    for form in Form::BOTH {
+        for task in tasks {
+            let is_right = task.is_right(build, form)?;
+            if is_right.is_some() {
+                export_ends();
+            }
+            let said = is_right.map_or("none", |it| if it { "right" } else { "wrong" });
+            println!("{said}");
         }
-        println!(
-            "{}",
-            is_right.map_or("none", |is_right| if is_right { "right" } else { "wrong" })
-        );
     }
     Ok(true)
 }

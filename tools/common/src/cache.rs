@@ -22,7 +22,7 @@ impl Cache {
             .or_else(|| env::var_os("HOME").map(|home| PathBuf::from(home).join(".cache")))
             .unwrap_or_else(env::temp_dir);
         let place = repository.to_string_lossy().replace('/', "-");
-        let folder = caches.join(format!("torkettle-diff{place}"));
+        let folder = caches.join(format!("torkettle-tools{place}"));
         Ok(Cache { folder, repository: repository.to_path_buf() })
     }
 
