@@ -5,7 +5,6 @@ use crate::fields::Fields;
 use atoi_core::clones_are_the_same;
 use atoi_simd::Parse;
 
-// Proves the law for the iterators.
 fn clones<T: Parse>() {
     clones_are_the_same::<Column<'_, T>>();
     clones_are_the_same::<Fields<'_, T>>();

@@ -104,7 +104,7 @@ impl ColumnError<'_> {
         }
     }
 
-    /// Returns what `==` returns, with a contract.
+    /// Returns what `==` returns.
     #[doc(hidden)]
     pub fn is_same_as(&self, other: &ColumnError<'_>) -> bool
         ensures { IsTrue result ↔ (flaw_of self.now ≡ flaw_of other.now) }
@@ -113,7 +113,6 @@ impl ColumnError<'_> {
     }
 }
 
-// Proves the law for this type.
 fn clones() {
     clones_are_the_same::<ColumnError<'_>>();
 }

@@ -62,8 +62,7 @@ pub fn pieces_in_turn<T: Number>()
     ensures { PiecesInTurn T.int_type }
 {}
 
-// A field is accepted exactly if the number at its start ends where the field ends, so no end is looked
-// for.
+// A field is accepted exactly if the number at its start ends where the field ends.
 #[tactic(auto, using(crate::proofs::lemmas::Prefixes::fields_are_prefixes))]
 pub(crate) fn fields_are_prefixes<T: Number>()
     ensures { FieldsArePrefixes T.int_type }

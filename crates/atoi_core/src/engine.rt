@@ -1,5 +1,4 @@
-//! The reads that parsers make, and the parses of wide integers that they are enough for. Below: what a
-//! read reports, how reads are counted, and engines that read byte by byte.
+//! The reads that parsers make, and the parses of wide integers that they are enough for.
 ghost use Rattle.std.specs.Prelude.{◌≡◌, ◌+◌, ◌≤◌};
 ghost use Rattle.atoi_core.specs.Digit.{Table, IsBelowTen};
 ghost use Rattle.atoi_core.specs.Loads.{LoadsWithin, most_loads};
@@ -64,8 +63,7 @@ pub trait Engine {
         answer_64(bound, limit, at, 16 + second.len, number, s)
     }
 
-    /// The same as `prefix_64`, for 128 bits, where the limit is 39 digits. The errors are `Empty`,
-    /// `Size` and `Overflow`.
+    /// Like `prefix_64`, for 128 bits and a limit of 39 digits. The errors are the same.
     fn prefix_128<'a>(
         bound: u128,
         skip: bool,

@@ -81,7 +81,6 @@ pub fn clones_are_the_same<T: Clone>()
     requires always { (value : T) → T.is_infallible value }
 {}
 
-// Proves the law for this type.
 fn clones() {
     clones_are_the_same::<AtoiSimdError<'_>>();
 }

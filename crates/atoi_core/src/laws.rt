@@ -5,7 +5,7 @@ ghost use Rattle.atoi_core.specs.Laws.{TextOfValue, AcceptedTexts, AcceptedNumbe
 
 use crate::number::Number;
 
-/// `parse` returns each value of the type from its decimal text, whichever flags are on.
+/// Whatever the flags, `parse` returns each value from its decimal text.
 #[tactic(auto, using(crate::proofs::lemmas::Texts::text_of_value))]
 pub fn text_of_value<T: Number>()
     ensures { TextOfValue T.int_type }
@@ -35,7 +35,7 @@ pub fn prefix_results<T: Number, const SKIP_ZEROES: bool>()
     ensures { PrefixResults T.int_type T.number SKIP_ZEROES }
 {}
 
-/// A slice of bytes that write a number and a rest without a digit at its start: one such prefix.
+/// At most one prefix of a slice writes a number and has no digit after it.
 #[tactic(auto, using(crate::proofs::lemmas::Prefixes::prefixes_and_rests))]
 pub fn prefixes_and_rests<T: Number>()
     ensures { PrefixesAndRests T.int_type }
@@ -59,7 +59,7 @@ pub fn prefix_begins<T: Number>()
     ensures { PrefixBegins T.int_type }
 {}
 
-/// An error of a prefix parse that skips zeros means no digit, or digits of a number that is too large.
+/// If a prefix parse that skips zeros fails, there is no digit, or the number is too large.
 #[tactic(auto, using(crate::proofs::lemmas::Numbers::none_or_too_large))]
 pub fn none_or_too_large<T: Number>()
     ensures { NoneOrTooLarge T.int_type }

@@ -82,7 +82,7 @@ pub(crate) fn limit_64<T: Number>() -> u32
     if T::SIGNED { 19 } else { 20 }
 }
 
-// Returns `magnitude`, or minus it if `minus` is set. A product, since the compiler would branch on the sign.
+// A product, since the compiler would branch on the sign.
 fn with_sign_64(minus: bool, magnitude: u64) -> i128
     ensures { result ≡ with_sign minus magnitude }
 {

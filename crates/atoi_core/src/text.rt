@@ -1,4 +1,4 @@
-//! The text of an error, and the decimal and hexadecimal numbers in it, written into a slice.
+//! The text of an error, written into a slice.
 ghost use Rattle.std.specs.Prelude.{◌≡◌, ◌+◌, ◌-◌, ◌*◌, ◌/◌, ◌%◌, ◌^◌, ◌<◌, ◌≤◌, ◌∷◌, [], ◌++◌, true, Some, length, take, codes, decimal, IsAscii};
 ghost use Rattle.std.specs.Fmt.{digit_glyph};
 ghost use Rattle.atoi_core.specs.ErrorText.{hex_text, hex_list, input_text, invalid_text, error_text};
@@ -112,8 +112,8 @@ pub fn decimal(value: u128, out: &mut [u8; 39]) -> usize
     put_decimal(value, out, 0)
 }
 
-// Writes `bytes` into `out` from offset `at` on, and returns the offset after them, as the other
-// `put_` functions do with what they write.
+// Writes `bytes` into `out` from offset `at` on. Each `put_` function returns the offset after what it
+// writes.
 fn put_bytes(bytes: &[u8], out: &mut [u8], at: usize) -> usize
     requires { at + length bytes.now ≤ length out.old }
     ensures written { take result out.new ≡ take at out.old ++ bytes.now }
@@ -151,8 +151,8 @@ fn put_decimal(value: u128, out: &mut [u8], at: usize) -> usize
     put_byte(b'0' + ones, out, end)
 }
 
-// A long division in base 2^32. On most processors, a division of 128 bits calls a function that a
-// library without std cannot link.
+// A long division in base 2^32. On most processors, a 128-bit division calls a function that a library
+// without std cannot link.
 fn divide_by_ten(value: u128) -> (u128, u8)
     ensures { result ≡ (value / 10, value % 10) }
 {

@@ -9,7 +9,6 @@ ghost use Rattle.std.specs.Int.Bits.{bit_and};
 /// Eight zeros, each the byte 48.
 pub(crate) const ZEROS: u64 = 0x3030_3030_3030_3030;
 
-// Four of them.
 const FOUR_ZEROS: u32 = 0x3030_3030;
 
 /// Returns the word of `8 - len` zeros, which fills a short slice to eight bytes.
@@ -24,7 +23,7 @@ pub(crate) fn fill_of_zeros(len: usize) -> u64
 
 // A byte is no digit if adding 70 or subtracting 48 sets its top bit. A carry or a borrow changes only
 // bytes above the first that is no digit.
-/// Returns how many digits the word begins with. `check_len_8` does so with more operations.
+/// Returns how many digits the word begins with.
 #[tactic(auto, using(atoi_core::proofs::lemmas::LoweredWords::marks_of_8, crate::proofs::lemmas::WordRuns::none_marked))]
 pub(crate) fn digits_of(word: u64) -> u32
     ensures len { result ≡ run_len decimal_table (low_bytes 8 word) }
@@ -40,8 +39,7 @@ pub(crate) fn digits_of(word: u64) -> u32
     }
 }
 
-// `len_zeroes`, from the difference that `digits_of` and `value_of` compute, too, which saves
-// instructions.
+// `len_zeroes`, from the difference that `digits_of` and `value_of` compute, too.
 #[tactic(auto, using(crate::proofs::lemmas::WordRuns::lowered_zeros_of_8))]
 pub(crate) fn zeroes_of(word: u64) -> u32
     ensures zeroes { result ≡ zeros decimal_table (low_bytes 8 word) }
@@ -134,7 +132,6 @@ pub(crate) fn digits_of_four(word: u32) -> u32
     }
 }
 
-/// Whether the first byte of a word of four is a digit.
 #[tactic(auto, using(crate::proofs::lemmas::WordRuns::first_byte_of_4))]
 pub(crate) fn starts_with_digit_of_four(word: u32) -> bool
     ensures { result ≡ nat_lt 0 (run_len decimal_table (low_bytes 4 word)) }
@@ -142,8 +139,7 @@ pub(crate) fn starts_with_digit_of_four(word: u32) -> bool
     ((word & 0xFF) as u8).is_ascii_digit()
 }
 
-/// Returns the number that the first `len` bytes of a word of four bytes spell. They are digits, at
-/// least one.
+/// `value_of` for a word of four bytes.
 #[tactic(auto, using(crate::proofs::lemmas::WordRuns::lowered_in_four))]
 pub(crate) fn value_in_four(word: u32, len: u32) -> u32
     requires some { 1 ≤ len }

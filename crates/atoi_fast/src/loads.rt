@@ -1,4 +1,4 @@
-//! Words that are loaded from a slice, for every engine that reads words. A missing byte is 0.
+//! Words that are loaded from a slice. A missing byte is 0.
 ghost use Rattle.std.specs.Prelude.{◌≡◌, ◌-◌, ◌<◌, ◌≤◌, ◌++◌, length, take, drop, replicate};
 ghost use Rattle.atoi_core.specs.Words.{word_of};
 
@@ -54,7 +54,6 @@ pub(crate) fn load_four_from(s: &[u8], at: usize) -> u32
     }
 }
 
-/// Returns the word of the last four bytes.
 #[tactic(auto, using(atoi_core::proofs::lemmas::LoadedWords::word_from_four))]
 pub(crate) fn load_last_four(s: &[u8]) -> u32
     requires { 4 ≤ length s.now }
@@ -78,7 +77,6 @@ pub(crate) fn load_full(s: &[u8]) -> u64
     }
 }
 
-/// Returns the word of the last 8 bytes.
 #[tactic(auto, using(crate::proofs::lemmas::LoadedWords::word_of_last))]
 pub(crate) fn load_last(s: &[u8]) -> u64
     requires { 8 ≤ length s.now }

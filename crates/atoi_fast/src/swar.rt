@@ -21,7 +21,7 @@ use atoi_core::powers::{append_digits, power_of_ten};
 use atoi_core::wide_answer::{answer_64, answer_128, found_or_empty};
 use atoi_core::{AtoiSimdError, Engine, Steps, Window, window_after_zeros};
 
-/// The engine that reads eight bytes at once, as a word. Its digits are `b'0'` to `b'9'`.
+/// The engine of words, for the digits `b'0'` to `b'9'`.
 pub struct Swar;
 
 impl Engine for Swar {
@@ -66,7 +66,6 @@ impl Engine for Swar {
         found_or_empty(only.number, only.len as usize)
     }
 
-    /// Enters a loop only if there are zeros to skip.
     #[inline(always)]
     fn prefix_128<'a>(
         bound: u128,
@@ -114,7 +113,7 @@ impl Engine for Windows {
     ghost below_ten = { λ byte. Prim.grind (arith, nat_tests) };
 }
 
-// `prefix_64` with `skip`, after a first window that reported `zeroes` > 0.
+// `prefix_64` with `skip`, after a first window that reported zeros.
 #[inline(never)]
 fn prefix_64_after_zeros<'a>(
     bound: u64,
@@ -142,7 +141,7 @@ fn prefix_64_after_zeros<'a>(
     answer_64(bound, limit, at, 16 + second.len, number, s)
 }
 
-// `prefix_128` with `skip`, after a first window that reported `zeroes` > 0.
+// `prefix_128` with `skip`, after a first window that reported zeros.
 #[inline(never)]
 fn prefix_128_after_zeros<'a>(
     bound: u128,
@@ -277,7 +276,7 @@ fn medium_window(s: &[u8]) -> Window
     }
 }
 
-// The window of 8 bytes. A missing byte is 0 in the word, which is no digit.
+// The window of 8 bytes.
 #[inline(always)]
 fn window_of_word(word: u64) -> Window
     ensures len { result.len ≡ run_len decimal_table (low_bytes 8 word) }

@@ -10,8 +10,8 @@ use crate::wide_lanes::{prefix_64_lanes, prefix_128_lanes};
 use atoi_core::{AtoiSimdError, Engine, Steps, Window};
 use std::simd::prelude::*;
 
-/// The engine for the digits `b'0'` to `b'9'` that reads windows of 16 bytes, and of 32 in `prefix_64` and
-/// `prefix_128`.
+/// The engine of vectors, for the digits `b'0'` to `b'9'`. In `prefix_64` and `prefix_128`, it reads 32
+/// bytes at once.
 pub struct Lanes;
 
 // Returns the window of `size` bytes from lanes that hold at most these, and 0 after them.
@@ -29,14 +29,12 @@ fn lane_window(lanes: u8x16, size: u32) -> Window
 impl Engine for Lanes {
     ghost table = { decimal_table };
 
-    /// Returns the window of 16 bytes. Makes one load.
     #[tactic(auto, using(atoi_core::proofs::lemmas::LaneWindows::window_of_lanes))]
     fn window(s: &[u8], steps: &mut Steps) -> Window {
         steps.tick();
         lane_window(load_lanes(s), 16)
     }
 
-    /// Returns the window of 8 bytes. Makes one load.
     #[tactic(auto, using(atoi_core::proofs::lemmas::LaneWindows::window_of_half))]
     fn window_8(s: &[u8], steps: &mut Steps) -> Window {
         steps.tick();

@@ -1,5 +1,4 @@
 //! Parses with a sign, by the engine of this crate.
-//! atoi_simd and atoi_lanes each have this file. `.ci/texts` compares the two, and reads their bodies.
 ghost use Rattle.std.specs.Prelude.{◌≡◌, ◌≤◌, IfOk, length};
 ghost use Rattle.atoi_core.specs.Answer.{typed_answer, typed_prefix_answer, parse_answer, parse_prefix_answer};
 
@@ -7,8 +6,8 @@ use crate::default_engine::DefaultEngine;
 use crate::parse_pos_trait::ParsePos;
 use atoi_core::{AtoiSimdError, Parsed, Steps, parse_prefix_text, parse_text};
 
-/// An integer type that is parsed with a sign. No other crate can implement it, since none can name
-/// `ParsePos`. Its methods take [flags](crate::guide#choose-the-flags) that are known only at run time.
+/// An integer type that is parsed with a sign. No other crate can implement it. Its methods take
+/// [flags](crate::guide#choose-the-flags) that are known only at run time.
 ///
 /// ```
 /// use torkettle::{AtoiSimdError, Parse, parse};

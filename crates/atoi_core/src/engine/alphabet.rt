@@ -8,7 +8,7 @@ use crate::engine::Engine;
 use crate::engine::steps::Steps;
 use crate::engine::window::Window;
 
-/// A table of digits that code can look up, and so an engine for these digits.
+/// A table of digits that code can look up.
 pub trait Alphabet {
     ghost table: { Table };
 

@@ -9,7 +9,7 @@ ghost use Rattle.std.proofs.lemmas.Bool.Decides.{nat_tests};
 use crate::engine::alphabet::Alphabet;
 use crate::error::AtoiSimdError;
 
-/// The alphabet of decimal digits, and so the engine that reads them byte by byte.
+/// The alphabet of decimal digits.
 pub struct Plain;
 
 impl Alphabet for Plain {

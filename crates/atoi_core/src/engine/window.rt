@@ -34,7 +34,6 @@ impl Window {
     }
 }
 
-// Proves the law for this type.
 fn clones() {
     clones_are_the_same::<Window>();
 }

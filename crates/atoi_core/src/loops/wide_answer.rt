@@ -80,7 +80,6 @@ pub fn answer_128<'a>(
     }
 }
 
-// Returns `high * power + low`, or `None` if that is above `bound`.
 fn up_to(bound: u128, high: u128, power: u128, low: u64) -> Option<u128>
     ensures { result ≡ (if nat_lt bound (high * power + low) then None
         else Some (high * power + low)) }

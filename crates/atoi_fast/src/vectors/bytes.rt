@@ -102,7 +102,7 @@ fn to_end(v: u8x16, len: usize) -> u8x16
     v.swizzle_dyn_within::<16>(u8x16::from_slice(&TO_END[len - 8]))
 }
 
-// Returns the number that 8 to 15 bytes spell, if all are digits. It need not wait for their count.
+// Returns the number that 8 to 15 bytes spell, if all are digits.
 #[inline(always)]
 pub(crate) fn read_medium(s: &[u8]) -> Option<u64>
     requires enough { 8 ≤ length s.now }

@@ -17,11 +17,9 @@ pub(crate) struct Window32 {
     pub(crate) len: u32,
     /// How many zeros the bytes begin with.
     pub(crate) zeroes: u32,
-    /// The number that these digits spell.
     pub(crate) number: u128,
 }
 
-/// Returns the window of 32 bytes.
 #[inline(always)]
 pub(crate) fn window_32(s: &[u8], steps: &mut Steps) -> Window32
     ensures reading { Reading decimal_table 32 s.now result.len result.zeroes result.number }

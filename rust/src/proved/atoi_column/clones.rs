@@ -5,7 +5,6 @@ use crate::proved::atoi_column::fields::Fields;
 use crate::proved::atoi_core::clones_are_the_same;
 use crate::proved::atoi_simd::Parse;
 
-// Proves the law for the iterators.
 #[inline] fn clones<T: Parse>() {
     clones_are_the_same::<Column<'_, T>>();
     clones_are_the_same::<Fields<'_, T>>();

@@ -62,7 +62,7 @@ impl FieldError<'_> {
         fault(self.cause)
     }
 
-    /// Returns what `==` returns, with a contract.
+    /// Returns what `==` returns.
     #[doc(hidden)]
     #[inline] pub fn is_same_as(&self, other: &FieldError<'_>) -> bool
         // ensures { IsTrue result ↔ (bad_field_of self.now ≡ bad_field_of other.now) }
@@ -71,7 +71,6 @@ impl FieldError<'_> {
     }
 }
 
-// Proves the law for this type.
 #[inline] fn clones() {
     clones_are_the_same::<FieldError<'_>>();
 }

@@ -1,5 +1,5 @@
-/* Made by .ci/erase from crates/atoi_core/src/calls.rt. Do not edit. */ //! The parses of an integer type: they take the sign, and parse the digits after it with the parser for the
-//! type's size. The four *core calls* parse digits without a sign.
+/* Made by .ci/erase from crates/atoi_core/src/calls.rt. Do not edit. */ //! The parses of an integer type: the sign, then the digits with the parser for the type's size. The
+//! four *core calls* parse digits without a sign.
 // ghost use Rattle.std.specs.Prelude.{◌≡◌, ◌+◌, ◌<◌, ◌≤◌, true, false, IfOk, length, drop};
 // ghost use Rattle.atoi_core.specs.Answer.{typed_answer, typed_prefix_answer, text_answer, text_prefix_answer, whole_answer, prefix_answer};
 // ghost use Rattle.atoi_core.specs.IntType.{class_of, limit_of};
@@ -80,8 +80,8 @@ pub fn parse_prefix_text<'a, E: Engine, T: Number>(
     Ok((number, len + (s.len() - body.len())))
 }
 
-/// Consumes a `+` if `skip_plus` is on, or a `-` if `signed` is on. Returns whether it was a `-`, and
-/// the body after it.
+/// Consumes a `+` if `skip_plus`, or a `-` if `signed`. Returns whether it was a `-`, and the body
+/// after it.
 #[inline(always)]
 pub fn take_sign(signed: bool, skip_plus: bool, s: &[u8]) -> (bool, &[u8])
     // ensures minus { result.0 ≡ (sign_of signed skip_plus s.now).minus }
@@ -196,8 +196,8 @@ fn whole_with_sign<'a, E: Engine, T: Number>(
     Ok(T::from_parts(minus, magnitude))
 }
 
-// Returns the magnitude of fewer than 16 bytes, which one window decides: they never have too many digits,
-// and only in a narrow type can they be out of range.
+// Returns the magnitude of fewer than 16 bytes, which one window decides: they never have too many
+// digits.
 #[inline(always)]
 fn whole_short<'a, E: Engine, T: Number>(
     bound: u128,

@@ -81,7 +81,6 @@ impl Error for AtoiSimdError<'_> {}
     // requires always { (value : T) → T.is_infallible value }
 {}
 
-// Proves the law for this type.
 #[inline] fn clones() {
     clones_are_the_same::<AtoiSimdError<'_>>();
 }

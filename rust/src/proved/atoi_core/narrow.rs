@@ -12,10 +12,9 @@ use crate::proved::atoi_core::engine::window::Window;
 use crate::proved::atoi_core::error::AtoiSimdError;
 use crate::proved::atoi_core::loops::window_after_zeros;
 
-/// Parses the digits at the start of `s`, and returns their value, at most `bound`, and their
-/// number. The errors are `Empty`, `Size(17, s)` for more than 16 digits without `skip`, and
-/// `Overflow` with `s`. With `skip`, the slice leaves out leading zeros in whole blocks of 16, or
-/// all of them if the block in which they end is full of digits.
+/// Parses the digits at the start of `s`, and returns their value, at most `bound`, and their number.
+/// The errors are `Empty`, `Size(17, s)` for more than 16 digits without `skip`, and `Overflow`, whose
+/// slice `AtoiSimdError` describes.
 #[inline(always)]
 // #[tactic(auto, using(crate::proofs::lemmas::LoopAnswers::narrow_size))]
 pub fn narrow_prefix<'a, E: Engine>(
@@ -76,7 +75,7 @@ pub fn narrow_whole_windows<'a, E: Engine>(
     narrow_answer(bound, len, len == s.len(), window.number, s)
 }
 
-// `narrow_whole_windows`, after a first window that reported `zeroes` > 0.
+// `narrow_whole_windows`, after a first window that reported zeros.
 #[inline(never)]
 fn narrow_whole_after_zeros<'a, E: Engine>(
     bound: u64,
@@ -115,7 +114,6 @@ fn narrow_whole_after_zeros<'a, E: Engine>(
     bounded(bound, len, number, s)
 }
 
-// Returns `number` if there is a digit and it is at most `bound`.
 #[inline] fn bounded(bound: u64, len: usize, number: u64, s: &[u8]) -> Result<u64, AtoiSimdError<'_>>
     // ensures { answer_of result ≡ (if len == 0 then Err empty
     //     else if nat_lt bound number then Err (overflow s.now) else Ok number) }
@@ -129,7 +127,7 @@ fn narrow_whole_after_zeros<'a, E: Engine>(
     }
 }
 
-// `narrow_prefix` with `skip`, after a first window that reported `zeroes` > 0.
+// `narrow_prefix` with `skip`, after a first window that reported zeros.
 #[inline(never)]
 fn narrow_prefix_after_zeros<'a, E: Engine>(
     bound: u64,
@@ -148,7 +146,6 @@ fn narrow_prefix_after_zeros<'a, E: Engine>(
     answer_at(bound, at, window, s)
 }
 
-// The answer of the last window, at offset `at`.
 #[inline] fn answer_at(
     bound: u64,
     at: usize,

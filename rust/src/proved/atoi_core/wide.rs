@@ -1,4 +1,4 @@
-/* Made by .ci/erase from crates/atoi_core/src/wide.rt. Do not edit. */ //! Parsers of integers of 64 and 128 bits, for a given bound and all of a slice.
+/* Made by .ci/erase from crates/atoi_core/src/wide.rt. Do not edit. */ //! Parsers of all of a slice as an integer of 64 or 128 bits.
 // ghost use Rattle.std.specs.Prelude.{◌≡◌, ◌≤◌};
 // ghost use Rattle.atoi_core.specs.Loads.{LoadsWithin, most_loads};
 // ghost use Rattle.atoi_core.specs.Magnitude.{HasDigits, wide64, wide128, whole_magnitude};

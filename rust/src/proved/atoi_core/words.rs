@@ -1,5 +1,5 @@
-/* Made by .ci/erase from crates/atoi_core/src/words.rt. Do not edit. */ //! Functions on words, all but `load_8` by the steps of the Rust crate `atoi_simd`, and the engine that reads
-//! windows by them. A *word* holds eight or sixteen bytes, the first one lowest.
+/* Made by .ci/erase from crates/atoi_core/src/words.rt. Do not edit. */ //! Functions on words, and the engine that reads windows by them. A *word* holds eight or sixteen
+//! bytes, the first one lowest.
 // ghost use Rattle.std.specs.Prelude.{◌≡◌, ◌<◌, ◌≤◌, length, take};
 // ghost use Rattle.atoi_core.specs.Digit.{decimal_table};
 // ghost use Rattle.atoi_core.specs.Run.{run_len, zeros};
@@ -13,8 +13,7 @@ use crate::proved::atoi_core::engine::steps::Steps;
 use crate::proved::atoi_core::engine::window::Window;
 use crate::proved::atoi_core::loops::powers::power_of_ten;
 
-/// The engine for decimal digits that reads windows by the six public functions of this module, and by
-/// nothing else.
+/// The engine for decimal digits that reads windows by the functions of this module.
 pub struct Words;
 
 impl Engine for Words {
@@ -106,7 +105,6 @@ impl Engine for Words {
     }
 }
 
-// The upper half of each byte.
 const UPPER_HALVES: u64 = 0xF0F0_F0F0_F0F0_F0F0;
 
 /// Returns how many bytes of `val`, from the lowest on, are digits.

@@ -14,8 +14,7 @@ use crate::proved::atoi_core::powers::{append_digits, power_of_ten};
 use crate::proved::atoi_core::wide_answer::answer_64;
 use crate::proved::atoi_core::{AtoiSimdError, Steps};
 
-/// Returns the answer of `prefix_64` that skips no zeros, after 16 digits, which spell `high`. It counts
-/// one load.
+/// Returns the answer of `prefix_64` that skips no zeros, after 16 digits, which spell `high`.
 ///
 /// # Errors
 ///
@@ -91,7 +90,6 @@ fn answer_near_end<'a>(
     Some(value_at_end(word, 20 - s.len()))
 }
 
-// Returns `number` with the length of `s`, or `Overflow` if it is above `bound`.
 #[inline] fn answer_to_end(bound: u64, number: u128, s: &[u8]) -> Result<(u64, usize), AtoiSimdError<'_>>
     // ensures { answer_of result ≡ (if nat_lt bound number then Err (overflow s.now)
     //     else Ok (number, length s.now)) }
@@ -172,7 +170,6 @@ fn answer_from_20<'a>(
     answer_64(bound, limit, 0, 20, number, s)
 }
 
-/// Whether the first byte is a digit.
 #[inline] pub(crate) fn begins_with_digit(s: &[u8]) -> bool
     // ensures { result ≡ nat_lt 0 (run_len decimal_table s.now) }
 {

@@ -19,7 +19,7 @@ use crate::proved::atoi_fast::vectors::wide::{prefix_64_vectors, prefix_128_vect
 use crate::proved::atoi_core::{AtoiSimdError, Engine, Steps, Window};
 use crate::simd::prelude::*;
 
-/// The engine that reads sixteen bytes at once into the lanes of a vector, and 32 while it skips zeros. Its digits are `b'0'` to `b'9'`.
+/// The engine of vectors, for the digits `b'0'` to `b'9'`.
 pub struct Vectors;
 
 impl Engine for Vectors {
@@ -38,7 +38,6 @@ impl Engine for Vectors {
     // #[tactic(auto, using(atoi_core::proofs::lemmas::LaneWindows::window_of_half))]
     fn window_8(s: &[u8], steps: &mut Steps) -> Window {
         steps.tick();
-        // An empty slice needs no lanes.
         if s.is_empty() {
             return Window::not_full(0, 0);
         }
@@ -105,7 +104,6 @@ pub(crate) fn window_below_16(s: &[u8]) -> Window
     short_window(s)
 }
 
-// The window of 16 bytes.
 #[inline(always)]
 pub(crate) fn read_window(s: &[u8]) -> Window
     // ensures { result ≡ window_of decimal_table 16 s.now }

@@ -1,5 +1,4 @@
 /* Made by .ci/erase from crates/atoi_simd/src/parse_neg_trait.rt. Do not edit. */ //! Parses of the digits of a negative number, by the engine of this crate.
-//! atoi_simd and atoi_lanes each have this file. `.ci/texts` compares the two, and reads their bodies.
 // ghost use Rattle.std.specs.Prelude.{◌≡◌, ◌≤◌, true, IfOk, length};
 // ghost use Rattle.atoi_core.specs.Answer.{typed_answer, typed_prefix_answer, whole_answer, prefix_answer};
 // ghost use Rattle.atoi_core.specs.Digit.{decimal_table};

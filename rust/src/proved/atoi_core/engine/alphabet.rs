@@ -8,7 +8,7 @@ use crate::proved::atoi_core::engine::Engine;
 use crate::proved::atoi_core::engine::steps::Steps;
 use crate::proved::atoi_core::engine::window::Window;
 
-/// A table of digits that code can look up, and so an engine for these digits.
+/// A table of digits that code can look up.
 pub trait Alphabet {
     // ghost table: { Table };
 

@@ -9,7 +9,7 @@
 use crate::proved::atoi_core::engine::alphabet::Alphabet;
 use crate::proved::atoi_core::error::AtoiSimdError;
 
-/// The alphabet of decimal digits, and so the engine that reads them byte by byte.
+/// The alphabet of decimal digits.
 pub struct Plain;
 
 impl Alphabet for Plain {

@@ -113,7 +113,6 @@ fn answer_128_after_16<'a>(
         }
     }
     if !begins_with_digit(&s[16..]) {
-        // Most numbers of 16 digits end here.
         return Ok((u128::from(high), 16));
     }
     steps.tick();
@@ -188,8 +187,7 @@ fn prefix_128_after_zeros<'a>(
     answer_after_32(bound, at, window.number, s, steps)
 }
 
-// Skips zeros window by window. Returns the first window that is not full of digits or does not begin
-// with a zero, and its offset.
+// Returns the first window that is not full of digits or does not begin with a zero, and its offset.
 #[inline] fn window_after_zeros(s: &[u8], steps: &mut Steps) -> (usize, Window32)
     // ensures reached { ReadsAfterZeros s.now result.0 result.1 }
     // ensures most { steps.new ≤ steps.old + zeros decimal_table s.now / 32 + 2 }
