@@ -53,7 +53,6 @@ fn answer_any<T: atoi_simd::Parse + lanes::Parse>(request: &Request, text: &[u8]
     }
 }
 
-// Appends the answer to a row of a signed type `T`.
 fn answer_signed<T: atoi_simd::Parse + lanes::Parse + atoi_simd::ParseNeg + lanes::ParseNeg>(
     request: &Request,
     text: &[u8],

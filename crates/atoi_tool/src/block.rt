@@ -12,14 +12,14 @@ pub const ROOM: usize = 8192;
 
 const DIGITS: usize = 39;
 
-/// The largest number of bytes that a number has: a minus and 39 digits.
+/// The length of the longest number: a minus and 39 digits.
 pub const NUMBER: usize = 1 + DIGITS;
 
-/// The largest number of bytes that the text of an error has.
+/// The length of the longest text of an error.
 pub const ERROR: usize = 332;
 
-/// The largest number of bytes that are appended to a block at once: " err field ", an index, " ", a
-/// place, ": " and the text of an error.
+/// The length of the longest text that is appended at once: " err field ", an index, " ", a place, ": "
+/// and the text of an error.
 pub const LONGEST: usize = 11 + NUMBER + 1 + NUMBER + 2 + ERROR;
 
 /// Bytes that are still to be written, at most `ROOM` of them.

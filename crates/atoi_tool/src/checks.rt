@@ -7,7 +7,6 @@ use std::fmt::Debug;
 use std::process::Abort;
 use std::test::Fail;
 
-/// Checks that a call returned the expected answer.
 pub(crate) fn gives<A: Debug + Drop + PartialEq>(rt: &impl Abort, answer: A, expected: A) {
     assert_eq!(rt; answer, expected);
 }

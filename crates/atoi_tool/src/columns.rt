@@ -14,7 +14,6 @@ use crate::status::Refused;
 use atoi_column::Column;
 use atoi_simd::Parse;
 
-// Appends the items that are left in `column`.
 fn put_items<T: Parse, S: Sink>(
     column: Column<'_, T>,
     block: &mut Block,
@@ -31,7 +30,6 @@ fn put_items<T: Parse, S: Sink>(
     Ok(())
 }
 
-// Appends the answer to a row about a column of numbers of type `T`.
 fn put_column_of<T: Parse, S: Sink>(
     separator: u8,
     text: &[u8],

@@ -18,7 +18,7 @@ pub(crate) struct FailingReader<'a> {
 }
 
 impl<'a> FailingReader<'a> {
-    /// Returns a reader of `rest` that returns at most `part` bytes a call and never fails.
+    /// Returns a reader that never fails.
     pub(crate) fn new(rest: &'a [u8], part: usize) -> FailingReader<'a> {
         FailingReader {
             rest,
@@ -67,7 +67,7 @@ pub(crate) struct LimitedWriter {
 }
 
 impl LimitedWriter {
-    /// Returns an empty writer that accepts at most five bytes a call and, once full, stays full.
+    /// Returns a writer that accepts at most five bytes a call and stays full.
     pub(crate) fn new(alloc: Global, room: usize, full: Full) -> LimitedWriter {
         LimitedWriter {
             contents: Vec::new(alloc),
@@ -113,7 +113,6 @@ pub(crate) struct Errors {
 }
 
 impl Errors {
-    /// Returns a stream to which nothing was printed yet.
     pub(crate) fn new(alloc: Global, first: usize) -> Errors {
         Errors {
             reported: RefCell::new(Vec::new(alloc)),

@@ -14,8 +14,7 @@ const PART: usize = 4096;
 ///
 /// # Errors
 ///
-/// Returns `Read` if a call of `take` is refused, and `Memory` if the vector cannot grow, as in the
-/// end with a source that never ends. The bytes that were taken are then lost.
+/// Returns `Read` if a call of `take` is refused, and `Memory` if the vector cannot grow.
 pub fn read_all<S: Source>(alloc: Global, input: &mut S) -> Result<Vec<u8>, ToolError>
     ensures reads { S.failures input.new ≡ S.failures input.old + refused_reads result }
     ensures all { IfOk result

@@ -22,7 +22,7 @@ pub fn cut(separator: u8, bytes: &[u8]) -> Option<(&[u8], &[u8])>
     Some((&bytes[..place], &bytes[place + 1..]))
 }
 
-// Returns what the four words of a row about one number ask for, if such a row has an answer.
+// Returns what a row about one number asks for, if it has an answer.
 fn request_of(engine: &[u8], call: &[u8], integer: &[u8], flags: &[u8]) -> Option<Request>
     ensures request { result ≡ request_of engine.now call.now integer.now flags.now }
     ensures known { IfSome result (λ request. is_known request ≡ true) }
@@ -43,7 +43,7 @@ fn request_of(engine: &[u8], call: &[u8], integer: &[u8], flags: &[u8]) -> Optio
     }
 }
 
-// Returns the value of a hexadecimal digit, whose letters are capitals.
+// A letter must be a capital.
 fn value_of_hex_digit(byte: u8) -> Option<u8>
     ensures value { result ≡ value_of_hex_digit byte }
     ensures below { IfSome result (λ value. value < 16) }
@@ -67,7 +67,6 @@ fn byte_of(word: &[u8]) -> Option<u8>
     Some(16 * sixteens + ones)
 }
 
-// Returns the column that the words of a row ask for.
 fn column_of(engine: &[u8], integer: &[u8], separator: &[u8]) -> Option<Query>
     ensures query { result ≡ column_of engine.now integer.now separator.now }
     ensures answered { IfSome result HasAnswer }

@@ -9,7 +9,7 @@ use std::io::Write;
 
 /// A sink for bytes, which are appended to it one part after another.
 pub trait Sink {
-    /// The bytes that were appended so far, if contracts can name them, as for a writer in memory.
+    /// The bytes that were appended so far, if contracts can name them.
     ghost contents: { Self → Option (List ℕ) } = { λ _. None };
 
     /// How many calls of `put` were refused so far.
@@ -17,7 +17,7 @@ pub trait Sink {
 
     /// Appends a prefix of `bytes`, at least one byte, and returns its length.
     ///
-    /// A call that is refused appends nothing, and only such a call adds one to `failures`.
+    /// A call that is refused appends nothing.
     fn put(&mut self, bytes: &[u8]) -> Result<usize, Refused>
         requires { 0 < length bytes.now }
         ensures some { IfOk result (λ k. 0 < k) }
@@ -26,7 +26,7 @@ pub trait Sink {
         ensures failures { failures self.new ≡ failures self.old + failures_of result };
 }
 
-/// Writes all of `bytes` to `output`, with as many calls of `put` as this needs.
+/// Writes all of `bytes` to `output`.
 ///
 /// # Errors
 ///

@@ -9,7 +9,7 @@ use std::io::Read;
 
 /// A source of bytes, which are taken from it one part after another, up to its end.
 pub trait Source {
-    /// The bytes that are still to come, if contracts can name them, as for a reader in memory.
+    /// The bytes that are still to come, if contracts can name them.
     ghost rest: { Self → Option (List ℕ) } = { λ _. None };
 
     /// How many calls of `take` were refused so far.
@@ -18,7 +18,7 @@ pub trait Source {
     /// Writes the next bytes to the start of `space` and returns how many, 0 only at the end. The
     /// rest of `space` is unspecified.
     ///
-    /// A call that is refused takes no byte, and only such a call adds one to `failures`.
+    /// A call that is refused takes no byte.
     fn take(&mut self, space: &mut [u8]) -> Result<usize, Refused>
         requires { 0 < length space.old }
         ensures within { IfOk result (λ k. k ≤ length space.new) }

@@ -4,7 +4,7 @@ ghost use Rattle.atoi_tool.specs.Status.{status_of, tool_error_text};
 
 use std::fmt;
 
-/// A call of `Source::take` or `Sink::put` was refused. The reason is not kept.
+/// A call of `Source::take` or `Sink::put` was refused.
 #[derive(Drop)]
 pub struct Refused;
 

@@ -17,7 +17,7 @@ pub struct Address {
 /// Parses `text` as an IPv4 address such as `192.168.0.1`. It has four numbers below 256 with dots
 /// between them, and no number has a needless leading zero.
 ///
-/// Returns `None` for every other text, such as `1.2.3`, `1.2.3.04` and `1.2.3.256`.
+/// Returns `None` for every other text, such as `1.2.3` and `1.2.3.04`.
 pub fn parse_address(text: &[u8]) -> Option<Address>
     ensures some { IfSome result (λ address. IsAddress text.now address) }
     ensures none { IfNone result ((any : AddressValue) → ¬ IsAddress text.now any) }

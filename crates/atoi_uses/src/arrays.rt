@@ -7,7 +7,7 @@ use atoi_formats::{after, json_integer};
 /// Adds up the array that `text` begins with, such as `[12, -0, 7]`: integers in the range of `i64`, as
 /// JSON writes them, with a comma and a space between them. Returns the total, and what follows the array.
 ///
-/// Returns `None` if `text` begins with no such array, as `[1,2]`, `[01]`, `[1.5]` and `[1, ]` do not.
+/// Returns `None` if `text` begins with no such array, for example with `[1,2]` or `[01]`.
 #[tactic(auto, using(crate::specs::Arrays::empty, crate::specs::Arrays::filled))]
 pub fn total_of_array(text: &[u8]) -> Option<(i128, &[u8])>
     ensures some { IfSome result (λ found. IsArray text.now found.0 found.1.now) }

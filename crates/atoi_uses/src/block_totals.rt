@@ -41,7 +41,6 @@ pub fn total_in_blocks(input: &[u8], separator: u8) -> Result<u128, FieldError<'
     }
 }
 
-// Adds up the numbers of a block.
 fn sum_of(numbers: &[u32]) -> u64
     requires { length numbers.now ≤ BLOCK }
     ensures { result ≡ sum numbers.now }

@@ -28,7 +28,7 @@ pub struct Command {
 /// Why a line is not a command.
 #[derive(Clone, Copy, Debug, PartialEq, Eq)]
 pub enum CommandError<'a> {
-    /// The line begins neither with `SET` and a space, nor with `INCRBY` and a space.
+    /// The line does not begin with `SET` or `INCRBY` and a space.
     UnknownWord,
     /// What follows the word and the space is not a number of type `i64`. Holds the error of
     /// `atoi_simd::parse`.
@@ -54,8 +54,6 @@ impl Error for CommandError<'_> {}
 /// Parses all of `line` as a command: the word `SET` or `INCRBY` in capitals, one space, and a
 /// number of type `i64`, which may have a sign and leading zeros. Nothing else is accepted, not
 /// even a line feed at the end.
-///
-/// `read_command(b"SET 42")` returns the word `Set` and the number 42.
 ///
 /// # Errors
 ///

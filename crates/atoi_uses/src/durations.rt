@@ -85,7 +85,6 @@ fn capped_number(text: &[u8]) -> (u128, usize)
     }
 }
 
-// Returns how many digits `text` begins with.
 fn leading_digits(text: &[u8]) -> usize
     ensures { result ≡ run_len decimal_table text.now }
 {

@@ -10,7 +10,7 @@ use crate::cents::Cents;
 use atoi_core::{Alphabet, Steps, prefix_pos};
 use atoi_simd::AtoiSimdError;
 
-/// The alphabet of EBCDIC: its digits are the bytes `0xF0` to `0xF9`. As an engine, it reads byte by byte.
+/// The alphabet of EBCDIC: its digits are the bytes `0xF0` to `0xF9`.
 pub struct Ebcdic;
 
 impl Alphabet for Ebcdic {
@@ -26,10 +26,8 @@ impl Alphabet for Ebcdic {
     ghost below_ten = { λ byte. Prim.grind (arith, nat_tests) };
 }
 
-/// Reads the amount in cents that `field` begins with. Returns it, and the length of its digits in
-/// bytes.
-///
-/// The amount consists of EBCDIC digits without a sign, and may begin with any number of zeros.
+/// Reads the amount in cents that `field` begins with: EBCDIC digits without a sign, with any number of
+/// leading zeros. Returns it, and the length of its digits in bytes.
 ///
 /// # Errors
 ///

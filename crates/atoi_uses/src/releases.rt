@@ -17,7 +17,7 @@ pub struct Release {
 /// and no number has a needless leading zero. Returns them, and what follows them: for `1.22.333-rc.1`
 /// this is `-rc.1`.
 ///
-/// Returns `None` for every other text, such as `1.2-rc.1`, `1.02.3` and `v1.2.3`.
+/// Returns `None` for every other text, such as `1.2-rc.1` and `1.02.3`.
 pub fn release_and_rest(text: &[u8]) -> Option<(Release, &[u8])>
     ensures some { IfSome result (λ found. IsRelease text.now found.0 found.1.now) }
     ensures none { IfNone result ((any : ReleaseValue) (rest : List ℕ) → ¬ IsRelease text.now any rest) }

@@ -13,15 +13,14 @@ use std::fmt;
 pub enum SignedTotalError<'a> {
     /// A field is not a number of type `i64`. Holds the error for the first such field.
     BadField(ColumnError<'a>),
-    /// Every field is a number of type `i64`, but the sum of these numbers is out of the range of
-    /// `i64`. Holds the sum.
+    /// Every field is a number of type `i64`, but their sum is out of its range. Holds the sum.
     OutOfRange(i128),
 }
 
 /// Adds up the numbers of `input`, whose fields are separated by `separator`. Each may have a sign and
 /// leading zeros.
 ///
-/// The sum of the first few numbers may be out of the range of `i64`; only the sum of all matters.
+/// Only the sum of all numbers must be in the range of `i64`.
 ///
 /// # Errors
 ///

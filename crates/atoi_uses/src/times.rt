@@ -19,7 +19,7 @@ pub struct Time {
 /// Parses `text` as a time of day such as `7:30:15.25`: an hour of one or two digits, a minute and a
 /// second of two, colons between them, and perhaps a point and one to nine digits of a fraction.
 ///
-/// Returns `None` for every other text, such as `7:30`, `007:30:15`, `24:00:00` and `7:30:15.`.
+/// Returns `None` for every other text, such as `7:30` and `24:00:00`.
 pub fn parse_time(text: &[u8]) -> Option<Time>
     ensures some { IfSome result (λ time. IsTime text.now time) }
     ensures none { IfNone result ((any : TimeValue) → ¬ IsTime text.now any) }

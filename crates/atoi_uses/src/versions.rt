@@ -17,7 +17,7 @@ pub struct Version {
 /// Parses `text` as a version such as `1.22.333`: three numbers of type `u32`, with dots between
 /// them.
 ///
-/// Returns `None` for every other text, such as `1.2`, `1..3`, `1.2.3-rc1` and `v1.2.3`.
+/// Returns `None` for every other text, such as `1.2` and `v1.2.3`.
 pub fn parse_version(text: &[u8]) -> Option<Version>
     ensures some { IfSome result (λ version. IsVersion text.now version) }
     ensures none { IfNone result ((any : VersionValue) → ¬ IsVersion text.now any) }
