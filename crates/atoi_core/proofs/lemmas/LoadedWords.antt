@@ -69,7 +69,6 @@ word_of_rest n s at enough inside few fits =
     ∙ bytes_above missing (drop (length s - n) s) (λ i. rw get_or-drop (fits (length s - n + i)))
     ∙ ap word_of (drop-drop missing (length s - n) s ∙ ap (λ k. drop k s) above ∙ sym (take_all n (drop at s) (omega (arith, length-drop at s))))
 
--- Each byte is below 256.
 pub bytes : (s : List ℕ) → ((i : ℕ) → get_or s i 0 < 256) → Each1 (λ x. x < 256) s
 bytes s fits = Each1-from_get_or (λ x. x < 256) s 0 (λ i _. fits i)
 

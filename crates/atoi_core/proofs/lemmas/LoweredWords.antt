@@ -58,7 +58,6 @@ sum_of_fields digits fits halves =
     let spells = rw (whole, halves) at (two_rounds digits 8 (omega arith)) in
     omega (arith, and_mask (hundreds / 2 ^ 16) 16)
 
--- The list of the lowest k fields has k elements.
 length-digits : (base k word : ℕ) → length (digits_l base k word) ≡ k
 length-digits base zero word = refl
 length-digits base (suc k) word = cc (length-digits base k (word / base))

@@ -21,7 +21,6 @@ use Rattle.atoi_core.proofs.lemmas.Runs.{length-run, run_len-run, digits_all}
 
 -- ---- A number and what follows it
 
--- The law `NumberThenByte`.
 pub number_then_byte : (int : IntType) → IsSized int → NumberThenByte int
 number_then_byte int sized =
     let laws = prefixes_and_rests int sized in
@@ -45,7 +44,6 @@ number_then_byte int sized =
           let both : byte ∷ rest ≡ byte ∷ more = sym same.1.1 ∙ front_rest s k.bytes (byte ∷ more) k.parts in (same.0, cc);
     }
 
--- The law `OneNumber`.
 pub one_number : (int : IntType) → IsSized int → OneNumber int
 one_number int sized form s number other h k =
     let found = (accepted_numbers int sized).accepted form s in cc (found number h, found other k)
@@ -58,7 +56,6 @@ begins_of_run s some = grind (arith, cases_Bool, digit_in_range)
 run_of_begins : (s : List ℕ) → BeginsWithDigit s → 0 < run_len decimal_table s
 run_of_begins s digit = grind (arith, digit_is)
 
--- The law `PrefixBegins`.
 pub prefix_begins : (int : IntType) → PrefixBegins int
 prefix_begins int form skip s found h = search (arith, begins_of_run, found_prefix)
 
@@ -68,7 +65,6 @@ long_is_above : (int : IntType) → IsSized int → (is_negative : Bool) (body :
     → bound_of int is_negative < value decimal_table (run decimal_table body)
 long_is_above int sized is_negative body long = search (arith, cases_lt, limit_of_prefix, in_range_short)
 
--- The law `NoneOrTooLarge`.
 pub none_or_too_large : (int : IntType) → IsSized int → NoneOrTooLarge int
 none_or_too_large int sized = record {
   none = λ form skip s reason h.

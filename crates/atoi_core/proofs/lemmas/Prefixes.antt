@@ -37,7 +37,6 @@ prefix_stops_at_rest int form skip s v count h =
       | inr le ↦ inl (omega (arith, prefix_len-le-length (is_digit decimal_table) g.body))
     ]
 
--- The law `PrefixIsWhole`.
 pub prefix_is_whole : (int : IntType) → PrefixIsWhole int
 prefix_is_whole int = record {
   whole = λ form skip s v h.
@@ -52,7 +51,6 @@ prefix_is_whole int = record {
       ok_prefix int form skip s v (length s) (search (arith, limit_of_prefix));
 }
 
--- The law `PrefixOfCut`.
 pub prefix_of_cut : (int : IntType) → PrefixOfCut int
 prefix_of_cut int = record {
   cut = λ form skip s v count h.
@@ -147,7 +145,6 @@ some int (given is_negative) prefix_bytes number h = h.numeral.0
 same_answer : {E : Type 0} (a b : ℤ) (m n : ℕ) (answer : Result (ℤ × ℕ) E) → answer ≡ Ok (a, m) → answer ≡ Ok (b, n) → (a ≡ b) × (m ≡ n)
 same_answer a b m n answer one other = search (arith)
 
--- The law `PrefixesAndRests`.
 pub prefixes_and_rests : (int : IntType) → IsSized int → PrefixesAndRests int
 prefixes_and_rests int sized = record {
   of_parts = λ form s prefix_bytes rest number parts written ends. search (arith, some, take-append_seam, length-append, front_rest);
@@ -158,7 +155,6 @@ prefixes_and_rests int sized = record {
       (same.0, (rw (← same.1, parts, take-append_seam prefix_bytes rest) refl, rw (← same.1) (front_rest s prefix_bytes rest parts)));
 }
 
--- The law `AcceptedNumbers`.
 pub accepted_numbers : (int : IntType) → IsSized int → AcceptedNumbers int
 accepted_numbers int sized = record {
   written = whole_written int;
@@ -172,7 +168,6 @@ ok_value : {A E : Type 0} (r : Result A E) → IsOk r → (x : A) × (r ≡ Ok x
 ok_value (Ok x) h = (x, refl)
 ok_value (Err e) h = absurd (cc h)
 
--- The law `AcceptedTexts`.
 pub accepted_texts : (int : IntType) → IsSized int → AcceptedTexts int
 accepted_texts int sized = record {
   accepted = λ s. (
@@ -186,7 +181,6 @@ accepted_texts int sized = record {
 -- ---- Results of a type
 
 module _ {T : Type 0} (int : IntType) (sized : IsSized int) (number : T → ℤ) (skip : Bool) where
-  -- The law `WholeResults`.
   pub whole_results : WholeResults int number skip
   whole_results = record {
     text = λ plus. if_ok (looked_for plus);
@@ -205,7 +199,6 @@ module _ {T : Type 0} (int : IntType) (sized : IsSized int) (number : T → ℤ)
       on_err form s (Ok value) is on = tt
       on_err form s (Err error) is on = λ any h. let found : whole_call int form skip s ≡ Ok any = rw on ((accepted_numbers int sized).accepted form s any h) in absurd (cc)
 
-  -- The law `PrefixResults`.
   pub prefix_results : PrefixResults int number skip
   prefix_results = record {
     text = λ plus. if_ok (looked_for plus);

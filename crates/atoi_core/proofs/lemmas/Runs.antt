@@ -40,7 +40,6 @@ pub value-take-add : (table : Table) (n k : ℕ) (s : List ℕ) → n + k ≤ le
     value table (take (n + k) s) ≡ value table (take n s) * 10 ^ k + value table (take k (drop n s))
 value-take-add table n k s h = search (arith, take-add, value-append, length-take-le, length-drop)
 
--- The digit value of a zero is 0.
 value_of_zero : (table : Table) (byte : ℕ) → is_zero table byte ≡ true → digit_value table byte ≡ 0
 value_of_zero table byte h = grind (arith, eqb_tells)
 

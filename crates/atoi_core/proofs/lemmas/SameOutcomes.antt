@@ -52,7 +52,6 @@ same_reason : (int : IntType) (skip : Bool) (extent : Extent) (g h : Sign) → I
     → option_map rank (reason_at int skip extent g) ≡ option_map rank (reason_at int skip extent h)
 same_reason int skip extent g h alike = search (arith, refusal-rank)
 
--- The law `RestChangesNothing`.
 pub rest_changes_nothing : (int : IntType) → RestChangesNothing int
 rest_changes_nothing int form skip s t same =
     let g = sign_in int form s in
@@ -78,7 +77,6 @@ rest_changes_nothing int form skip s t same =
 abbrev padded : ℕ → List ℕ → List ℕ
 padded count body = replicate count zero_byte ++ body
 
--- The padded body is longer by `count`.
 length-padded : (count : ℕ) (body : List ℕ) → length (padded count body) ≡ count + length body
 length-padded count body = simp (length-append, length-replicate)
 
@@ -108,7 +106,6 @@ sign_of_padded : (int : IntType) (form : SignForm) (s : List ℕ) (count : ℕ) 
     ≡ record { minus = (sign_in int form s).minus; taken = (sign_in int form s).taken; body = padded count (sign_in int form s).body }
 sign_of_padded int form s count some = search (arith, prefix_len-replicate_append, sign_again)
 
--- The law `ZerosChangeNothing`.
 pub zeros_change_nothing : (int : IntType) → ZerosChangeNothing int
 zeros_change_nothing int = record {
   whole = λ form s count some.

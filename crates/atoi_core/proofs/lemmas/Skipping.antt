@@ -42,7 +42,6 @@ module _ (int : IntType) (sized : IsSized int) (minus : Bool) (extent : Extent) 
   short_refused : refused decimal_table int minus extent true body ≡ refused decimal_table int minus extent false body
   short_refused = search (arith, refusal-is, few_enough, limit-least, same_dropped, is_narrow, zeros-le)
 
--- The law `SkippingAgrees`.
 pub skipping_agrees : (int : IntType) → IsSized int → SkippingAgrees int
 skipping_agrees int sized = record {
   whole = λ form s v h. search (arith, whole_call-is, whole_skipping);

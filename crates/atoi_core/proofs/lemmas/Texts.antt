@@ -81,7 +81,6 @@ negative_in_range : (signed : Bool) (greatest n : ℕ) → cond signed (neg_ℤ 
 negative_in_range false greatest n h = absurd h.le
 negative_in_range true greatest n h = let within = rw add-one at h in (refl, leb→le n greatest within.le)
 
--- The law `TextOfValue`.
 pub text_of_value : (int : IntType) → IsSized int → TextOfValue int
 text_of_value int sized = record { parsed = parsed }
   where
@@ -164,7 +163,6 @@ whole_written int (given is_negative) skip s number h = digits_written int is_ne
 begins : (int : IntType) (is_negative : Bool) (digits : List ℕ) (number : ℤ) → DigitsWrite int is_negative digits number → BeginsWithDigit digits
 begins int is_negative digits number h = grind (arith, digit_from_value)
 
--- `decimal n` writes a magnitude in range.
 decimal_writes : (int : IntType) → IsSized int → (is_negative : Bool) (n : ℕ) → n ≤ bound_of int is_negative
     → DigitsWrite int is_negative (decimal n) (with_sign is_negative n)
 decimal_writes int sized is_negative n le =
@@ -225,7 +223,6 @@ decimal_only : (int : IntType) → IsSized int → (is_negative : Bool) (digits 
     → DigitsWrite int is_negative digits (with_sign is_negative n) → IsFalse (has_needless_zero digits) → digits ≡ decimal n
 decimal_only int sized is_negative digits n h shortest = search (arith, decimal_of_digits, lt_of_le_of_lt, bound_below-64, with_sign-injective)
 
--- In range, `signed_decimal x` writes x.
 signed_writes : (int : IntType) → IsSized int → (takes_plus : Bool) (x : ℤ) → least_of int ≤ℤ x → x ≤ℤ pos int.greatest
     → TextWrites int takes_plus (signed_decimal x) x
 signed_writes int sized takes_plus (pos n) low high = no_mark int takes_plus (decimal n) (pos n) (decimal_writes int sized false n (leb→le n int.greatest high.le))
@@ -252,7 +249,6 @@ signed_only int sized s x text shortest some =
     by_sign plus n some is none = absurd (cc (none refl))
     by_sign minus n some is none = minus_text x n (some refl) is
 
--- The law `DecimalTexts`.
 pub decimal_texts : (int : IntType) → IsSized int → DecimalTexts int
 decimal_texts int sized = record {
   begins = begins int;

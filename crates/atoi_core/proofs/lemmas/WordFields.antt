@@ -123,7 +123,6 @@ module _ (h t : ℕ) (room : (2 ^ h - 1) * (1 + t) < 2 ^ (h + h)) where
 
 -- ---- Fields of a word are its digits in a base 2^k
 
--- The list of the lowest k fields has k elements.
 length-digits : (base k word : ℕ) → length (digits_l base k word) ≡ k
 length-digits base zero word = refl
 length-digits base (suc k) word = cc (length-digits base k (word / base))

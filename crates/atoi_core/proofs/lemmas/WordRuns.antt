@@ -101,7 +101,6 @@ module _ (c : Change) (p : ℕ → Bool) (agree : agree_below (λ b. c.of_byte b
             rw fails (omega (arith, stopping_field 8 (k * 8) marks some)))
       ])
 
--- A zero is a digit.
 pub zero_is_digit : (b : ℕ) → b < 256 → is_zero decimal_table b ≡ true → is_digit decimal_table b ≡ true
 zero_is_digit b h e = grind (arith, nat_tests)
 

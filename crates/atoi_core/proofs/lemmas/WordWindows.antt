@@ -12,8 +12,6 @@ use Rattle.atoi_core.specs.declared.engine.window.Window.{Window}
 use Rattle.atoi_core.proofs.lemmas.Runs.{prefix_len-take, prefix_len-drop, value-take-add}
 use Rattle.atoi_core.proofs.lemmas.LoadedWords.{words_joined, fits_after, loaded_bytes, loaded_run, loaded_part, loaded_zeros}
 
--- ---- Windows read by words
-
 -- A window of `c` bytes, by its three numbers.
 pub window_from : (c : ℕ) (s : List ℕ) (len leading number : ℕ)
     → len ≡ run_len decimal_table (take c s)
