@@ -3,7 +3,7 @@
 use std::io::{self, Read};
 use std::num::ParseIntError;
 use torkettle::column::{Column, ColumnError, FieldError, Fields, LineReader, is_separator};
-use torkettle::formats::{after, digits_then, json_integer};
+use torkettle::formats::digits_then;
 use torkettle::{
     AtoiSimdError, Parse, parse, parse_neg, parse_pos, parse_prefix, parse_prefix_neg,
     parse_prefix_pos,
@@ -68,18 +68,6 @@ fn total(input: &[u8]) -> Result<u64, ColumnError<'_>> {
         total += u64::from(item?);
     }
     Ok(total)
-}
-
-fn total_of_numbers(input: &[u8]) -> Result<u64, FieldError<'_>> {
-    let (mut fields, mut numbers, mut total) = (Fields::<u32>::lines(input), [0; 1024], 0);
-    loop {
-        let read = fields.read(&mut numbers);
-        total += numbers[..read].iter().map(|number| u64::from(*number)).sum::<u64>();
-        if read < numbers.len() {
-            // It stopped at the end, or before a line that `next` refuses.
-            return fields.next().map_or(Ok(total), |item| item.and(Ok(total)));
-        }
-    }
 }
 
 fn total_of_good_lines(input: &[u8]) -> u64 {
@@ -148,14 +136,6 @@ fn row(line: &[u8]) -> Option<[u32; 3]> {
 }
 
 #[test]
-fn integers_of_json() {
-    let rest = after(b"[12, -0, 7]", b'[').unwrap();
-    assert_eq!(json_integer::<u32>(rest), Some((12, &b", -0, 7]"[..])));
-    assert_eq!(json_integer::<u32>(b"-0, 7]"), Some((0, &b", 7]"[..])));
-    assert_eq!(json_integer::<u32>(b"7]"), Some((7, &b"]"[..])));
-}
-
-#[test]
 fn totals() {
     assert_eq!(total(b"1,2,3"), Ok(6));
     let error = total(b"1,,3").map_err(|error| error.to_string());
@@ -163,8 +143,6 @@ fn totals() {
     let error = total(b"1,2x").map_err(|error| error.to_string());
     assert_eq!(error, Err("field 1 has an unexpected byte at byte 3".to_string()));
     assert_eq!(total_of_good_lines(b"1\r\nx\r\n\r\n3\r\n"), 4);
-    assert_eq!(total_of_numbers("12\n".repeat(3000).as_bytes()), Ok(36_000));
-    assert_eq!(total_of_numbers(b"1\nx\n2").map_err(|error| error.line()), Err(2));
     let text = "1\n".repeat((1 << 20) + 1) + "x\r\n7";
     assert_eq!(total_of_file(text.as_bytes()).unwrap(), (1 << 20) + 8);
     assert_eq!(total_between(b"1;2", b';'), Some(Ok(3)));
