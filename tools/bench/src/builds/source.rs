@@ -212,7 +212,6 @@ const ITERATOR: &str = "
     }
     sum";
 
-// As in the guide.
 const READ: &str = "
     let (mut fields, mut sum) = (FIELDS, 0_u64);
     loop {
