@@ -250,7 +250,7 @@ pub mod formats {
 /// The ten functions of the root, with the same results, computed with vectors of sixteen bytes.
 ///
 /// Many calls on long numbers are faster, if the target has the feature `ssse3`, as with
-/// `-C target-cpu=x86-64-v2`. Without that feature, use the functions at the root. `bench/FIGURES.md`
+/// `-C target-cpu=x86-64-v2`. Without that feature, use the functions at the root. `tools/bench/FIGURES.md`
 /// has the figures. Any version may change this module. The [guide](crate::guide#lanes) shows its use.
 ///
 /// ```

@@ -20,7 +20,7 @@ use crate::proved::atoi_simd::{AtoiSimdError, Parse, parse, parse_prefix, parse_
 use core::iter::FusedIterator;
 use core::marker::{ PhantomData};
 
-// How many fields are read before a guess, and how many after one that was wrong or not likely.
+// How many fields are read before a guess, at least and at most.
 const PART: usize = 16;
 
 const LONG_PART: usize = 1024;
@@ -288,8 +288,8 @@ impl<'a, T: Parse> Fields<'a, T> {
         }
     }
 
-    // Guesses what the next fields look like. If `most` fields of `used` bytes may look so, reads numbers to
-    // `values[from..]` as guessed: none waits for the end of the one before.
+    // Guesses what the next fields look like. If `most` fields of `used` bytes may look so, reads numbers
+    // as guessed to `values[from..]`: none waits for the end of the one before.
     #[inline(never)]
     fn read_guessed(&mut self, values: &mut [T], from: usize, most: usize, used: usize) -> usize
         // requires from { from ≤ length values.old }
