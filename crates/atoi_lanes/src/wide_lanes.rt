@@ -1,10 +1,10 @@
 //! The parsers of 64- and 128-bit integers, which read windows of 32 bytes.
-ghost use Rattle.std.specs.Prelude.{◌≡◌, ◌+◌, ◌/◌, ◌≤◌, false};
+ghost use Rattle.std.specs.Prelude.{◌≡◌, ◌+◌, ◌*◌, ◌/◌, ◌≤◌, min, true, false};
 ghost use Rattle.atoi_core.specs.Digit.{decimal_table};
 ghost use Rattle.atoi_core.specs.Loads.{LoadsWithin};
 ghost use Rattle.atoi_core.specs.Magnitude.{HasDigits, wide64, wide128, prefix_magnitude};
 ghost use Rattle.atoi_core.specs.Refusal.{answer_of};
-ghost use Rattle.atoi_core.specs.Run.{zeros};
+ghost use Rattle.atoi_core.specs.Run.{run_len, zeros};
 ghost use Rattle.atoi_lanes.specs.Lanes.{ReadsAfterZeros};
 
 use crate::lanes::Lanes;
@@ -66,9 +66,9 @@ pub fn prefix_128_lanes<'a>(
 // Skips the zeros of full windows if `skip`. Returns the last window's offset and that window.
 fn skip_by_32(skip: bool, s: &[u8], steps: &mut Steps) -> (usize, Window32)
     ensures reached { ReadsAfterZeros skip s.now result.0 result.1 }
-    ensures loads { LoadsWithin (zeros decimal_table s.now / 32 + 2) decimal_table skip s.now
-        steps.old steps.new }
-    ensures unskipped { skip ≡ false → steps.new ≡ steps.old + 1 }
+    ensures offset { skip ≡ true
+        → result.0 ≡ min (zeros decimal_table s.now) (run_len decimal_table s.now / 32 * 32) }
+    ensures loads { steps.new ≡ steps.old + (result.0 + 31) / 32 + 1 }
 {
     let mut at = 0;
     let mut window = window_32(s, steps);

@@ -1,7 +1,7 @@
 -- A window that is not full decides, or a full one and the 8 bytes after it.
 use Rattle.std.proofs.Common.{sym, ◌∙◌, arith, lit<}
 use Rattle.atoi_core.proofs.lemmas.Readings.{short}
-use Rattle.atoi_core.proofs.lemmas.Runs.{decimal_below_ten}
+use Rattle.atoi_core.proofs.lemmas.Runs.{decimal_below_ten, zeros-le}
 use Rattle.atoi_core.specs.Magnitude.{wide128}
 use Rattle.atoi_lanes.proofs.lemmas.WideAnswers.{decided_full}
 use Rattle.atoi_lanes.proofs.wide_lanes.prefix_128_lanes.Goals as goal
@@ -22,3 +22,9 @@ pub returns-clause-answer : goal.returns-clause-answer
 returns-clause-answer c =
     c.answer_128.ensures
     ∙ (decided_full c.args.bound _ _ _ _ _ c.skip_by_32-at.ensures.reached c.if-high-lt32.false c.window_8-low.ensures.window).3
+
+pub returns-then-high-lt32-clause-loads : goal.returns-then-high-lt32-clause-loads
+returns-then-high-lt32-clause-loads c = search (arith, zeros-le)
+
+pub returns-clause-loads : goal.returns-clause-loads
+returns-clause-loads c = search (arith, zeros-le)
