@@ -1,7 +1,7 @@
 -- A window that is not full decides, or a full one and the 8 bytes after it.
 use Rattle.std.proofs.Common.{sym, ◌∙◌, arith, lit<}
 use Rattle.atoi_core.proofs.lemmas.Readings.{short}
-use Rattle.atoi_core.proofs.lemmas.Runs.{decimal_below_ten}
+use Rattle.atoi_core.proofs.lemmas.Runs.{decimal_below_ten, zeros-le}
 use Rattle.atoi_core.specs.Magnitude.{wide128}
 use Rattle.atoi_fast.proofs.lemmas.VectorAnswers.{decided_full}
 use Rattle.atoi_fast.proofs.vectors.wide.prefix_128_after_zeros.Goals as goal
@@ -23,3 +23,9 @@ returns-clause-answer c =
     let r = c.window_after_zeros-at.ensures.reached in
     let decides = decided_full c.args.bound r.skipped r.reading c.if-window-lt32.false (λ _. r.ends c.if-window-lt32.false) in
     c.answer_after_32.ensures.answer ∙ decides.2
+
+pub returns-then-window-lt32-clause-least : goal.returns-then-window-lt32-clause-least
+returns-then-window-lt32-clause-least c = search (arith, zeros-le)
+
+pub returns-clause-least : goal.returns-clause-least
+returns-clause-least c = search (arith, zeros-le)
