@@ -1,9 +1,9 @@
 -- Words that hold the bytes of a slice.
 use Rattle.std.proofs.Common.{◌≡◌, ℕ, zero, suc, ◌+◌, ◌-◌, ◌*◌, ◌/◌, ◌%◌, ◌^◌, ◌<◌, ◌≤◌, List, [], ◌∷◌, length, refl, sym, ◌∙◌, arith, inl, inr, mod-lt, ◌==◌, drop, ap, ◌++◌, take, replicate, get_or, if◌then◌else◌}
-use Rattle.std.proofs.Math.Nat.{div-div-eq-div-mul, zero-mod, suc-mul, mod-le}
+use Rattle.std.proofs.Math.Nat.{div-div-eq-div-mul, mod-le}
 use Rattle.std.proofs.lemmas.Nat.{pow_pos, pow-add, mod-pow-add, and_mask, shr_split, div-mul-add, and_assoc, or_block, shl_whole, and_comm}
 use Rattle.std.specs.Int.Bits.{bit_and, bit_or, and_self, or_add_and, or_zero_r}
-use Rattle.std.specs.Simd.Lanes.{digits_l, number_l}
+use Rattle.std.specs.Simd.Lanes.{digits_l}
 use Rattle.atoi_core.specs.Words.{low_bytes, word_of}
 use Rattle.atoi_core.specs.Digit.{decimal_table, is_zero}
 use Rattle.atoi_core.specs.Run.{zeros}

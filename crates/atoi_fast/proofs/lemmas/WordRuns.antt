@@ -1,18 +1,15 @@
 -- How many digits and zeros a word begins with, and their sum.
-use Rattle.std.proofs.Common.{◌≡◌, ℕ, zero, suc, ◌+◌, ◌-◌, ◌*◌, ◌/◌, ◌%◌, ◌^◌, ◌<◌, ◌≤◌, length, refl, sym, ◌∙◌, arith, lit<, mod-lt, zero-lt-suc, Bool, true, false, cond, nat_lt, drop, ap, ap₂}
-use Rattle.std.proofs.Math.Nat.{mul-mod_left, mul-div_cancel, div-div-eq-div-mul, suc-mul, suc-add, zero-add, mul-one, mod-eq_of_lt, div-one, div-mul-le_self}
-use Rattle.std.proofs.Math.Pow.{mod-mod-pow}
-use Rattle.std.proofs.lemmas.Nat.{pow_pos, pow-add, mod-pow-add, and_mask, and_block, shr_split, and_shr, and_mod, or_shr, or_mod, and_assoc, mul-mod_first}
-use Rattle.std.specs.Int.Bits.{bit_and, and_zero_r, bit_or, and_zero_l, and_self}
+use Rattle.std.proofs.Common.{◌≡◌, ℕ, zero, suc, ◌+◌, ◌-◌, ◌*◌, ◌/◌, ◌%◌, ◌^◌, ◌<◌, ◌≤◌, refl, sym, ◌∙◌, arith, lit<, mod-lt, nat_lt, drop, ap}
+use Rattle.std.proofs.Math.Nat.{div-div-eq-div-mul, suc-add, zero-add, mod-eq_of_lt, div-one, div-mul-le_self}
+use Rattle.std.proofs.lemmas.Nat.{pow_pos, and_mask, and_block, shr_split, and_shr}
+use Rattle.std.specs.Int.Bits.{bit_and, and_zero_l}
 use Rattle.std.specs.Simd.Lanes.{digits_l}
 use Rattle.atoi_core.specs.Words.{low_bytes, low_value}
 use Rattle.std.specs.Int.Count.{count_trailing_zeros, trailing_of_zero}
 use Rattle.std.proofs.lemmas.Bool.Decides.{nat_tests}
 use Rattle.std.specs.Char.{is_ascii_digit}
-use Rattle.std.specs.List.{prefix_len}
-use Rattle.atoi_core.specs.Digit.{decimal_table, is_digit, is_zero}
+use Rattle.atoi_core.specs.Digit.{decimal_table, is_zero}
 use Rattle.atoi_core.specs.Run.{run_len, zeros}
-use Rattle.atoi_core.proofs.lemmas.Calls.{digit_in_range}
 use Rattle.atoi_core.proofs.lemmas.WordFields.{repeated, digits_cut, low_value_shifted, byte_more, round, spelled_by_bytes, one_field}
 use Rattle.atoi_core.proofs.lemmas.WordRuns.{cut, counted, zero_is_digit}
 use Rattle.atoi_core.proofs.lemmas.LoweredWords.{without_48, lowered, marks_in, marks_counted, lowered_digits, masked, lowered_bytes, lowered_value}
