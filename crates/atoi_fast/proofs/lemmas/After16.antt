@@ -12,7 +12,8 @@ use Rattle.atoi_core.proofs.lemmas.Runs.{decimal_below_ten, prefix_len-drop, pre
 use Rattle.atoi_core.proofs.lemmas.LoadedWords.{loaded_run}
 
 -- The first 24 bytes decide a 64-bit answer without skipping.
-pub by_digits : (bound limit : ℕ) (s : List ℕ) (len number : ℕ) → limit ≤ 20 → len ≡ min 24 (run_len decimal_table s) → number ≡ value decimal_table (take len s)
+pub by_digits : (bound limit : ℕ) (s : List ℕ) (len number : ℕ) → limit ≤ 20
+    → len ≡ min 24 (run_len decimal_table s) → number ≡ value decimal_table (take len s)
     → (len ≤ length s) × (number < 10 ^ len)
     × (answer_by_digits wide64 bound limit 0 len number s ≡ prefix_magnitude decimal_table wide64 bound limit false s)
 by_digits bound limit s len number few len_is number_is =
@@ -26,7 +27,8 @@ by_digits bound limit s len number few len_is number_is =
     )
 
 -- The word of bytes after digits has the digits that follow.
-pub counted_after : (width at : ℕ) (s : List ℕ) (word : ℕ) → ((i : ℕ) → get_or s i 0 < 256) → at ≤ run_len decimal_table s → word ≡ word_of (take width (drop at s))
+pub counted_after : (width at : ℕ) (s : List ℕ) (word : ℕ) → ((i : ℕ) → get_or s i 0 < 256)
+    → at ≤ run_len decimal_table s → word ≡ word_of (take width (drop at s))
     → run_len decimal_table (low_bytes width word) ≡ min width (run_len decimal_table s - at)
 counted_after width at s word fits full loaded =
     let rest : (i : ℕ) → get_or (drop at s) i 0 < 256 = λ i. rw get_or-drop (fits (at + i)) in

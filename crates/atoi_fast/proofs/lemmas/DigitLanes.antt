@@ -30,7 +30,8 @@ digits_value zero v h = (refl, tt)
 digits_value (suc n) [] h = (refl, tt)
 digits_value (suc n) (x ∷ xs) h =
     let passes = first_passes (is_digit decimal_table x) n (run_len decimal_table xs) h in
-    let count : length (take n (map above_zero xs)) ≡ length (take n xs) = omega (arith, length-take n (map above_zero xs), length-take n xs, length-map xs above_zero) in
+    let count : length (take n (map above_zero xs)) ≡ length (take n xs) =
+    omega (arith, length-take n (map above_zero xs), length-take n xs, length-map xs above_zero) in
     let first = above_zero-digit x passes.0 in
     let rest = digits_value n xs passes.1 in
     (ap₂ (λ a b. a + b) (ap₂ (λ w m. w * 10 ^ m) first.0 count) rest.0, (first.1, rest.1))
@@ -54,7 +55,8 @@ pub moved_values : (n : ℕ) (v lanes : List ℕ) → n ≤ 16 → length v ≡ 
     → (value itself lanes ≡ value decimal_table (take n v)) × Each1 (λ x. x < 16) lanes
 moved_values n v lanes le long digits moved =
     end_values (16 - n) n v lanes digits
-    (moved ∙ ap (λ l. take 16 (drop n (padded l))) (zip2_splat less v 16 48 long) ∙ first_at_end n (map above_zero v) le (length-map v above_zero ∙ long))
+    (moved ∙ ap (λ l. take 16 (drop n (padded l))) (zip2_splat less v 16 48 long)
+    ∙ first_at_end n (map above_zero v) le (length-map v above_zero ∙ long))
 
 -- The table `LAST_LANES`.
 abbrev last_lanes : List ℕ
@@ -82,6 +84,8 @@ last_values n v lanes le long all are =
     let count : length rest ≡ n = length-drop (16 - n) v ∙ omega (arith, long) in
     let whole = take_all n (map above_zero rest) (omega (arith, length-map rest above_zero, count)) in
     let row = each_from Row 0 17 (search rules) n (omega arith) (omega arith) in
-    let known = end_values (16 - n) n rest lanes (omega (arith, all, prefix_len-drop (is_digit decimal_table) (16 - n) v (omega (arith, all))))
-    (are ∙ ap₂ (zip2 bit_and) (zip2_splat less v 16 48 long) row ∙ kept (16 - n) n v (omega (arith, long)) ∙ ap (λ l. replicate (16 - n) 0 ++ l) (sym whole)) in
+    let known = end_values (16 - n) n rest lanes
+    (omega (arith, all, prefix_len-drop (is_digit decimal_table) (16 - n) v (omega (arith, all))))
+    (are ∙ ap₂ (zip2 bit_and) (zip2_splat less v 16 48 long) row
+    ∙ kept (16 - n) n v (omega (arith, long)) ∙ ap (λ l. replicate (16 - n) 0 ++ l) (sym whole)) in
     (known.0 ∙ ap (value decimal_table) (take_all n rest (omega (arith, count))), known.1)

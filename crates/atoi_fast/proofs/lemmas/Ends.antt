@@ -29,13 +29,16 @@ to_end n v = replicate (16 - n) 0 ++ (take (n - 8) v ++ drop 8 v)
 -- A row of each table selects them.
 abbrev Selected : List ℕ → ℕ → Type 0
 Selected v n =
-    (swz_l w8 16 v 0 (take 16 (get_or TO_START (n - 8) [])) ≡ to_start n v) × (swz_l w8 16 v 0 (take 16 (get_or TO_END (n - 8) [])) ≡ to_end n v)
+    (swz_l w8 16 v 0 (take 16 (get_or TO_START (n - 8) [])) ≡ to_start n v)
+    × (swz_l w8 16 v 0 (take 16 (get_or TO_END (n - 8) [])) ≡ to_end n v)
 
 selected : (v : List ℕ) (n : ℕ) → length v ≡ 16 → 8 ≤ n → n < 16 → Selected v n
 selected v n long enough few =
-    subst (λ w. Selected w n) (pick_l_whole 0 v 16 long) (each_from (Selected (map (λ i. get_or v i 0) (range_with_len 0 16))) 8 8 (search rules) n enough few)
+    subst (λ w. Selected w n) (pick_l_whole 0 v 16 long)
+    (each_from (Selected (map (λ i. get_or v i 0) (range_with_len 0 16))) 8 8 (search rules) n enough few)
 
-pub selected_start : (v : List ℕ) (n : ℕ) → length v ≡ 16 → 8 ≤ n → n < 16 → swz_l w8 16 v 0 (take 16 (get_or TO_START (n - 8) [])) ≡ to_start n v
+pub selected_start : (v : List ℕ) (n : ℕ) → length v ≡ 16 → 8 ≤ n → n < 16
+    → swz_l w8 16 v 0 (take 16 (get_or TO_START (n - 8) [])) ≡ to_start n v
 selected_start v n long enough few = (selected v n long enough few).0
 
 pub selected_end : (v : List ℕ) (n : ℕ) → length v ≡ 16 → 8 ≤ n → n < 16 → swz_l w8 16 v 0 (take 16 (get_or TO_END (n - 8) [])) ≡ to_end n v
@@ -66,16 +69,25 @@ module _ (s : List ℕ) (enough : 8 ≤ length s) where
   back = length-drop (length s - 8) s ∙ omega arith
 
   -- They are the lanes of their words.
-  pub lanes_of_ends : ((i : ℕ) → get_or s i 0 < 256) → (first last : ℕ) → first ≡ word_of (take 8 s) → last ≡ word_of (drop (length s - 8) s)
+  pub lanes_of_ends : ((i : ℕ) → get_or s i 0 < 256) → (first last : ℕ)
+      → first ≡ word_of (take 8 s) → last ≡ word_of (drop (length s - 8) s)
       → digits_l 256 16 (number_l (2 ^ 64) (first ∷ last ∷ [])) ≡ ends s
   lanes_of_ends fits first last is last_is =
       let all = take_all 8 (drop (length s - 8) s) (omega (arith, back)) in
       let sixteen : length (ends s) ≡ 16 = length-append (take 8 s) (drop (length s - 8) s) ∙ omega (arith, front, back) in
       let both : number_l (2 ^ 64) (first ∷ last ∷ []) ≡ word_of (ends s) =
-      omega (arith, word_appended (take 8 s) (drop (length s - 8) s), ap (λ n. word_of (drop (length s - 8) s) * 2 ^ (n * 8)) front, is, last_is) in
+      omega (
+        arith,
+        word_appended (take 8 s) (drop (length s - 8) s),
+        ap (λ n. word_of (drop (length s - 8) s) * 2 ^ (n * 8)) front,
+        is,
+        last_is,
+      ) in
       let each = bytes s fits in
       ap (digits_l 256 16) both
-      ∙ lanes-of_bytes 16 (ends s) (each-append _ _ _ (Each1-chunk _ 0 8 s each) (subst (Each1 (λ x. x < 256)) all (Each1-chunk _ (length s - 8) 8 s each))) (omega (arith, sixteen))
+      ∙ lanes-of_bytes 16 (ends s)
+      (each-append _ _ _ (Each1-chunk _ 0 8 s each)
+      (subst (Each1 (λ x. x < 256)) all (Each1-chunk _ (length s - 8) 8 s each))) (omega (arith, sixteen))
       ∙ take_at (ends s) (replicate 16 0) 16 sixteen
 
   -- All of them are digits if and only if all bytes are.
@@ -95,5 +107,6 @@ module _ (s : List ℕ) (enough : 8 ≤ length s) where
       let n = length s in
       let whole = take_all n (map above_zero s) (omega (arith, length-map s above_zero)) in
       let known = end_values (16 - n) n s lanes (omega arith)
-      (lanes_are ∙ ap (λ w. to_end n (zip2 less w (replicate 16 48))) is ∙ (moved few).1 ∙ ap (λ l. replicate (16 - n) 0 ++ l) (sym whole)) in
+      (lanes_are ∙ ap (λ w. to_end n (zip2 less w (replicate 16 48))) is
+      ∙ (moved few).1 ∙ ap (λ l. replicate (16 - n) 0 ++ l) (sym whole)) in
       (known.0 ∙ ap (value decimal_table) (take_all n s (omega arith)), known.1)

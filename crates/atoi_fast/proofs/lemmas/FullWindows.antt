@@ -12,12 +12,14 @@ use Rattle.atoi_core.proofs.lemmas.Runs.{decimal_below_ten}
 use Rattle.atoi_core.proofs.lemmas.Windows.{Shows, Shows-join, Skipped, shows, two_full}
 
 -- With the 8 bytes after them, they decide for 128 bits.
-pub after_32 : (bound : ℕ) {skip : Bool} {s : List ℕ} {at before now high : ℕ} {first middle : Window} → Skipped decimal_table skip s at before now first
+pub after_32 : (bound : ℕ) {skip : Bool} {s : List ℕ} {at before now high : ℕ} {first middle : Window}
+    → Skipped decimal_table skip s at before now first
     → 16 ≤ first.len → Shows decimal_table 16 (drop 16 (drop at s)) middle → 16 ≤ middle.len → (digits : ℕ) → digits ≡ middle.len
     → high ≡ first.number * 10 ^ digits + middle.number
     → let back = window_of decimal_table 8 (drop (at + 32) s) in
     (high < 10 ^ 32) × (at + 32 ≤ length s)
-    × (answer_by_digits wide128 bound 39 at (32 + back.len) (high * 10 ^ back.len + back.number) s ≡ prefix_magnitude decimal_table wide128 bound 39 skip s)
+    × (answer_by_digits wide128 bound 39 at (32 + back.len) (high * 10 ^ back.len + back.number) s
+    ≡ prefix_magnitude decimal_table wide128 bound 39 skip s)
 after_32 bound {s = s} {at} {middle = middle} after_skip full next more digits digits_are high_is =
     let len : middle.len ≡ 16 = omega (arith, next.len_is) in
     let joined = rw digits_are at high_is in

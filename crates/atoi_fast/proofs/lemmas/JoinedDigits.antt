@@ -28,7 +28,8 @@ joined field = field * 2561 % 65536
 
 -- Two products join each group.
 grouped : (f : ℕ → ℕ) (m a : ℕ) → let xs = map f (range_with_len a (four_each m)) in Each1 (λ x. x < 16) xs
-    → dots (digits_l 256 (four_each m) (number_l 65536 (map joined (digits_l 65536 (two_each m) (number_l 256 xs))))) (hundreds m) ≡ paired 100 (paired 10 xs)
+    → dots (digits_l 256 (four_each m) (number_l 65536 (map joined (digits_l 65536 (two_each m) (number_l 256 xs))))) (hundreds m)
+    ≡ paired 100 (paired 10 xs)
 grouped f zero a below = refl
 grouped f (suc m) a below =
     let x = f a in
@@ -45,7 +46,8 @@ grouped f (suc m) a below =
     let pairs = x + 256 * (x * 10 + y) + 65536 * (z + 256 * (z * 10 + w) + 65536 * others) in
     let following : pairs / 256 / 256 / 256 / 256 ≡ others = omega (arith, below) in
     rw (first, second, next)
-    (ap₂ (λ d ds. d ∷ ds) (omega (arith, below)) (ap (λ k. dots (digits_l 256 (four_each m) k) (hundreds m)) following ∙ grouped f m (a + 1 + 1 + 1 + 1) below.1.1.1.1))
+    (ap₂ (λ d ds. d ∷ ds) (omega (arith, below))
+    (ap (λ k. dots (digits_l 256 (four_each m) k) (hundreds m)) following ∙ grouped f m (a + 1 + 1 + 1 + 1) below.1.1.1.1))
 
 -- The four fours of sixteen digits.
 record Fours (xs : List ℕ) (a b c d : ℕ) : Type 0 where
@@ -90,7 +92,8 @@ in_lanes : (a b c d : ℕ) → Each1 (λ x. x < 16666) (a ∷ b ∷ c ∷ d ∷ 
     → digits_l (2 ^ 64) 2 (number_l (2 ^ 32) (a ∷ b ∷ c ∷ d ∷ [])) ≡ (b * 2 ^ 32 + a) ∷ (d * 2 ^ 32 + c) ∷ []
 in_lanes a b c d below = search arith
 
-eight-joins : (x y : ℕ) → x < 16666 → y < 16666 → plus (times (bit_and (y * 2 ^ 32 + x) 4294967295) 10000) ((y * 2 ^ 32 + x) / 2 ^ 32) ≡ x * 10000 + y
+eight-joins : (x y : ℕ) → x < 16666 → y < 16666
+    → plus (times (bit_and (y * 2 ^ 32 + x) 4294967295) 10000) ((y * 2 ^ 32 + x) / 2 ^ 32) ≡ x * 10000 + y
 eight-joins x y a b = rw (and_mask (y * 2 ^ 32 + x) 32) (omega arith)
 
 two-joined : (x y : ℕ) → x < 166666666 → y < 166666666
@@ -113,12 +116,15 @@ module _ (digits : List ℕ) (long : length digits ≡ 16) (below : Each1 (λ x.
     lanes : fields ≡ (four digits 1 * 2 ^ 32 + four digits 0) ∷ (four digits 3 * 2 ^ 32 + four digits 2) ∷ []
     lanes = are ∙ ap (λ l. digits_l (2 ^ 64) 2 (number_l (2 ^ 32) l)) known.are ∙ in_lanes _ _ _ _ known.below
 
-    pub eights_joined : zip2 plus (zip2 times (zip2 bit_and fields (replicate 2 4294967295)) (replicate 2 10000)) (zip2 (λ x s. x / 2 ^ s) fields (replicate 2 32))
+    pub eights_joined : zip2 plus (zip2 times (zip2 bit_and fields (replicate 2 4294967295)) (replicate 2 10000))
+        (zip2 (λ x s. x / 2 ^ s) fields (replicate 2 32))
         ≡ paired 10000 (paired 100 (paired 10 digits))
     eights_joined =
         let low = known.below in
-        ap (λ l. zip2 plus (zip2 times (zip2 bit_and l (replicate 2 4294967295)) (replicate 2 10000)) (zip2 (λ x s. x / 2 ^ s) l (replicate 2 32))) lanes
-        ∙ ap₂ (λ x y. x ∷ y ∷ []) (eight-joins _ _ low.0 low.1.0) (eight-joins _ _ low.1.1.0 low.1.1.1.0) ∙ ap (paired 10000) (sym known.are)
+        ap (λ l. zip2 plus (zip2 times (zip2 bit_and l (replicate 2 4294967295)) (replicate 2 10000))
+        (zip2 (λ x s. x / 2 ^ s) l (replicate 2 32))) lanes
+        ∙ ap₂ (λ x y. x ∷ y ∷ []) (eight-joins _ _ low.0 low.1.0) (eight-joins _ _ low.1.1.0 low.1.1.1.0)
+        ∙ ap (paired 10000) (sym known.are)
 
     -- One product adds 10,000 times the lower half to the upper half.
     pub half_joined : get_or fields 0 0 * 42949672960001 % 2 ^ 64 / 2 ^ 32 ≡ value itself (take 8 digits)
@@ -129,5 +135,6 @@ module _ (digits : List ℕ) (long : length digits ≡ 16) (below : Each1 (λ x.
       → fold_l plus 0 (zip2 times (zip2 bit_and eights (replicate 2 4294967295)) (100000000 ∷ 1 ∷ [])) ≡ value itself digits
   lanes_joined eights are =
       let low = known.below in
-      ap (λ l. fold_l plus 0 (zip2 times (zip2 bit_and l (replicate 2 4294967295)) (100000000 ∷ 1 ∷ []))) (are ∙ ap (paired 10000) known.are)
+      ap (λ l. fold_l plus 0 (zip2 times (zip2 bit_and l (replicate 2 4294967295)) (100000000 ∷ 1 ∷ [])))
+      (are ∙ ap (paired 10000) known.are)
       ∙ two-joined _ _ (omega (arith, low)) (omega (arith, low)) ∙ known.all

@@ -32,7 +32,8 @@ word_of_none (a ∷ s) none = absurd (omega arith)
 -- Joining its own lowest `r` bits to a number changes nothing.
 with_low_bits : (a r : ℕ) → bit_or (a % 2 ^ r) a ≡ a
 with_low_bits a r =
-    let low : bit_and (a % 2 ^ r) a ≡ a % 2 ^ r = cc (and_mask a r, and_assoc a a (2 ^ r - 1), and_comm (2 ^ r - 1) a, and_assoc (2 ^ r - 1) a a, and_self a) in
+    let low : bit_and (a % 2 ^ r) a ≡ a % 2 ^ r =
+    cc (and_mask a r, and_assoc a a (2 ^ r - 1), and_comm (2 ^ r - 1) a, and_assoc (2 ^ r - 1) a a, and_self a) in
     omega (arith, or_add_and (a % 2 ^ r) a)
 
 -- Low and high bits that overlap or meet join to the number.
@@ -83,7 +84,8 @@ module _ (s : List ℕ) (few : length s ≤ 8) (fits : (i : ℕ) → get_or s i 
   -- The bytes from j on are its highest.
   high_rest : (j k x : ℕ) → x ≡ word_of (drop j s) → 8 - length s + j ≡ k → x ≡ high_word s / 2 ^ (k * 8)
   high_rest j k x is place =
-      let up : 2 ^ (64 - 8 * length s) * 2 ^ (j * 8) ≡ 2 ^ (k * 8) = sym (pow-add 2 (64 - 8 * length s) (j * 8)) ∙ ap (λ e. 2 ^ e) (omega arith) in
+      let up : 2 ^ (64 - 8 * length s) * 2 ^ (j * 8) ≡ 2 ^ (k * 8) =
+      sym (pow-add 2 (64 - 8 * length s) (j * 8)) ∙ ap (λ e. 2 ^ e) (omega arith) in
       is ∙ sym (bytes_above j s fits) ∙ ap (λ w. w / 2 ^ (j * 8)) (sym (shifted_back s few))
       ∙ div-div-eq-div-mul (high_word s) (2 ^ (64 - 8 * length s)) (2 ^ (j * 8)) ∙ ap (λ p. high_word s / p) up
 
@@ -91,7 +93,8 @@ module _ (s : List ℕ) (few : length s ≤ 8) (fits : (i : ℕ) → get_or s i 
   parts_joined : (j k front back : ℕ) → front ≡ word_of (take j s) → back * 2 ^ 32 % 2 ^ 64 ≡ high_word s / 2 ^ (k * 8) * 2 ^ (k * 8)
       → k * 8 ≤ j * 8 + (8 - length s) * 8 → bit_or (front * 2 ^ (64 - 8 * length s) % 2 ^ 64) (back * 2 ^ 32 % 2 ^ 64) ≡ high_word s
   parts_joined j k front back front_is back_is =
-      overlap (high_word s) _ _ (j * 8 + (8 - length s) * 8) (k * 8) (search (arith, mod-le, word_shifted, shift_cut, word_start, high_fits)) back_is
+      overlap (high_word s) _ _ (j * 8 + (8 - length s) * 8) (k * 8)
+      (search (arith, mod-le, word_shifted, shift_cut, word_start, high_fits)) back_is
 
   -- The first byte overlaps the first four, and the last two the last four; fewer bytes have no fours.
   pub high_joined : (two first last : ℕ) → 0 < length s → (2 ≤ length s → two ≡ word_of (drop (length s - 2) s)) → (length s < 2 → two ≡ 0)
@@ -121,6 +124,7 @@ module _ (s : List ℕ) (few : length s ≤ 8) (fits : (i : ℕ) → get_or s i 
 
 -- Zeros of a second word follow only a word of zeros.
 pub zeros_of_two : (first next : ℕ) → zeros decimal_table (low_bytes 8 first ++ low_bytes 8 next)
-    ≡ (if zeros decimal_table (low_bytes 8 first) == 8 then 8 + zeros decimal_table (low_bytes 8 next) else zeros decimal_table (low_bytes 8 first))
+    ≡ (if zeros decimal_table (low_bytes 8 first) == 8 then 8 + zeros decimal_table (low_bytes 8 next)
+    else zeros decimal_table (low_bytes 8 first))
 unfolding low_bytes
 zeros_of_two first next = prefix_len-append (is_zero decimal_table) (digits_l 256 8 first) (digits_l 256 8 next)

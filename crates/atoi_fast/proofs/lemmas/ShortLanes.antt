@@ -19,8 +19,10 @@ use lib.Lanes.{Each1, digits_l}
 halves_below : (k word : ℕ) → Each1 (λ x. x < 16) (digits_l 256 k (bit_and word (repeated 15 k)))
 halves_below zero word = tt
 halves_below (suc k) word =
-    let block = rw (shr_split word 8) at (and_block 8 (word / 256) (repeated 15 k) (word % 256) 15 (mod-lt word (zero-lt-suc 255)) (lit< tt)) in
-    let rest : bit_and word (repeated 15 (suc k)) / 256 ≡ bit_and (word / 256) (repeated 15 k) = omega (arith, block, and_mask (word % 256) 4) in
+    let block = rw (shr_split word 8)
+    at (and_block 8 (word / 256) (repeated 15 k) (word % 256) 15 (mod-lt word (zero-lt-suc 255)) (lit< tt)) in
+    let rest : bit_and word (repeated 15 (suc k)) / 256 ≡ bit_and (word / 256) (repeated 15 k) =
+    omega (arith, block, and_mask (word % 256) 4) in
     (omega (arith, block, and_mask (word % 256) 4), rw rest (halves_below k (word / 256)))
 
 -- Bytes below 16 spell what their lower halves spell.
@@ -44,5 +46,6 @@ half_value len word ones v few digits ones_is lanes =
     ∙ lanes-of_bytes 8 bytes (Each1-weaker (λ x. x < 16) (λ x. x < 256) (λ x lt. omega arith) bytes below) (omega arith)
     ∙ take_all 16 (bytes ++ replicate 8 0) (omega arith) in (
       ap (λ l. value itself (take 8 l)) in_lanes ∙ ap (value itself) (take_at bytes (replicate 8 0) 8 refl) ∙ spelled bytes below ∙ same.1,
-      subst (Each1 (λ x. x < 16)) (sym in_lanes) (each-append (λ x. x < 16) bytes (replicate 8 0) below (Each1-replicate (λ x. x < 16) 8 0 (lit< tt))),
+      subst (Each1 (λ x. x < 16)) (sym in_lanes)
+          (each-append (λ x. x < 16) bytes (replicate 8 0) below (Each1-replicate (λ x. x < 16) 8 0 (lit< tt))),
     )

@@ -21,12 +21,15 @@ each_from P a n each k from to =
 abbrev Shuffled : List ℕ → ℕ → Type 0
 Shuffled v p = swz_l w8 16 v 0 (take 16 (take (48 - p) (drop p shifts))) ≡ take 16 (drop p (padded v))
 
-pub shuffled : (p : ℕ) (v : List ℕ) → p ≤ 32 → length v ≡ 16 → swz_l w8 16 v 0 (take 16 (take (48 - p) (drop p shifts))) ≡ take 16 (drop p (padded v))
+pub shuffled : (p : ℕ) (v : List ℕ) → p ≤ 32 → length v ≡ 16
+    → swz_l w8 16 v 0 (take 16 (take (48 - p) (drop p shifts))) ≡ take 16 (drop p (padded v))
 shuffled p v le long =
-    subst (λ w. Shuffled w p) (pick_l_whole 0 v 16 long) (each_from (Shuffled (map (λ i. get_or v i 0) (range_with_len 0 16))) 0 33 (search rules) p (omega arith) (omega arith))
+    subst (λ w. Shuffled w p) (pick_l_whole 0 v 16 long)
+    (each_from (Shuffled (map (λ i. get_or v i 0) (range_with_len 0 16))) 0 33 (search rules) p (omega arith) (omega arith))
 
 pub shuffle_ok : (p : ℕ) → p ≤ 32 → SwzOk w8 16 16 0 (take 16 (take (48 - p) (drop p shifts)))
-shuffle_ok p le = each_from (λ k. SwzOk w8 16 16 0 (take 16 (take (48 - k) (drop k shifts)))) 0 33 (search rules) p (omega arith) (omega arith)
+shuffle_ok p le =
+    each_from (λ k. SwzOk w8 16 16 0 (take 16 (take (48 - k) (drop k shifts)))) 0 33 (search rules) p (omega arith) (omega arith)
 
 -- From place n on, the first n lanes are last.
 abbrev FirstAtEnd : List ℕ → ℕ → Type 0
@@ -34,7 +37,8 @@ FirstAtEnd v n = take 16 (drop n (padded v)) ≡ replicate (16 - n) 0 ++ take n 
 
 pub first_at_end : (n : ℕ) (v : List ℕ) → n ≤ 16 → length v ≡ 16 → FirstAtEnd v n
 first_at_end n v le long =
-    subst (λ w. FirstAtEnd w n) (pick_l_whole 0 v 16 long) (each_from (FirstAtEnd (map (λ i. get_or v i 0) (range_with_len 0 16))) 0 17 (search rules) n (omega arith) (omega arith))
+    subst (λ w. FirstAtEnd w n) (pick_l_whole 0 v 16 long)
+    (each_from (FirstAtEnd (map (λ i. get_or v i 0) (range_with_len 0 16))) 0 17 (search rules) n (omega arith) (omega arith))
 
 -- The last 16 of 16 to 31 bytes, moved, are those after the first 16.
 abbrev LastMoved : List ℕ → Type 0

@@ -24,28 +24,33 @@ pub reading_of_window : {size : ℕ} {s : List ℕ} {w : Window} → w ≡ windo
     → Reading decimal_table size s w.len (zeros decimal_table (take size s)) w.number
 reading_of_window e = record { digits_are = ap (λ v. v.len) e; leading_are = refl; number_is = ap (λ v. v.number) e }
 
-pub reading_of_run : (count : ℕ) (s : List ℕ) {len number : ℕ} → len ≡ min count (run_len decimal_table s) → number ≡ value decimal_table (take len s)
+pub reading_of_run : (count : ℕ) (s : List ℕ) {len number : ℕ}
+    → len ≡ min count (run_len decimal_table s) → number ≡ value decimal_table (take len s)
     → Reading decimal_table count s len (zeros decimal_table (take count s)) number
 reading_of_run count s {len} len_is number_is =
     let digits : len ≡ run_len decimal_table (take count s) = omega (arith, len_is, prefix_len-take (is_digit decimal_table) count s) in
     record { digits_are = digits; leading_are = refl; number_is = cc (number_is, digits, take-take len count s (omega arith)) }
 
 -- Fewer than 16 digits of 16 bytes need no second load.
-pub one_load : {most : ℕ} {skip : Bool} {s : List ℕ} {before after len leading number : ℕ} → Reading decimal_table 16 s len leading number → len < 16
+pub one_load : {most : ℕ} {skip : Bool} {s : List ℕ} {before after len leading number : ℕ}
+    → Reading decimal_table 16 s len leading number → len < 16
     → after ≡ before + 1 → 1 ≤ most → LoadsWithin most decimal_table skip s before after
 one_load {s = s} reading few one room =
-    let none : zeros decimal_table s < 32 = omega (arith, within reading, reading.leading_are, zeros_left decimal_table 16 s 0 (omega arith)) in
+    let none : zeros decimal_table s < 32 =
+    omega (arith, within reading, reading.leading_are, zeros_left decimal_table 16 s 0 (omega arith)) in
     search arith
 
 -- They spell the answer.
-pub ended_in_16 : (class : Class) (bound limit : ℕ) → limit < cap class → 16 ≤ limit → HasDigits limit bound → (skip : Bool) {s : List ℕ} {len leading number : ℕ}
+pub ended_in_16 : (class : Class) (bound limit : ℕ) → limit < cap class → 16 ≤ limit
+    → HasDigits limit bound → (skip : Bool) {s : List ℕ} {len leading number : ℕ}
     → Reading decimal_table 16 s len leading number → len < 16
     → cond (eqb len 0) (Err empty) (Ok (number, len)) ≡ prefix_magnitude decimal_table class bound limit skip s
 ended_in_16 class bound limit less enough digits skip {len = len} reading few =
     sym (rw (zero-add len) at (short decimal_below_ten class bound limit less digits (start skip _) reading few (omega arith)).1)
 
 -- So does a run of 1 to 31 digits, for 128 bits.
-pub ended_in_32 : (bound : ℕ) {s : List ℕ} {len leading number found count : ℕ} → HasDigits 39 bound → Reading decimal_table 32 s len leading number
+pub ended_in_32 : (bound : ℕ) {s : List ℕ} {len leading number found count : ℕ}
+    → HasDigits 39 bound → Reading decimal_table 32 s len leading number
     → 0 < len → len < 32 → found ≡ number → count ≡ len → Ok (found, count) ≡ prefix_magnitude decimal_table wide128 bound 39 false s
 ended_in_32 bound {s} {len} digits reading some few found_is count_is =
     rw (found_is, count_is) (sym (rw (zero-add len, ne_eqb len 0 (omega arith))
@@ -58,23 +63,28 @@ first_decides (x ∷ xs) other = grind (arith, nat_tests)
 
 -- After skipped zeros, a window of 32 bytes that is not full decides, or has 24 digits after its zeros.
 pub decided_64 : (bound limit : ℕ) {s : List ℕ} {at : ℕ} {w : Window32} → limit ≤ 20 → ReadsAfterZeros s at w
-    → answer_by_digits wide64 bound limit (at + w.zeroes) (w.len - w.zeroes) w.number s ≡ prefix_magnitude decimal_table wide64 bound limit true s
+    → answer_by_digits wide64 bound limit (at + w.zeroes) (w.len - w.zeroes) w.number s
+    ≡ prefix_magnitude decimal_table wide64 bound limit true s
 decided_64 bound limit {w = w} few front =
     let most = within front.reading in
-    let enough : (w.len < 32) ⊎ (24 ≤ w.len - w.zeroes) = elim (cases_lt w.len 32) [ inl h ↦ inl h | inr h ↦ inr (omega (arith, h, front.ends h)) ] in
+    let enough : (w.len < 32) ⊎ (24 ≤ w.len - w.zeroes) =
+    elim (cases_lt w.len 32) [ inl h ↦ inl h | inr h ↦ inr (omega (arith, h, front.ends h)) ] in
     let leading : w.len - (w.len - w.zeroes) ≡ w.zeroes = omega (arith, most.0) in
     sym (rw leading at (decided wide64 bound limit (omega arith) front.skipped front.reading enough))
 
 -- For 128 bits, a full window and the 8 bytes after it decide.
 pub decided_full : (bound : ℕ) {skip : Bool} {s : List ℕ} {at len leading number : ℕ} → IsSkipped decimal_table skip s at
-    → Reading decimal_table 32 (drop at s) len leading number → 32 ≤ len → (skip ≡ true → leading ≡ 0) → let back = window_of decimal_table 8 (drop (at + 32) s) in
+    → Reading decimal_table 32 (drop at s) len leading number → 32 ≤ len
+    → (skip ≡ true → leading ≡ 0) → let back = window_of decimal_table 8 (drop (at + 32) s) in
     (number < 10 ^ 32) × (at + 32 ≤ length s)
-    × (answer_by_digits wide128 bound 39 at (32 + back.len) (number * 10 ^ back.len + back.number) s ≡ prefix_magnitude decimal_table wide128 bound 39 skip s)
+    × (answer_by_digits wide128 bound 39 at (32 + back.len) (number * 10 ^ back.len + back.number) s
+    ≡ prefix_magnitude decimal_table wide128 bound 39 skip s)
 decided_full bound {skip} {s} {at} {len} {leading} skipped seen full none =
     let all : len ≡ 32 = omega (arith, within seen) in
     let front = rw all at seen in
     let back : Window = window_of decimal_table 8 (drop (at + 32) s) in
-    let following : Reading decimal_table 8 (drop 32 (drop at s)) back.len (zeros decimal_table (take 8 (drop 32 (drop at s)))) back.number =
+    let following : Reading decimal_table 8 (drop 32 (drop at s)) back.len
+    (zeros decimal_table (take 8 (drop 32 (drop at s)))) back.number =
     reading_of_window (ap (window_of decimal_table 8) (sym (drop-drop 32 at s))) in (
       below front decimal_below_ten,
       omega (arith, within front, length-drop at s),

@@ -51,7 +51,8 @@ pub lowered_in_four : (len word ones : ℕ) → len ≤ 4 → len ≤ run_len de
     → (bit_and ones (repeated 15 4) ≡ ones) × (low_value (low_bytes 4 ones) ≡ low_value (low_bytes len word))
 lowered_in_four len word ones few digits is = lowered_bytes 4 4 len word (32 - 8 * len) ones (omega arith) few (omega arith) digits is
 
-pub lowered_sum : (len word ones number : ℕ) → number ≡ low_value (low_bytes 8 ones) → len ≤ 8 → len ≤ run_len decimal_table (low_bytes 8 word)
+pub lowered_sum : (len word ones number : ℕ) → number ≡ low_value (low_bytes 8 ones)
+    → len ≤ 8 → len ≤ run_len decimal_table (low_bytes 8 word)
     → ones ≡ (word + without_48 8) % 2 ^ 64 * 2 ^ (64 - 8 * len) % 2 ^ 64 → number ≡ low_value (low_bytes len word)
 lowered_sum len word ones number sum few digits is = sum ∙ (lowered_value len word ones few digits is).1
 

@@ -21,7 +21,8 @@ few_in_both s few = search (arith, prefix_len-le-length, take_all, ne_eqb)
 
 -- The last eight of 9 to 15 bytes overlap the first eight, which are digits.
 module _ (s : List ℕ) (enough : 8 < length s) (few : length s < 16) (fits : (i : ℕ) → get_or s i 0 < 256) (first last : ℕ)
-    (first_is : first ≡ word_of (take 8 s)) (last_is : last ≡ word_of (drop (length s - 8) s)) (full : run_len decimal_table (low_bytes 8 first) ≡ 8) where
+    (first_is : first ≡ word_of (take 8 s)) (last_is : last ≡ word_of (drop (length s - 8) s))
+    (full : run_len decimal_table (low_bytes 8 first) ≡ 8) where
   back_is : last ≡ word_of (take 8 (drop (length s - 8) s))
   back_is = last_is ∙ ap word_of (sym (take_all 8 (drop (length s - 8) s) (omega (arith, length-drop (length s - 8) s))))
 
@@ -50,7 +51,13 @@ module _ (s : List ℕ) (enough : 8 < length s) (few : length s < 16) (fits : (i
       let length_is : front + more ≡ len = omega arith in
       let parts = value-take-add decimal_table front more s (omega (arith, run_is)) in
       window_ended s len (high * 10 ^ more + low) (omega (arith, run_is)) (omega (arith, run_is))
-      (rw (high_is, low_is, loaded_part 8 s fits first first_is front (omega arith), loaded_part 8 (drop front s) (fits_after front s fits) last back_is more (omega arith), ← length_is)
+      (rw (
+        high_is,
+        low_is,
+        loaded_part 8 s fits first first_is front (omega arith),
+        loaded_part 8 (drop front s) (fits_after front s fits) last back_is more (omega arith),
+        ← length_is,
+      )
       (sym parts))
 
 -- ---- Short slices in the highest bytes of a word
@@ -58,12 +65,15 @@ module _ (s : List ℕ) (enough : 8 < length s) (few : length s < 16) (fits : (i
 -- What a shift leaves of eight zeros, compared for each length.
 pub zeros_shifted : (len : ℕ) → len ≤ 8 → 0x3030_3030_3030_3030 * 2 ^ (64 - 8 * len) % 2 ^ 64 ≤ 0x3030_3030_3030_3030
 zeros_shifted len few =
-    ltb-false _ _ (agree_below_at (λ n. nat_lt 0x3030_3030_3030_3030 (0x3030_3030_3030_3030 * 2 ^ (64 - 8 * n) % 2 ^ 64)) (λ _. false) 9 len refl (omega arith))
+    ltb-false _ _ (agree_below_at (λ n. nat_lt 0x3030_3030_3030_3030 (0x3030_3030_3030_3030 * 2 ^ (64 - 8 * n) % 2 ^ 64))
+    (λ _. false) 9 len refl (omega arith))
 
-pub zeros_left_out : (len : ℕ) → len ≤ 8 → 0x3030_3030_3030_3030 - 0x3030_3030_3030_3030 * 2 ^ (64 - 8 * len) % 2 ^ 64 ≡ word_of (replicate (8 - len) 48)
+pub zeros_left_out : (len : ℕ) → len ≤ 8
+    → 0x3030_3030_3030_3030 - 0x3030_3030_3030_3030 * 2 ^ (64 - 8 * len) % 2 ^ 64 ≡ word_of (replicate (8 - len) 48)
 unfolding word_of
 zeros_left_out len few =
-    let same : ℕ → Bool = λ n. 0x3030_3030_3030_3030 - 0x3030_3030_3030_3030 * 2 ^ (64 - 8 * n) % 2 ^ 64 == word_of (replicate (8 - n) 48) in
+    let same : ℕ → Bool =
+    λ n. 0x3030_3030_3030_3030 - 0x3030_3030_3030_3030 * 2 ^ (64 - 8 * n) % 2 ^ 64 == word_of (replicate (8 - n) 48) in
     eqb-true _ _ (agree_below_at same (λ _. true) 9 len refl (omega arith))
 
 -- The word of m zeros fills m lowest bytes of 0.
@@ -105,7 +115,8 @@ filled_digits s few fits word filling digits word_is filling_is digits_is =
     ∙ prefix_len-replicate_append (is_digit decimal_table) 48 refl m s
 
 -- Zeros before the other bytes add nothing to the weighted sum.
-low_value_filled : (z k : ℕ) (s : List ℕ) → low_value (digits_l 256 (z + k) (word_of (replicate z 48 ++ s))) ≡ low_value (digits_l 256 k (word_of s))
+low_value_filled : (z k : ℕ) (s : List ℕ)
+    → low_value (digits_l 256 (z + k) (word_of (replicate z 48 ++ s))) ≡ low_value (digits_l 256 k (word_of s))
 unfolding word_of
 low_value_filled zero k s = ap (λ n. low_value (digits_l 256 n (number_l 256 s))) (zero-add k)
 low_value_filled (suc z) k s =
@@ -127,4 +138,5 @@ filled_window s few fits word filling digits found number word_is filling_is dig
     let filled : word + filling ≡ word_of (replicate m 48 ++ s) = omega (arith, word_filled m s) in
     let padded : word_of s ≡ word_of (take 8 s) = ap word_of (sym (take_all 8 s few)) in
     window_ended s found number (omega arith) (omega arith)
-    ((rw (total, filled) at number_is) ∙ low_value_filled m found s ∙ loaded_part 8 s fits (word_of s) padded found (omega (arith, first_run s fits (word_of s) padded)))
+    ((rw (total, filled) at number_is) ∙ low_value_filled m found s
+    ∙ loaded_part 8 s fits (word_of s) padded found (omega (arith, first_run s fits (word_of s) padded)))

@@ -15,12 +15,14 @@ returns-then-limit-lt20 c =
     let s : List ℕ = c.args.s.now in
     let more : ℕ = c.digits_of-more.result in
     let counted : more ≡ min 8 (run_len decimal_table s - 16) =
-    c.digits_of-more.ensures.len ∙ counted_after 8 16 s _ (λ i. (c.type_inv.s i).fits) (omega (arith, c.requires.full)) c.load_from.ensures in
+    c.digits_of-more.ensures.len
+    ∙ counted_after 8 16 s _ (λ i. (c.type_inv.s i).fits) (omega (arith, c.requires.full)) c.load_from.ensures in
     let many : c.args.limit < 16 + more =
     elim c.then-limit-lt20.branch [
       | then-limit-lt20-via-then-limit-lt20 w ↦ omega (arith, w.if-limit-lt20.true, c.requires.full)
       | then-limit-lt20-via-else-limit-lt20+then-begins_with_digit w ↦
-          (let next : 0 < run_len decimal_table (drop 20 s) = rw take_rest at (ltb-true 0 _ (sym w.begins_with_digit.ensures ∙ w.if-begins_with_digit.true)) in
+          (let next : 0 < run_len decimal_table (drop 20 s) =
+          rw take_rest at (ltb-true 0 _ (sym w.begins_with_digit.ensures ∙ w.if-begins_with_digit.true)) in
           omega (arith, c.requires.limit_high, next, prefix_len-drop (is_digit decimal_table) 20 s c.requires.full))
     ] in
     let counts : min (16 + more) 24 ≡ 16 + more = omega (arith, c.digits_of-more.ensures.most) in
@@ -30,6 +32,8 @@ returns-then-limit-lt20 c =
 pub returns : goal.returns
 returns c =
     let s : List ℕ = c.args.s.now in
-    let after_20 : run_len decimal_table s ≡ 20 + run_len decimal_table (drop 20 s) = prefix_len-drop (is_digit decimal_table) 20 s c.requires.full in
+    let after_20 : run_len decimal_table s ≡ 20 + run_len decimal_table (drop 20 s) =
+    prefix_len-drop (is_digit decimal_table) 20 s c.requires.full in
     let none = rw take_rest at (ltb-false 0 _ (sym c.begins_with_digit.ensures ∙ c.if-begins_with_digit.false)) in
-    c.answer_64.ensures ∙ (by_digits c.args.bound c.args.limit s 20 c.args.number c.requires.limit_high (omega (arith, none, after_20)) c.requires.number).2
+    c.answer_64.ensures
+    ∙ (by_digits c.args.bound c.args.limit s 20 c.args.number c.requires.limit_high (omega (arith, none, after_20)) c.requires.number).2

@@ -11,12 +11,14 @@ use Rattle.atoi_fast.proofs.swar.long_window.Goals as goal
 pub returns-then-len-ne8 : goal.returns-then-len-ne8
 returns-then-len-ne8 c =
     rw c.not_full.ensures
-    (window_short c.args.s.now (λ i. (c.type_inv.s i).fits) _ c.load_full-first.ensures _ _ c.digits_of-len.ensures.len (omega arith) c.number_in_word.ensures.sum)
+    (window_short c.args.s.now (λ i. (c.type_inv.s i).fits) _ c.load_full-first.ensures _ _
+    c.digits_of-len.ensures.len (omega arith) c.number_in_word.ensures.sum)
 
 pub returns-then-more-ne8 : goal.returns-then-more-ne8
 returns-then-more-ne8 c =
     rw (c.not_full-then-more-ne8.ensures, c.power_of_ten.ensures.power)
-    (window_joined c.args.s.now (λ i. (c.type_inv.s i).fits) _ c.load_full-first.ensures c.load_full-next.result _ (rw take_rest at c.load_full-next.ensures)
+    (window_joined c.args.s.now (λ i. (c.type_inv.s i).fits) _ c.load_full-first.ensures
+    c.load_full-next.result _ (rw take_rest at c.load_full-next.ensures)
     (omega arith) c.digits_of-more.ensures.len _ _ _ (grind (arith, nat_tests)) c.value_of.ensures.sum c.value_of_fewer.ensures.sum)
 
 pub returns : goal.returns
@@ -24,5 +26,6 @@ returns c =
     let next = c.load_full-next.result in
     let more : 8 ≡ run_len decimal_table (low_bytes 8 next) = omega (arith, c.digits_of-more.ensures.len) in
     rw c.power_of_ten-2.ensures.power
-    (window_joined c.args.s.now (λ i. (c.type_inv.s i).fits) _ c.load_full-first.ensures next 8 (rw take_rest at c.load_full-next.ensures) (omega arith) more
+    (window_joined c.args.s.now (λ i. (c.type_inv.s i).fits) _ c.load_full-first.ensures
+    next 8 (rw take_rest at c.load_full-next.ensures) (omega arith) more
     _ _ _ c.zeroes_of_two.ensures c.value_of-2.ensures.sum c.value_of-3.ensures.sum)

@@ -10,24 +10,31 @@ use Rattle.atoi_fast.proofs.swar.medium_window.Goals as goal
 pub returns-then-len-ne8 : goal.returns-then-len-ne8
 returns-then-len-ne8 c =
     rw c.not_full.ensures
-    (window_short c.args.s.now (λ i. (c.type_inv.s i).fits) _ c.load_full-first.ensures _ _ c.digits_of-len.ensures.len (omega arith) c.number_in_word.ensures.sum)
+    (window_short c.args.s.now (λ i. (c.type_inv.s i).fits) _ c.load_full-first.ensures _ _
+    c.digits_of-len.ensures.len (omega arith) c.number_in_word.ensures.sum)
 
 pub value_of-requires-else-more-eq8-clause-some : goal.value_of-requires-else-more-eq8-clause-some
 value_of-requires-else-more-eq8-clause-some c =
     let r = c.requires in
-    omega (arith, run_of_ends c.args.s.now r.enough r.few (λ i. (c.type_inv.s i).fits) _ _ c.load_full-first.ensures c.load_last-last.ensures (omega arith))
+    omega (
+      arith,
+      run_of_ends c.args.s.now r.enough r.few (λ i. (c.type_inv.s i).fits) _ _
+          c.load_full-first.ensures c.load_last-last.ensures (omega arith),
+    )
 
 pub returns-then-more-eq8 : goal.returns-then-more-eq8
 returns-then-more-eq8 c =
     let r = c.requires in
     let more : 8 ≡ run_len decimal_table (low_bytes 8 c.load_last-last.result) = omega (arith, c.digits_of-more.ensures.len) in
     rw (c.not_full-then-more-eq8.ensures, c.power_of_ten.ensures.power)
-    (window_of_ends c.args.s.now r.enough r.few (λ i. (c.type_inv.s i).fits) _ _ c.load_full-first.ensures c.load_last-last.ensures (omega arith)
+    (window_of_ends c.args.s.now r.enough r.few (λ i. (c.type_inv.s i).fits) _ _
+    c.load_full-first.ensures c.load_last-last.ensures (omega arith)
     _ 8 _ _ more (omega arith) c.value_of-high.ensures.sum c.value_of.ensures.sum)
 
 pub returns-else-more-eq8 : goal.returns-else-more-eq8
 returns-else-more-eq8 c =
     let r = c.requires in
     rw (c.not_full-else-more-eq8.ensures, c.power_of_ten-else-more-eq8.ensures.power)
-    (window_of_ends c.args.s.now r.enough r.few (λ i. (c.type_inv.s i).fits) _ _ c.load_full-first.ensures c.load_last-last.ensures (omega arith)
+    (window_of_ends c.args.s.now r.enough r.few (λ i. (c.type_inv.s i).fits) _ _
+    c.load_full-first.ensures c.load_last-last.ensures (omega arith)
     _ _ _ _ c.digits_of-more.ensures.len refl c.value_of-high.ensures.sum c.value_of-else-more-eq8.ensures.sum)

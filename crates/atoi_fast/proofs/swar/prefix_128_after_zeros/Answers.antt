@@ -17,8 +17,10 @@ ended c = search (arith, Skipped-after_zeros, decimal_below_ten)
 pub returns-then-first-lt16-clause-answer : goal.returns-then-first-lt16-clause-answer
 returns-then-first-lt16-clause-answer c =
     let after_skip = ended (goal.at.returns-then-first-lt16-clause-answer c).After-window_after_zeros-at in
-    let some = ne_eqb (c.window_after_zeros-at.result.0 + c.window_after_zeros-at.result.1.len) 0 (omega (arith, c.window_after_zeros-at.ensures.some)) in
-    rw some at (answers_short wide128 c.args.bound 39 (lit< tt) after_skip c.if-first-lt16.true (lit< tt) c.requires.digits c.from.ensures refl)
+    let some = ne_eqb (c.window_after_zeros-at.result.0 + c.window_after_zeros-at.result.1.len) 0
+    (omega (arith, c.window_after_zeros-at.ensures.some)) in
+    rw some at (answers_short wide128 c.args.bound 39 (lit< tt) after_skip
+    c.if-first-lt16.true (lit< tt) c.requires.digits c.from.ensures refl)
 
 pub slice_bounds-window-start : goal.slice_bounds-window-start
 slice_bounds-window-start c = Skipped-full (ended (goal.at.slice_bounds-window-start c).After-window_after_zeros-at) c.if-first-lt16.false
@@ -26,7 +28,8 @@ slice_bounds-window-start c = Skipped-full (ended (goal.at.slice_bounds-window-s
 pub slice_bounds-window-count : goal.slice_bounds-window-count
 slice_bounds-window-count c = slice_bounds-window-start c
 
-second : (c : After-window-second) → Shows decimal_table 16 (drop 16 (drop c.window_after_zeros-at.result.0 c.args.s.now)) c.window-second.result
+second : (c : After-window-second)
+    → Shows decimal_table 16 (drop 16 (drop c.window_after_zeros-at.result.0 c.args.s.now)) c.window-second.result
 second c = shows_following decimal_below_ten 16 16 c.args.s.now c.window_after_zeros-at.result.0 c.window-second.ensures.window
 
 pub append_digits-number-requires : goal.append_digits-number-requires
@@ -35,21 +38,25 @@ append_digits-number-requires c = omega (arith, (second (goal.at.append_digits-n
 pub returns-then-second-lt16-clause-answer : goal.returns-then-second-lt16-clause-answer
 returns-then-second-lt16-clause-answer c =
     let at = goal.at.returns-then-second-lt16-clause-answer c in
-    answers_two decimal_below_ten _ (ended at.After-window_after_zeros-at) c.if-first-lt16.false (second at.After-window-second) c.if-second-lt16.true
+    answers_two decimal_below_ten _ (ended at.After-window_after_zeros-at)
+    c.if-first-lt16.false (second at.After-window-second) c.if-second-lt16.true
     c.requires.digits c.append_digits-number.ensures (omega arith)
 
 pub answer_after_32-requires-clause-below : goal.answer_after_32-requires-clause-below
 answer_after_32-requires-clause-below c =
     let at = goal.at.answer_after_32-requires-clause-below c in
-    (after_32 c.args.bound (ended at.After-window_after_zeros-at) c.if-first-lt16.false (second at.After-window-second) c.if-second-lt16.false _ refl c.append_digits-number.ensures).0
+    (after_32 c.args.bound (ended at.After-window_after_zeros-at) c.if-first-lt16.false
+    (second at.After-window-second) c.if-second-lt16.false _ refl c.append_digits-number.ensures).0
 
 pub answer_after_32-requires-clause-inside : goal.answer_after_32-requires-clause-inside
 answer_after_32-requires-clause-inside c =
     let at = goal.at.answer_after_32-requires-clause-inside c in
-    (after_32 c.args.bound (ended at.After-window_after_zeros-at) c.if-first-lt16.false (second at.After-window-second) c.if-second-lt16.false _ refl c.append_digits-number.ensures).1
+    (after_32 c.args.bound (ended at.After-window_after_zeros-at) c.if-first-lt16.false
+    (second at.After-window-second) c.if-second-lt16.false _ refl c.append_digits-number.ensures).1
 
 pub returns-clause-answer : goal.returns-clause-answer
 returns-clause-answer c =
     let at = goal.at.returns-clause-answer c in
     c.answer_after_32.ensures.answer
-    ∙ (after_32 c.args.bound (ended at.After-window_after_zeros-at) c.if-first-lt16.false (second at.After-window-second) c.if-second-lt16.false _ refl c.append_digits-number.ensures).2
+    ∙ (after_32 c.args.bound (ended at.After-window_after_zeros-at) c.if-first-lt16.false
+    (second at.After-window-second) c.if-second-lt16.false _ refl c.append_digits-number.ensures).2

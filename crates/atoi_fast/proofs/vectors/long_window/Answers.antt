@@ -24,9 +24,12 @@ returns c =
     elim c.if-len-le8.branch [
       | then-len-le8 w ↦
           w.number-is ∙ w.number_in_word-number.ensures.sum
-          ∙ loaded_part 8 s (λ i. (c.type_inv.s i).fits) _ w.load_full.ensures len (omega (arith, shown, w.if-len-le8, few_counted s (λ i. (c.type_inv.s i).fits) _ w.load_full.ensures))
+          ∙ loaded_part 8 s (λ i. (c.type_inv.s i).fits) _ w.load_full.ensures len
+          (omega (arith, shown, w.if-len-le8, few_counted s (λ i. (c.type_inv.s i).fits) _ w.load_full.ensures))
       | else-len-le8 w ↦
           w.number-is ∙ w.sum_lanes-number.ensures
-          ∙ ap (λ l. value decimal_table (take len l)) lanes ∙ ap (value decimal_table) (first_lanes len s (omega (arith, few)) (omega (arith, run, prefix_len-le-length (is_digit decimal_table) s)))
+          ∙ ap (λ l. value decimal_table (take len l)) lanes
+          ∙ ap (value decimal_table)
+          (first_lanes len s (omega (arith, few)) (omega (arith, run, prefix_len-le-length (is_digit decimal_table) s)))
     ] in
     c.not_full.ensures ∙ window_ended s len c.if-len-le8.number run few number

@@ -10,13 +10,18 @@ use Rattle.atoi_fast.proofs.swar.SwarEngine.prefix_128.Goals as goal
 use Rattle.atoi_fast.proofs.swar.SwarEngine.prefix_128.Goals.{After-window-first, Then-first-lt16, After-window-second}
 
 -- What holds if the first window is not full,
-short : (c : Then-first-lt16) → Skipped decimal_table c.args.skip c.args.s.now 0 c.args.steps.now c.window-first.new.steps c.window-first.result
-short c = Skipped-first decimal_below_ten c.args.skip c.args.s.now c.window-first.ensures.window c.window-first.ensures.one_step c.if-first-lt16.true
+short : (c : Then-first-lt16)
+    → Skipped decimal_table c.args.skip c.args.s.now 0 c.args.steps.now c.window-first.new.steps c.window-first.result
+short c =
+    Skipped-first decimal_below_ten c.args.skip c.args.s.now
+    c.window-first.ensures.window c.window-first.ensures.one_step c.if-first-lt16.true
 
 pub returns-then-first-lt16-clause-answer : goal.returns-then-first-lt16-clause-answer
 returns-then-first-lt16-clause-answer c =
     let after_skip = short (goal.at.returns-then-first-lt16-clause-answer c).Then-first-lt16 in
-    c.found_or_empty.ensures ∙ answers_short _ _ _ {len = c.window-first.result.len} (lit< tt) after_skip c.if-first-lt16.true (lit< tt) c.requires.digits c.from.ensures (omega arith)
+    c.found_or_empty.ensures
+    ∙ answers_short _ _ _ {len = c.window-first.result.len} (lit< tt) after_skip
+    c.if-first-lt16.true (lit< tt) c.requires.digits c.from.ensures (omega arith)
 
 pub returns-then-first-lt16-clause-loads : goal.returns-then-first-lt16-clause-loads
 returns-then-first-lt16-clause-loads c =
@@ -34,15 +39,18 @@ returns-then-s-eq16-clause-answer c =
     let s = c.args.s.now in
     let after_skip = last (goal.at.returns-then-s-eq16-clause-answer c).After-window-first c.else-skip.either in
     let none : drop 16 s ≡ [] = drop_all 16 s (omega arith) in
-    let nothing : Shows decimal_table 16 (drop 16 s) (record { len = 0; zeroes = 0; number = 0 }) = shows decimal_below_ten 16 (drop 16 s) (rw none refl) in
-    answers_two decimal_below_ten _ after_skip c.if-first-lt16.false nothing (lit< tt) c.requires.digits (omega (arith, c.from-then-s-eq16.ensures)) refl
+    let nothing : Shows decimal_table 16 (drop 16 s) (record { len = 0; zeroes = 0; number = 0 }) =
+    shows decimal_below_ten 16 (drop 16 s) (rw none refl) in
+    answers_two decimal_below_ten _ after_skip c.if-first-lt16.false nothing
+    (lit< tt) c.requires.digits (omega (arith, c.from-then-s-eq16.ensures)) refl
 
 pub returns-then-s-eq16-clause-loads : goal.returns-then-s-eq16-clause-loads
 returns-then-s-eq16-clause-loads c =
     Skipped-loads (last (goal.at.returns-then-s-eq16-clause-loads c).After-window-first c.else-skip.either) 0 (omega arith) (omega arith)
 
 pub slice_bounds-window-start : goal.slice_bounds-window-start
-slice_bounds-window-start c = Skipped-full (last (goal.at.slice_bounds-window-start c).After-window-first c.else-skip.either) c.if-first-lt16.false
+slice_bounds-window-start c =
+    Skipped-full (last (goal.at.slice_bounds-window-start c).After-window-first c.else-skip.either) c.if-first-lt16.false
 
 pub slice_bounds-window-count : goal.slice_bounds-window-count
 slice_bounds-window-count c = slice_bounds-window-start c
@@ -53,25 +61,29 @@ second c = shows_rest decimal_below_ten 16 c.args.s.now 16 c.window-second.ensur
 pub returns-then-second-lt16-clause-answer : goal.returns-then-second-lt16-clause-answer
 returns-then-second-lt16-clause-answer c =
     let at = goal.at.returns-then-second-lt16-clause-answer c in
-    answers_two decimal_below_ten _ (last at.After-window-first c.else-skip.either) c.if-first-lt16.false (second at.After-window-second) c.if-second-lt16.true
+    answers_two decimal_below_ten _ (last at.After-window-first c.else-skip.either)
+    c.if-first-lt16.false (second at.After-window-second) c.if-second-lt16.true
     c.requires.digits c.append_digits-number.ensures (omega arith)
 
 pub returns-then-second-lt16-clause-loads : goal.returns-then-second-lt16-clause-loads
 returns-then-second-lt16-clause-loads c =
-    Skipped-loads (last (goal.at.returns-then-second-lt16-clause-loads c).After-window-first c.else-skip.either) 1 (omega (arith, c.window-second.ensures.one_step)) (omega arith)
+    Skipped-loads (last (goal.at.returns-then-second-lt16-clause-loads c).After-window-first c.else-skip.either) 1
+    (omega (arith, c.window-second.ensures.one_step)) (omega arith)
 
 pub answer_after_32-requires-clause-below : goal.answer_after_32-requires-clause-below
 answer_after_32-requires-clause-below c =
     let at = goal.at.answer_after_32-requires-clause-below c in
     let next = second at.After-window-second in
-    (after_32 c.args.bound (last at.After-window-first c.else-skip.either) c.if-first-lt16.false next c.if-second-lt16.false 16 (omega (arith, next.len_is))
+    (after_32 c.args.bound (last at.After-window-first c.else-skip.either)
+    c.if-first-lt16.false next c.if-second-lt16.false 16 (omega (arith, next.len_is))
     c.append_digits-high.ensures).0
 
 pub answer_after_32-requires-clause-inside : goal.answer_after_32-requires-clause-inside
 answer_after_32-requires-clause-inside c =
     let at = goal.at.answer_after_32-requires-clause-inside c in
     let next = second at.After-window-second in
-    (after_32 c.args.bound (last at.After-window-first c.else-skip.either) c.if-first-lt16.false next c.if-second-lt16.false 16 (omega (arith, next.len_is))
+    (after_32 c.args.bound (last at.After-window-first c.else-skip.either)
+    c.if-first-lt16.false next c.if-second-lt16.false 16 (omega (arith, next.len_is))
     c.append_digits-high.ensures).1
 
 pub returns-clause-answer : goal.returns-clause-answer
@@ -79,7 +91,8 @@ returns-clause-answer c =
     let at = goal.at.returns-clause-answer c in
     let next = second at.After-window-second in
     c.answer_after_32.ensures.answer
-    ∙ (after_32 c.args.bound (last at.After-window-first c.else-skip.either) c.if-first-lt16.false next c.if-second-lt16.false 16 (omega (arith, next.len_is))
+    ∙ (after_32 c.args.bound (last at.After-window-first c.else-skip.either)
+    c.if-first-lt16.false next c.if-second-lt16.false 16 (omega (arith, next.len_is))
     c.append_digits-high.ensures).2
 
 pub returns-clause-loads : goal.returns-clause-loads

@@ -21,11 +21,13 @@ pub returns-then-first-lt16-clause-answer : goal.returns-then-first-lt16-clause-
 returns-then-first-lt16-clause-answer c =
     let after_skip = last (goal.at.returns-then-first-lt16-clause-answer c).After-window-first c.else-skip.either in
     c.found_or_empty.ensures
-    ∙ answers_short wide64 _ _ {len = c.window-first.result.len} (omega arith) after_skip c.if-first-lt16.true (omega arith) c.requires.digits refl (omega arith)
+    ∙ answers_short wide64 _ _ {len = c.window-first.result.len} (omega arith)
+    after_skip c.if-first-lt16.true (omega arith) c.requires.digits refl (omega arith)
 
 pub returns-then-first-lt16-clause-loads : goal.returns-then-first-lt16-clause-loads
 returns-then-first-lt16-clause-loads c =
-    Skipped-loads (last (goal.at.returns-then-first-lt16-clause-loads c).After-window-first c.else-skip.either) 0 (omega arith) (omega arith)
+    Skipped-loads (last (goal.at.returns-then-first-lt16-clause-loads c).After-window-first c.else-skip.either) 0
+    (omega arith) (omega arith)
 
 pub answer_after_16-requires-clause-full : goal.answer_after_16-requires-clause-full
 answer_after_16-requires-clause-full c =
@@ -53,7 +55,8 @@ returns-then-s-ge16-clause-loads c =
 short : (c : After-window-only)
     → Skipped decimal_table c.args.skip c.args.s.now 0 c.args.steps.now c.window-only.new.steps c.window-only.result
 short c =
-    Skipped-short decimal_below_ten c.args.skip c.args.s.now c.window-only.ensures.window c.window-only.ensures.one_step (omega (arith, c.if-s-ge16.false))
+    Skipped-short decimal_below_ten c.args.skip c.args.s.now c.window-only.ensures.window
+    c.window-only.ensures.one_step (omega (arith, c.if-s-ge16.false))
 
 pub returns-clause-answer : goal.returns-clause-answer
 returns-clause-answer c =
@@ -61,7 +64,8 @@ returns-clause-answer c =
     let few : c.window-only.result.len < 16 =
     omega (arith, c.if-s-ge16.false, after_skip.window.len_is, prefix_len-le-length (is_digit decimal_table) c.args.s.now) in
     c.found_or_empty-2.ensures
-    ∙ answers_short wide64 _ _ {len = c.window-only.result.len} (omega arith) after_skip few (omega arith) c.requires.digits refl (omega arith)
+    ∙ answers_short wide64 _ _ {len = c.window-only.result.len} (omega arith)
+    after_skip few (omega arith) c.requires.digits refl (omega arith)
 
 pub returns-clause-loads : goal.returns-clause-loads
 returns-clause-loads c = Skipped-loads (short (goal.at.returns-clause-loads c).After-window-only) 0 (omega arith) (omega arith)

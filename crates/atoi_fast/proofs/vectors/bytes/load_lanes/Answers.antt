@@ -18,5 +18,6 @@ returns c =
           w.result-is ∙ w.half.ensures ∙ ap (digits_l 256 16) (w.load_8.ensures ∙ ap word_of (take_all 8 s (omega arith)))
           ∙ lanes-of_bytes 16 s (bytes s (λ i. (c.type_inv.s i).fits)) (omega arith)
       | in-None-2 w ↦
-          w.result-is ∙ w.to_start.ensures ∙ ap (to_start (length s)) w.ends.ensures ∙ (moved s (omega arith) (omega (arith, w.in-None-2.ensures.cases))).0
+          w.result-is ∙ w.to_start.ensures ∙ ap (to_start (length s)) w.ends.ensures
+          ∙ (moved s (omega arith) (omega (arith, w.in-None-2.ensures.cases))).0
     ]

@@ -15,8 +15,10 @@ use Rattle.atoi_fast.proofs.vectors.wide.answer_128_after_16.Goals.{After-read_w
 pub returns-then-s-eq16-clause-answer : goal.returns-then-s-eq16-clause-answer
 returns-then-s-eq16-clause-answer c =
     let s = c.args.s.now in
-    let ends : 16 ≡ min 32 (run_len decimal_table s) = omega (arith, c.requires.full, c.if-s-eq16.true, prefix_len-le-length (is_digit decimal_table) s) in
-    ended_in_32 c.args.bound c.requires.digits (reading_of_run 32 s {len = 16} ends c.requires.number) (omega arith) (omega arith) c.from.ensures c.if-s-eq16.true
+    let ends : 16 ≡ min 32 (run_len decimal_table s) =
+    omega (arith, c.requires.full, c.if-s-eq16.true, prefix_len-le-length (is_digit decimal_table) s) in
+    ended_in_32 c.args.bound c.requires.digits (reading_of_run 32 s {len = 16} ends c.requires.number)
+    (omega arith) (omega arith) c.from.ensures c.if-s-eq16.true
 
 pub returns-in-Some-clause-answer : goal.returns-in-Some-clause-answer
 returns-in-Some-clause-answer c =
@@ -27,14 +29,16 @@ returns-in-Some-clause-answer c =
     let first = reading_of_run 16 s {len = 16} (omega (arith, c.requires.full)) c.requires.number in
     let second = reading_of_run 16 rest {len = more} (omega (arith, all, c.in-Some.ensures.0, c.if-s-lt32.true))
     (c.in-Some.ensures.1 ∙ ap (value decimal_table) (sym (take_all more rest (omega (arith, length-drop 16 s))))) in
-    ended_in_32 c.args.bound c.requires.digits (join_readings first second) (omega arith) (omega (arith, c.if-s-lt32.true)) c.append_digits.ensures
+    ended_in_32 c.args.bound c.requires.digits (join_readings first second)
+    (omega arith) (omega (arith, c.if-s-lt32.true)) c.append_digits.ensures
     (omega (arith, all, c.in-Some.ensures.0))
 
 pub returns-then-not-begins_with_digit-clause-answer :
     goal.returns-then-not-begins_with_digit-clause-answer
 returns-then-not-begins_with_digit-clause-answer c =
     let s = c.args.s.now in
-    let none : run_len decimal_table (drop 16 s) ≤ 0 = ltb-false 0 _ (sym (rw take_rest at c.begins_with_digit.ensures) ∙ c.if-not-begins_with_digit.true) in
+    let none : run_len decimal_table (drop 16 s) ≤ 0 =
+    ltb-false 0 _ (sym (rw take_rest at c.begins_with_digit.ensures) ∙ c.if-not-begins_with_digit.true) in
     let ends : 16 ≡ min 32 (run_len decimal_table s) = omega (arith, none, prefix_len-drop (is_digit decimal_table) 16 s c.requires.full) in
     ended_in_32 c.args.bound c.requires.digits (reading_of_run 32 s {len = 16} ends c.requires.number) (omega arith) (omega arith)
     c.from-then-not-begins_with_digit.ensures refl
@@ -56,21 +60,26 @@ returns-then-second-lt16-clause-answer c =
     (omega (arith, c.if-second-lt16.true)) c.append_digits-number.ensures refl
 
 -- All 32 are digits.
-decides : (c : After-read_window-second) (number : ℕ) → let second = c.read_window-second.result in let s = c.args.s.now in let back = window_of decimal_table 8 (drop 32 s) in
+decides : (c : After-read_window-second) (number : ℕ)
+    → let second = c.read_window-second.result in let s = c.args.s.now in let back = window_of decimal_table 8 (drop 32 s) in
     number ≡ c.args.high * 10 ^ second.len + second.number → 16 ≤ second.len → (number < 10 ^ 32) × (32 ≤ length s)
-    × (answer_by_digits wide128 c.args.bound 39 0 (32 + back.len) (number * 10 ^ back.len + back.number) s ≡ prefix_magnitude decimal_table wide128 c.args.bound 39 false s)
+    × (answer_by_digits wide128 c.args.bound 39 0 (32 + back.len) (number * 10 ^ back.len + back.number) s
+    ≡ prefix_magnitude decimal_table wide128 c.args.bound 39 false s)
 decides c number number_is full =
     let s = c.args.s.now in
     let first = reading_of_run 16 s {len = 16} (omega (arith, c.requires.full)) c.requires.number in
-    rw number_is (decided_full c.args.bound (start false s) (join_readings first (following c)) (omega (arith, full)) (λ on. absurd (cc on)))
+    rw number_is (decided_full c.args.bound (start false s)
+    (join_readings first (following c)) (omega (arith, full)) (λ on. absurd (cc on)))
 
 pub answer_after_32-requires-clause-below : goal.answer_after_32-requires-clause-below
 answer_after_32-requires-clause-below c =
-    (decides (goal.at.answer_after_32-requires-clause-below c).After-read_window-second _ c.append_digits-number.ensures c.if-second-lt16.false).0
+    (decides (goal.at.answer_after_32-requires-clause-below c).After-read_window-second _
+    c.append_digits-number.ensures c.if-second-lt16.false).0
 
 pub answer_after_32-requires-clause-inside : goal.answer_after_32-requires-clause-inside
 answer_after_32-requires-clause-inside c =
-    (decides (goal.at.answer_after_32-requires-clause-inside c).After-read_window-second _ c.append_digits-number.ensures c.if-second-lt16.false).1
+    (decides (goal.at.answer_after_32-requires-clause-inside c).After-read_window-second _
+    c.append_digits-number.ensures c.if-second-lt16.false).1
 
 pub returns-clause-answer : goal.returns-clause-answer
 returns-clause-answer c =

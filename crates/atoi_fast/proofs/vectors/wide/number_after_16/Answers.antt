@@ -11,11 +11,23 @@ overflow_sub-more c = omega (arith, c.requires.full, prefix_len-le-length (is_di
 pub returns-then-others-ne0 : goal.returns-then-others-ne0
 returns-then-others-ne0 c =
     let shown = last_shown c.args.s.now _ c.requires.full c.requires.few c.load_lanes-last.ensures in
-    omega (arith, shown.0, c.others.ensures.fewer (omega (arith, c.if-others-ne0.true)), c.requires.full, prefix_len-le-length (is_digit decimal_table) c.args.s.now)
+    omega (
+      arith,
+      shown.0,
+      c.others.ensures.fewer (omega (arith, c.if-others-ne0.true)),
+      c.requires.full,
+      prefix_len-le-length (is_digit decimal_table) c.args.s.now,
+    )
 
 pub returns : goal.returns
 returns c =
     let shown = last_shown c.args.s.now _ c.requires.full c.requires.few c.load_lanes-last.ensures in (
-      omega (arith, shown.0, c.others.ensures.none c.if-others-ne0.false, c.requires.full, prefix_len-le-length (is_digit decimal_table) c.args.s.now),
+      omega (
+        arith,
+        shown.0,
+        c.others.ensures.none c.if-others-ne0.false,
+        c.requires.full,
+        prefix_len-le-length (is_digit decimal_table) c.args.s.now,
+      ),
       c.sum_last_lanes.ensures ∙ ap (value decimal_table) shown.1,
     )

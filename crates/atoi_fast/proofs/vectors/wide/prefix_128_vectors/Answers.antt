@@ -14,7 +14,8 @@ pub returns-then-others-ne0-clause-answer : goal.returns-then-others-ne0-clause-
 returns-then-others-ne0-clause-answer c =
     let others = c.others-others.ensures in
     let some : 0 < c.others-others.result = omega (arith, c.if-others-ne0.true) in
-    let first = reading_of_lanes c.args.s.now c.load_lanes-first.result _ _ c.load_lanes-first.ensures (others.some some) (c.from.ensures ∙ c.sum_lanes.ensures) in
+    let first = reading_of_lanes c.args.s.now c.load_lanes-first.result _ _
+    c.load_lanes-first.ensures (others.some some) (c.from.ensures ∙ c.sum_lanes.ensures) in
     c.found_or_empty.ensures
     ∙ ended_in_16 wide128 c.args.bound 39 (lit< tt) (omega arith) c.requires.digits c.args.skip first
     (omega (arith, others.some some, others.fewer some))
@@ -23,16 +24,19 @@ pub returns-then-others-ne0-clause-loads : goal.returns-then-others-ne0-clause-l
 returns-then-others-ne0-clause-loads c =
     let others = c.others-others.ensures in
     let some : 0 < c.others-others.result = omega (arith, c.if-others-ne0.true) in
-    let first = reading_of_lanes c.args.s.now c.load_lanes-first.result _ _ c.load_lanes-first.ensures (others.some some) (c.from.ensures ∙ c.sum_lanes.ensures) in
+    let first = reading_of_lanes c.args.s.now c.load_lanes-first.result _ _
+    c.load_lanes-first.ensures (others.some some) (c.from.ensures ∙ c.sum_lanes.ensures) in
     one_load first (omega (arith, others.some some, others.fewer some)) c.tick.ensures (omega arith)
 
 pub answer_128_after_16-requires-clause-full : goal.answer_128_after_16-requires-clause-full
 answer_128_after_16-requires-clause-full c =
-    (full_lanes c.args.s.now _ c.load_lanes-first.ensures (c.others-others.ensures.none c.if-others-ne0.false) c.sum_lanes-then-s-ge16.ensures).0
+    (full_lanes c.args.s.now _ c.load_lanes-first.ensures
+    (c.others-others.ensures.none c.if-others-ne0.false) c.sum_lanes-then-s-ge16.ensures).0
 
 pub answer_128_after_16-requires-clause-number : goal.answer_128_after_16-requires-clause-number
 answer_128_after_16-requires-clause-number c =
-    (full_lanes c.args.s.now _ c.load_lanes-first.ensures (c.others-others.ensures.none c.if-others-ne0.false) c.sum_lanes-then-s-ge16.ensures).1
+    (full_lanes c.args.s.now _ c.load_lanes-first.ensures
+    (c.others-others.ensures.none c.if-others-ne0.false) c.sum_lanes-then-s-ge16.ensures).1
 
 pub returns-then-s-ge16-clause-answer : goal.returns-then-s-ge16-clause-answer
 returns-then-s-ge16-clause-answer c =

@@ -9,10 +9,12 @@ pub overflow_sub-window : goal.overflow_sub-window
 overflow_sub-window c = (within c.window_after_zeros-at.ensures.reached.reading).0
 
 pub answer_64-requires : goal.answer_64-requires
-answer_64-requires c = omega (arith, (within c.window_after_zeros-at.ensures.reached.reading).0, c.window_after_zeros-at.ensures.reached.within)
+answer_64-requires c =
+    omega (arith, (within c.window_after_zeros-at.ensures.reached.reading).0, c.window_after_zeros-at.ensures.reached.within)
 
 pub returns-clause-answer : goal.returns-clause-answer
-returns-clause-answer c = c.answer_64.ensures ∙ decided_64 c.args.bound c.args.limit c.requires.limit_high c.window_after_zeros-at.ensures.reached
+returns-clause-answer c =
+    c.answer_64.ensures ∙ decided_64 c.args.bound c.args.limit c.requires.limit_high c.window_after_zeros-at.ensures.reached
 
 pub returns-clause-least : goal.returns-clause-least
 returns-clause-least c = search (arith, zeros-le)

@@ -14,25 +14,30 @@ pub returns-then-others-ne0-clause-answer : goal.returns-then-others-ne0-clause-
 returns-then-others-ne0-clause-answer c =
     let others = c.others-others.ensures in
     let some : 0 < c.others-others.result = omega (arith, c.if-others-ne0.true) in
-    let first = reading_of_lanes c.args.s.now c.load_lanes-first.result _ _ c.load_lanes-first.ensures (others.some some) c.sum_lanes.ensures in
+    let first = reading_of_lanes c.args.s.now c.load_lanes-first.result _ _
+    c.load_lanes-first.ensures (others.some some) c.sum_lanes.ensures in
     c.found_or_empty.ensures
-    ∙ ended_in_16 wide64 c.args.bound c.args.limit (omega (arith, c.requires.limit_high)) (omega (arith, c.requires.limit_low)) c.requires.digits c.args.skip first
+    ∙ ended_in_16 wide64 c.args.bound c.args.limit (omega (arith, c.requires.limit_high))
+    (omega (arith, c.requires.limit_low)) c.requires.digits c.args.skip first
     (omega (arith, others.some some, others.fewer some))
 
 pub returns-then-others-ne0-clause-loads : goal.returns-then-others-ne0-clause-loads
 returns-then-others-ne0-clause-loads c =
     let others = c.others-others.ensures in
     let some : 0 < c.others-others.result = omega (arith, c.if-others-ne0.true) in
-    let first = reading_of_lanes c.args.s.now c.load_lanes-first.result _ _ c.load_lanes-first.ensures (others.some some) c.sum_lanes.ensures in
+    let first = reading_of_lanes c.args.s.now c.load_lanes-first.result _ _
+    c.load_lanes-first.ensures (others.some some) c.sum_lanes.ensures in
     one_load first (omega (arith, others.some some, others.fewer some)) c.tick.ensures (omega arith)
 
 pub answer_after_16-requires-clause-full : goal.answer_after_16-requires-clause-full
 answer_after_16-requires-clause-full c =
-    (full_lanes c.args.s.now _ c.load_lanes-first.ensures (c.others-others.ensures.none c.if-others-ne0.false) c.sum_lanes-then-s-ge16.ensures).0
+    (full_lanes c.args.s.now _ c.load_lanes-first.ensures
+    (c.others-others.ensures.none c.if-others-ne0.false) c.sum_lanes-then-s-ge16.ensures).0
 
 pub answer_after_16-requires-clause-number : goal.answer_after_16-requires-clause-number
 answer_after_16-requires-clause-number c =
-    (full_lanes c.args.s.now _ c.load_lanes-first.ensures (c.others-others.ensures.none c.if-others-ne0.false) c.sum_lanes-then-s-ge16.ensures).1
+    (full_lanes c.args.s.now _ c.load_lanes-first.ensures
+    (c.others-others.ensures.none c.if-others-ne0.false) c.sum_lanes-then-s-ge16.ensures).1
 
 pub returns-then-s-ge16-clause-answer : goal.returns-then-s-ge16-clause-answer
 returns-then-s-ge16-clause-answer c =
@@ -41,13 +46,15 @@ returns-then-s-ge16-clause-answer c =
       | else-skip-via-then-skip+else-s-eq48 w ↦ λ _. first_decides c.args.s.now w.if-s-eq48.false
       | else-skip-via-else-skip w ↦ λ on. absurd (cc (on, w.if-skip.false))
     ] in
-    c.answer_after_16.ensures.answer ∙ sym (unskipped decimal_table wide64 c.args.bound c.args.limit c.args.skip c.args.s.now (λ _. refl) none)
+    c.answer_after_16.ensures.answer
+    ∙ sym (unskipped decimal_table wide64 c.args.bound c.args.limit c.args.skip c.args.s.now (λ _. refl) none)
 
 pub returns-clause-answer : goal.returns-clause-answer
 returns-clause-answer c =
     let only = reading_of_window c.window_below_16-only.ensures in
     c.found_or_empty-2.ensures
-    ∙ ended_in_16 wide64 c.args.bound c.args.limit (omega (arith, c.requires.limit_high)) (omega (arith, c.requires.limit_low)) c.requires.digits c.args.skip only
+    ∙ ended_in_16 wide64 c.args.bound c.args.limit (omega (arith, c.requires.limit_high))
+    (omega (arith, c.requires.limit_low)) c.requires.digits c.args.skip only
     (omega (arith, within only, c.if-s-ge16.false))
 
 pub returns-clause-loads : goal.returns-clause-loads
