@@ -67,7 +67,8 @@ in_range false true greatest n has le = absurd (cc (has refl))
 in_range false false greatest n has le = (omega (arith, ints), omega (arith, ints))
 
 -- Digits after a minus without a needless byte do not spell zero.
-not_zero : {int : IntType} → DecimalTexts int → (sign : SignMark) (digits : List ℕ) (number : ℤ) → DigitsWrite int (is_minus sign) digits number
+not_zero : {int : IntType} → DecimalTexts int → (sign : SignMark) (digits : List ℕ) (number : ℤ)
+    → DigitsWrite int (is_minus sign) digits number
     → IsFalse (has_needless_zero digits) → IsFalse (has_needless_byte (sign_bytes sign ++ digits)) → is_minus sign ≡ true → number ≢ pos 0
 not_zero law no_sign digits number written short h is zero = absurd (cc)
 not_zero law plus digits number written short h is zero = absurd (cc)

@@ -22,7 +22,8 @@ module _ {text digits rest : List ℕ} {least most : ℕ} (leading : AreLeading 
   pub front : take size text ≡ digits ++ tail
   front =
       let long : length digits + (size - length digits) ≡ size = omega (arith, leading.at_most, size_is, lengths) in
-      ap (λ bytes. take size bytes) parts ∙ ap (λ count. take count (digits ++ rest)) (sym long) ∙ take-append-add digits rest (size - length digits)
+      ap (λ bytes. take size bytes) parts ∙ ap (λ count. take count (digits ++ rest)) (sym long)
+      ∙ take-append-add digits rest (size - length digits)
 
   pub ends : ¬ BeginsWithDigit tail
   ends = no_digit_in_front (size - length digits) rest (λ some. leading.ends (omega (arith, size_is)))

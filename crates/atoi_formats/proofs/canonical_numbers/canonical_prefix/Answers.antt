@@ -10,13 +10,15 @@ use Rattle.atoi_formats.proofs.canonical_numbers.canonical_prefix.Goals as goal
 pub returns-in_default-clause-none : goal.returns-in_default-clause-none
 unfolding IsCanonical
 returns-in_default-clause-none g c = λ number bytes rest is ends parts.
-    let prefix = c.prefixes_and_rests.ensures.of_parts (looked_for false) c.args.text.now bytes rest number parts (written c.decimal_texts.ensures is) ends in
+    let prefix = c.prefixes_and_rests.ensures.of_parts (looked_for false)
+    c.args.text.now bytes rest number parts (written c.decimal_texts.ensures is) ends in
     c.in_default.ensures.refused refl number (length bytes) prefix
 
 pub returns-then-has_needless_byte-clause-none : goal.returns-then-has_needless_byte-clause-none
 unfolding IsCanonical
 returns-then-has_needless_byte-clause-none g c = λ number bytes rest is ends parts.
-    let same = c.prefixes_and_rests.ensures.cut (looked_for false) c.args.text.now bytes rest number _ _ parts (written c.decimal_texts.ensures is) ends
+    let same = c.prefixes_and_rests.ensures.cut (looked_for false) c.args.text.now
+    bytes rest number _ _ parts (written c.decimal_texts.ensures is) ends
     c.in-Ok.ensures.prefix in
     let front : c.split_at.result.0.now ≡ take c.in-Ok.count c.args.text.now = search rules in
     let long = rw (front, same.1.0) at (sym c.has_needless_byte.ensures ∙ c.if-has_needless_byte.true) in
@@ -33,5 +35,6 @@ returns-else-has_needless_byte-clause-some g c =
 pub returns-else-has_needless_byte-clause-only : goal.returns-else-has_needless_byte-clause-only
 unfolding IsCanonical
 returns-else-has_needless_byte-clause-only g c = λ number bytes rest is ends parts.
-    let same = c.prefixes_and_rests.ensures.cut (looked_for false) c.args.text.now bytes rest number _ _ parts (written c.decimal_texts.ensures is) ends
+    let same = c.prefixes_and_rests.ensures.cut (looked_for false) c.args.text.now
+    bytes rest number _ _ parts (written c.decimal_texts.ensures is) ends
     c.in-Ok.ensures.prefix in search rules

@@ -9,8 +9,10 @@ returns-in_err-number-clause-none g c = rw c.from_residual.ensures (λ number by
 
 pub returns-in_err-rest-clause-none : goal.returns-in_err-rest-clause-none
 returns-in_err-rest-clause-none g c = rw c.from_residual-in_err-rest.ensures (λ number bytes rest is parts.
-    let same = c.in_ok-number.ensures.only number bytes (c.args.byte ∷ rest) is (ends_before c.args.byte rest c.requires) parts in search rules)
+    let same = c.in_ok-number.ensures.only number bytes (c.args.byte ∷ rest)
+    is (ends_before c.args.byte rest c.requires) parts in search rules)
 
 pub returns-clause-only : goal.returns-clause-only
 returns-clause-only g c = λ number bytes rest is parts.
-    let same = c.in_ok-number.ensures.only number bytes (c.args.byte ∷ rest) is (ends_before c.args.byte rest c.requires) parts in search rules
+    let same = c.in_ok-number.ensures.only number bytes (c.args.byte ∷ rest)
+    is (ends_before c.args.byte rest c.requires) parts in search rules

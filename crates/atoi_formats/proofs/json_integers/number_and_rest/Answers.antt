@@ -24,7 +24,8 @@ pub returns-in_default-parse_prefix-clause-none : goal.returns-in_default-parse_
 unfolding IsJsonInteger
 returns-in_default-parse_prefix-clause-none g c = λ number bytes rest is ends parts.
     let text = to_text c.decimal_texts.ensures is (without_zero _ _ parts c.in_default.ensures.none) in
-    let prefix = c.prefixes_and_rests.ensures.of_parts (looked_for false) c.args.text.now bytes rest number parts text (no_digit rest ends) in
+    let prefix = c.prefixes_and_rests.ensures.of_parts (looked_for false)
+    c.args.text.now bytes rest number parts text (no_digit rest ends) in
     c.in_default-parse_prefix.ensures.refused refl number (length bytes) prefix
 
 pub returns-clause-some : goal.returns-clause-some
@@ -37,5 +38,6 @@ pub returns-clause-only : goal.returns-clause-only
 unfolding IsJsonInteger
 returns-clause-only g c = λ number bytes rest is ends parts.
     let text = to_text c.decimal_texts.ensures is (without_zero _ _ parts c.in_default.ensures.none) in
-    let same = c.prefixes_and_rests.ensures.cut (looked_for false) c.args.text.now bytes rest number _ _ parts text (no_digit rest ends) c.in-Ok.ensures.prefix in
+    let same = c.prefixes_and_rests.ensures.cut (looked_for false) c.args.text.now
+    bytes rest number _ _ parts text (no_digit rest ends) c.in-Ok.ensures.prefix in
     search rules

@@ -11,8 +11,10 @@ returns-in_default-clause-none g c = λ number digits rest written parts.
 
 pub returns-in_err-rest-clause-none : goal.returns-in_err-rest-clause-none
 returns-in_err-rest-clause-none g c = rw c.from_residual.ensures (λ number digits rest written parts.
-    let same = only_prefix c.number_then_byte.ensures positive c.args.byte c.requires digits rest written parts c.in-Ok.ensures.prefix in search rules)
+    let same = only_prefix c.number_then_byte.ensures positive c.args.byte
+    c.requires digits rest written parts c.in-Ok.ensures.prefix in search rules)
 
 pub returns-clause-only : goal.returns-clause-only
 returns-clause-only g c = λ number digits rest written parts.
-    let same = only_prefix c.number_then_byte.ensures positive c.args.byte c.requires digits rest written parts c.in-Ok.ensures.prefix in search rules
+    let same = only_prefix c.number_then_byte.ensures positive c.args.byte
+    c.requires digits rest written parts c.in-Ok.ensures.prefix in search rules

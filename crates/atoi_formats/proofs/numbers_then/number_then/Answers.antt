@@ -14,9 +14,11 @@ returns-in_default-clause-none g c = λ number bytes rest written parts.
 pub returns-in_err-rest-clause-none : goal.returns-in_err-rest-clause-none
 unfolding IsNumber
 returns-in_err-rest-clause-none g c = rw c.from_residual.ensures (λ number bytes rest written parts.
-    let same = only_prefix c.number_then_byte.ensures (looked_for true) c.args.byte c.requires bytes rest written parts c.in-Ok.ensures.prefix in search rules)
+    let same = only_prefix c.number_then_byte.ensures (looked_for true) c.args.byte
+    c.requires bytes rest written parts c.in-Ok.ensures.prefix in search rules)
 
 pub returns-clause-only : goal.returns-clause-only
 unfolding IsNumber
 returns-clause-only g c = λ number bytes rest written parts.
-    let same = only_prefix c.number_then_byte.ensures (looked_for true) c.args.byte c.requires bytes rest written parts c.in-Ok.ensures.prefix in search rules
+    let same = only_prefix c.number_then_byte.ensures (looked_for true) c.args.byte
+    c.requires bytes rest written parts c.in-Ok.ensures.prefix in search rules
