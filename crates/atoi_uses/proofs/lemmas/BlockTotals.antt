@@ -4,7 +4,8 @@ use Rattle.std.proofs.lemmas.List.Sums.{sum_by-cons}
 use Rattle.atoi_column.specs.FieldItems.{BadField}
 use Rattle.atoi_uses.specs.BlockTotals.{total_after}
 
-pub block_adds : (item : ℕ → Result ℤ BadField) → ((value : ℕ) → item value ≡ Ok (pos value)) → (before : ℕ) (block : List ℕ) (left : List (Result ℤ BadField))
+pub block_adds : (item : ℕ → Result ℤ BadField) → ((value : ℕ) → item value ≡ Ok (pos value))
+    → (before : ℕ) (block : List ℕ) (left : List (Result ℤ BadField))
     → total_after (pos before) (map item block ++ left) ≡ total_after (pos (before + sum block)) left
 block_adds item is before [] left = rw add-zero
 block_adds item is before (value ∷ block) left =

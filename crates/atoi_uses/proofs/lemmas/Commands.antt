@@ -26,5 +26,6 @@ pub only_command : OneNumber i64_type → (line text : List ℕ) (word : Word) (
     → (command : Command) → IsCommand line command → record { word = word; number = number } ≡ command
 only_command law line text word number has written command is =
     let one = one_word line word command.word text is.text has is.parts in
-    let number_is = law (looked_for true) is.text number command.number (subst (λ t. TextWrites i64_type true t number) one.1 written) is.written in
+    let number_is = law (looked_for true) is.text number command.number
+    (subst (λ t. TextWrites i64_type true t number) one.1 written) is.written in
     ap (λ w. record { word = w; number = number }) one.0 ∙ ap (λ n. record { word = command.word; number = n }) number_is

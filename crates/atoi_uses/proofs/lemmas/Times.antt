@@ -26,5 +26,7 @@ module _ (digits : List ℕ) (numeral : IsNumeral 10 digits) (short : length dig
   pub billionths_fit : digits_value 10 digits * 10 ^ (9 - length digits) < 1000000000
   billionths_fit =
       let nine : length digits + (9 - length digits) ≡ 9 = omega (arith, short) in
-      let all : 10 ^ length digits * 10 ^ (9 - length digits) ≡ 1000000000 = sym (pow-add 10 (length digits) (9 - length digits)) ∙ ap (λ n. 10 ^ n) nine in
-      subst (λ n. digits_value 10 digits * 10 ^ (9 - length digits) < n) all (mul-lt-mul_of_pos_right {k = 10 ^ (9 - length digits)} below some)
+      let all : 10 ^ length digits * 10 ^ (9 - length digits) ≡ 1000000000 =
+      sym (pow-add 10 (length digits) (9 - length digits)) ∙ ap (λ n. 10 ^ n) nine in
+      subst (λ n. digits_value 10 digits * 10 ^ (9 - length digits) < n) all
+      (mul-lt-mul_of_pos_right {k = 10 ^ (9 - length digits)} below some)

@@ -36,13 +36,15 @@ returns-in-Some-clause-some c =
 
 pub returns-in_err-after-clause-none : goal.returns-in_err-after-clause-none
 returns-in_err-after-clause-none c = rw c.from_residual-in_err-after.ensures (λ total rest has.
-    let is : IsNotLast c.loop-number.left.now c.in_ok-number.number c.in_ok-number.tail.now = record { only = c.in_ok-number.ensures.only; no_end = c.in_default.ensures.none } in
+    let is : IsNotLast c.loop-number.left.now c.in_ok-number.number c.in_ok-number.tail.now =
+    record { only = c.in_ok-number.ensures.only; no_end = c.in_default.ensures.none } in
     let found = others_follow is (c.loop-number.invariant.others total rest has).1 in
     c.in_err-after.ensures.none _ found.1.1.0)
 
 pub returns-in_err-left-clause-none : goal.returns-in_err-left-clause-none
 returns-in_err-left-clause-none c = rw c.from_residual-in_err-left.ensures (λ total rest has.
-    let is : IsNotLast c.loop-number.left.now c.in_ok-number.number c.in_ok-number.tail.now = record { only = c.in_ok-number.ensures.only; no_end = c.in_default.ensures.none } in
+    let is : IsNotLast c.loop-number.left.now c.in_ok-number.number c.in_ok-number.tail.now =
+    record { only = c.in_ok-number.ensures.only; no_end = c.in_default.ensures.none } in
     let found = others_follow is (c.loop-number.invariant.others total rest has).1 in
     c.in_err-left.ensures.none found.1.0 (cc (c.in_ok-after.ensures.some, found.1.1.0)))
 
@@ -56,6 +58,7 @@ loop-number-preserved c =
     let few : length c.args.text.now < 2 ^ 64 = search rules in
     let sum : to_z w128 (of_z w128 (total +ℤ to_z w128 (of_z w128 c.from.result))) ≡ total +ℤ number =
     omega (arith, ints, read.above, read.below, read.within) in
-    let is : IsNotLast c.loop-number.left.now c.in_ok-number.number c.in_ok-number.tail.now = record { only = c.in_ok-number.ensures.only; no_end = c.in_default.ensures.none } in
+    let is : IsNotLast c.loop-number.left.now c.in_ok-number.number c.in_ok-number.tail.now =
+    record { only = c.in_ok-number.ensures.only; no_end = c.in_default.ensures.none } in
     let comma = c.in_ok-after.ensures.some ∙ ap (λ tail. 44 ∷ tail) c.in_ok-left.ensures.some in
     rw sum (read_more read c.in_ok-number.ensures.some fits is c.in_ok-left.left.now comma)

@@ -11,8 +11,10 @@ returns-in-Ok-clause-exact c =
     let is : IsCommand c.args.line.now (record { word = c.in-Some.word; number = c.in-Ok.number }) =
     record { text = c.in-Some.text.now; parts = has; written = (search rules) } in
     rw (to_z-of_z w64 c.in-Ok.number (search rules)) (λ command. (
-      λ same. let made : record { word = c.in-Some.word; number = c.in-Ok.number } ≡ command = cc in subst (IsCommand c.args.line.now) made is,
-      λ given. ap Ok (only_command c.one_number.ensures c.args.line.now c.in-Some.text.now c.in-Some.word c.in-Ok.number has is.written command given),
+      λ same. let made : record { word = c.in-Some.word; number = c.in-Ok.number } ≡ command =
+          cc in subst (IsCommand c.args.line.now) made is,
+      λ given. ap Ok (only_command c.one_number.ensures c.args.line.now
+          c.in-Some.text.now c.in-Some.word c.in-Ok.number has is.written command given),
     ))
 
 pub returns-in_default-clause-refused : goal.returns-in_default-clause-refused

@@ -35,7 +35,8 @@ loop-item-preserved c =
     let items = items_of i64_type c.args.separator c.args.input.now in
     let before = c.loop-item.invariant in
     let left = c.next.new.self in
-    let step : c.loop-item.item-iterator ≡ Ok number ∷ left = c.in-Some.ensures.steps ∙ ap (λ item. item_of (λ n. n) item ∷ left) c.in-Ok.is in
+    let step : c.loop-item.item-iterator ≡ Ok number ∷ left =
+    c.in-Some.ensures.steps ∙ ap (λ item. item_of (λ n. n) item ∷ left) c.in-Ok.is in
     let read = c.items_in_turn.ensures.more_values items c.loop-item.item-iterator left before.numbers (number ∷ []) before.read step in
     let bytes : length items ≤ length c.args.input.now = search rules in
     let few : length c.args.input.now < 2 ^ 64 = search rules in

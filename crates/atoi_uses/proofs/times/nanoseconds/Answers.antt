@@ -11,14 +11,16 @@ returns-in_default-clause-none c = λ any are.
     let digits = c.args.digits.now in
     let written : DigitsWrite u32_type false digits (pos (digits_value 10 digits)) =
     record { numeral = are.numeral; in_range = omega (arith, fit digits are.numeral are.at_most_nine); value_is = refl } in
-    c.in_default.ensures.none (pos (digits_value 10 digits)) digits [] written (at_end digits are.numeral are.at_most_nine) (sym (append-nil digits))
+    c.in_default.ensures.none (pos (digits_value 10 digits)) digits [] written
+    (at_end digits are.numeral are.at_most_nine) (sym (append-nil digits))
 
 pub returns-else-is_empty-clause-none : goal.returns-else-is_empty-clause-none
 returns-else-is_empty-clause-none c = λ any are.
     let digits = c.args.digits.now in
     let written : DigitsWrite u32_type false digits (pos (digits_value 10 digits)) =
     record { numeral = are.numeral; in_range = omega (arith, fit digits are.numeral are.at_most_nine); value_is = refl } in
-    let same = c.in-Some.ensures.only (pos (digits_value 10 digits)) digits [] written (at_end digits are.numeral are.at_most_nine) (sym (append-nil digits)) in
+    let same = c.in-Some.ensures.only (pos (digits_value 10 digits)) digits []
+    written (at_end digits are.numeral are.at_most_nine) (sym (append-nil digits)) in
     let rest_is = sym same.1 in search rules
 
 pub overflow_mul-result : goal.overflow_mul-result
