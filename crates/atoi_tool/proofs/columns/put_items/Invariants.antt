@@ -6,6 +6,7 @@ use Rattle.atoi_tool.proofs.columns.put_items.Given as goal
 
 abbrev pub invariant-loop-item : goal.invariant-loop-item
 invariant-loop-item g l = record {
-  put : AppendsUpTo (g.S.Sink.contents l.fn.output) (g.S.Sink.contents l.output) (l.fn.block ++ flat_map item_text l.fn.column) (l.block ++ flat_map item_text l.item-iterator);
+  put : AppendsUpTo (g.S.Sink.contents l.fn.output) (g.S.Sink.contents l.output)
+      (l.fn.block ++ flat_map item_text l.fn.column) (l.block ++ flat_map item_text l.item-iterator);
   failures : g.S.Sink.failures l.output ≡ g.S.Sink.failures l.fn.output;
 }

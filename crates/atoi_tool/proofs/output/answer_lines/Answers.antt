@@ -32,6 +32,7 @@ loop-rest-preserved g c =
 
 pub returns-in-Err-put_all-clause-output : goal.returns-in-Err-put_all-clause-output
 returns-in-Err-put_all-clause-output g c =
-    AppendsPrefix-rest _ (g.S.Sink.contents c.loop-rest.output) _ (output_of c.args.input.now) (c.loop-rest.block ++ output_of c.loop-rest.rest.now)
+    AppendsPrefix-rest _ (g.S.Sink.contents c.loop-rest.output) _
+    (output_of c.args.input.now) (c.loop-rest.block ++ output_of c.loop-rest.rest.now)
     c.loop-rest.invariant.put
     (AppendsPrefix-more _ _ c.loop-rest.block (output_of c.loop-rest.rest.now) (rw c.as_bytes.ensures at c.in-Err-put_all.ensures.output))

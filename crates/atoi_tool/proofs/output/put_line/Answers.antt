@@ -12,22 +12,30 @@ output_if row = option_map_or (λ row. query_text row.0 row.1) row (codes "bad r
 
 pub returns-in_err-put_query-in-Some-clause-output : goal.returns-in_err-put_query-in-Some-clause-output
 returns-in_err-put_query-in-Some-clause-output g c =
-    let text : line_output c.args.line.now ≡ query_text c.in-Some.query c.in-Some.text.now ++ newline ∷ [] = ap output_if (sym c.in-Some.ensures.row) in
-    let refused : AppendsPrefix (g.S.Sink.contents c.args.output.now) (g.S.Sink.contents c.put_query.new.output) (c.args.block.now ++ line_output c.args.line.now) =
-    rw text (AppendsPrefix-first _ (g.S.Sink.contents c.put_query.new.output) c.args.block.now (query_text c.in-Some.query c.in-Some.text.now) (newline ∷ [])
+    let text : line_output c.args.line.now ≡ query_text c.in-Some.query c.in-Some.text.now ++ newline ∷ [] =
+    ap output_if (sym c.in-Some.ensures.row) in
+    let refused : AppendsPrefix (g.S.Sink.contents c.args.output.now)
+    (g.S.Sink.contents c.put_query.new.output) (c.args.block.now ++ line_output c.args.line.now) =
+    rw text (AppendsPrefix-first _ (g.S.Sink.contents c.put_query.new.output)
+    c.args.block.now (query_text c.in-Some.query c.in-Some.text.now) (newline ∷ [])
     c.in_err-put_query-in-Some.ensures.output) in
     search rules
 
 pub returns-in_err-append-in-Some-clause-output : goal.returns-in_err-append-in-Some-clause-output
 returns-in_err-append-in-Some-clause-output g c =
-    let text : line_output c.args.line.now ≡ query_text c.in-Some.query c.in-Some.text.now ++ newline ∷ [] = ap output_if (sym c.in-Some.ensures.row) in
-    let refused : AppendsPrefix (g.S.Sink.contents c.args.output.now) (g.S.Sink.contents c.append.new.output) (c.args.block.now ++ line_output c.args.line.now) =
+    let text : line_output c.args.line.now ≡ query_text c.in-Some.query c.in-Some.text.now ++ newline ∷ [] =
+    ap output_if (sym c.in-Some.ensures.row) in
+    let refused : AppendsPrefix (g.S.Sink.contents c.args.output.now)
+    (g.S.Sink.contents c.append.new.output) (c.args.block.now ++ line_output c.args.line.now) =
     rw text (AppendsPrefix-then _ (g.S.Sink.contents c.put_query.new.output) (g.S.Sink.contents c.append.new.output) c.args.block.now
-    (query_text c.in-Some.query c.in-Some.text.now) (newline ∷ []) c.put_query.new.block c.in_ok-put_query-in-Some.ensures.output c.in_err-append-in-Some.ensures.output) in
+    (query_text c.in-Some.query c.in-Some.text.now) (newline ∷ []) c.put_query.new.block
+    c.in_ok-put_query-in-Some.ensures.output c.in_err-append-in-Some.ensures.output) in
     search rules
 
 pub returns-in_ok-append-in-Some-clause-output : goal.returns-in_ok-append-in-Some-clause-output
 returns-in_ok-append-in-Some-clause-output g c =
-    let text : line_output c.args.line.now ≡ query_text c.in-Some.query c.in-Some.text.now ++ newline ∷ [] = ap output_if (sym c.in-Some.ensures.row) in
+    let text : line_output c.args.line.now ≡ query_text c.in-Some.query c.in-Some.text.now ++ newline ∷ [] =
+    ap output_if (sym c.in-Some.ensures.row) in
     rw text (AppendsUpTo-then _ (g.S.Sink.contents c.put_query.new.output) (g.S.Sink.contents c.append.new.output) c.args.block.now
-    (query_text c.in-Some.query c.in-Some.text.now) (newline ∷ []) c.put_query.new.block c.append.new.self c.in_ok-put_query-in-Some.ensures.output c.in_ok-append-in-Some.ensures.output)
+    (query_text c.in-Some.query c.in-Some.text.now) (newline ∷ []) c.put_query.new.block
+    c.append.new.self c.in_ok-put_query-in-Some.ensures.output c.in_ok-append-in-Some.ensures.output)
