@@ -51,14 +51,16 @@ module _ (int : IntType) (separator : ℕ) (input : List ℕ) (has : HasItems in
   no_value [] last end starts = absurd (cc (end, starts.2))
   no_value (field ∷ others) last end starts = absurd (cc (end.1, starts.2))
 
-  all_written : (numbers : List ℤ) (others : List (List ℕ)) (last : List (Result ℤ Flaw)) → fields_of separator input ≡ has.texts ++ others → ends others last
+  all_written : (numbers : List ℤ) (others : List (List ℕ)) (last : List (Result ℤ Flaw))
+      → fields_of separator input ≡ has.texts ++ others → ends others last
       → (numbers ≡ has.numbers) × ([] ≡ last) → AllZip (TextWrites int true) (fields_of separator input) numbers
   all_written numbers [] last parts end same =
       let written = subst (AllZip (TextWrites int true) has.texts) (sym same.0) has.written in
       subst (λ fields. AllZip (TextWrites int true) fields numbers) (sym (parts ∙ append-nil has.texts)) written
   all_written numbers (field ∷ others) last parts end same = absurd (cc (end.1, same.1))
 
-  bad_of : (flaw : Flaw) (others : List (List ℕ)) (last : List (Result ℤ Flaw)) → fields_of separator input ≡ has.texts ++ others → ends others last
+  bad_of : (flaw : Flaw) (others : List (List ℕ)) (last : List (Result ℤ Flaw))
+      → fields_of separator input ≡ has.texts ++ others → ends others last
       → Err flaw ∷ [] ≡ last → IsFirstBad int separator input (index_of flaw) (place_of flaw)
   bad_of flaw [] last parts end same = absurd (cc (end, same))
   bad_of flaw (field ∷ others) last parts end same =
@@ -77,9 +79,11 @@ module _ (int : IntType) (separator : ℕ) (input : List ℕ) (has : HasItems in
         place_is = ap place_of flaw_is ∙ place_of-flaw_at (length has.texts) place read;
       }
 
-  split : (numbers : List ℤ) (left : List (Result ℤ Flaw)) → ¬ starts_with_value left → items_of int separator input ≡ map Ok numbers ++ left
+  split : (numbers : List ℤ) (left : List (Result ℤ Flaw)) → ¬ starts_with_value left
+      → items_of int separator input ≡ map Ok numbers ++ left
       → (numbers ≡ has.numbers) × (left ≡ has.last)
-  split numbers left none same = same_split numbers has.numbers left has.last none (no_value has.others has.last has.end) (sym same ∙ has.items)
+  split numbers left none same =
+      same_split numbers has.numbers left has.last none (no_value has.others has.last has.end) (sym same ∙ has.items)
 
 pub items_decide : (int : IntType) → TextsAndItems int → ItemsDecide int
 items_decide int law = record {

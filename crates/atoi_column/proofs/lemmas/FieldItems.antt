@@ -24,14 +24,17 @@ module _ (cut : List ℕ → List ℕ) (answer : List ℕ → Result ℤ Refusal
   part_then index place part (next ∷ parts) some = refl
 
   -- There are as many items as fields.
-  length-items_of_parts : (index place : ℕ) (parts : List (List ℕ)) → length (items_of_parts cut answer index place parts) ≡ length (without_empty_last parts)
+  length-items_of_parts : (index place : ℕ) (parts : List (List ℕ))
+      → length (items_of_parts cut answer index place parts) ≡ length (without_empty_last parts)
   length-items_of_parts index place [] = refl
   length-items_of_parts index place (part ∷ []) =
-      elim (length part == 0) as (λ b. length (if b then [] else field_item index place part (answer part) ∷ []) ≡ length (if b then [] else part ∷ [])) [
+      elim (length part == 0) as
+      (λ b. length (if b then [] else field_item index place part (answer part) ∷ []) ≡ length (if b then [] else part ∷ [])) [
         | true ↦ refl
         | false ↦ refl
       ]
-  length-items_of_parts index place (part ∷ next ∷ parts) = omega (arith, length-items_of_parts (index + 1) (place + length part + 1) (next ∷ parts))
+  length-items_of_parts index place (part ∷ next ∷ parts) =
+      omega (arith, length-items_of_parts (index + 1) (place + length part + 1) (next ∷ parts))
 
 module _ (int : IntType) (left : FieldsLeft) where
   abbrev ends : ℕ → Bool
@@ -43,7 +46,8 @@ module _ (int : IntType) (left : FieldsLeft) where
   -- The first item, from the text of the first field.
   abbrev pub first_item : Result ℤ BadField
   first_item =
-      field_item left.index left.place (first_text (cut_of left.trims) left.separator left.rest) (answer (first_text (cut_of left.trims) left.separator left.rest))
+      field_item left.index left.place (first_text (cut_of left.trims) left.separator left.rest)
+      (answer (first_text (cut_of left.trims) left.separator left.rest))
 
   abbrev items_after : List (Result ℤ BadField)
   items_after =
@@ -54,11 +58,13 @@ module _ (int : IntType) (left : FieldsLeft) where
   unfolding field_items_left
   field_items_left-empty none = rw none refl
 
-  first_of_last : 0 < length left.rest → length left.rest ≤ position_or_len ends left.rest → field_items_left int left ≡ first_item ∷ items_after
+  first_of_last : 0 < length left.rest → length left.rest ≤ position_or_len ends left.rest
+      → field_items_left int left ≡ first_item ∷ items_after
   unfolding field_items_left
   first_of_last some absent =
       let rest = left.rest in
-      let one : slice_split ends rest ≡ rest ∷ [] = slice_split_none ends rest (λ k d within. fails_before_first ends rest k d (omega arith)) in
+      let one : slice_split ends rest ≡ rest ∷ [] =
+      slice_split_none ends rest (λ k d within. fails_before_first ends rest k d (omega arith)) in
       let all : position_or_len ends rest ≡ length rest = omega (arith, prefix_len-le-length (λ byte. not (ends byte)) rest) in
       let none : length rest ≢ 0 = omega arith in
       rw (one, ne_eqb _ _ none, eq-eqb _ _ all, drop_all (position_or_len ends rest + 1) rest (omega arith)) refl
@@ -72,8 +78,10 @@ module _ (int : IntType) (left : FieldsLeft) where
       let place : left.place + length (before_first ends rest) + 1 ≡ left.place + (length rest - length (after_first ends rest)) =
       omega (arith, length-prefix_len (λ byte. not (ends byte)) rest, length-drop (position_or_len ends rest + 1) rest) in
       rw (slice_split_first ends rest 0 found, ne_eqb _ _ apart)
-      (part_then (cut_of left.trims) answer left.index left.place (before_first ends rest) parts (omega (arith, length-slice_split ends (after_first ends rest)))
-      ∙ ap (λ p. field_item left.index left.place (cut_of left.trims (before_first ends rest)) (answer (cut_of left.trims (before_first ends rest)))
+      (part_then (cut_of left.trims) answer left.index left.place (before_first ends rest)
+      parts (omega (arith, length-slice_split ends (after_first ends rest)))
+      ∙ ap (λ p. field_item left.index left.place (cut_of left.trims (before_first ends rest))
+      (answer (cut_of left.trims (before_first ends rest)))
       ∷ items_of_parts (cut_of left.trims) answer (left.index + 1) p parts) place)
 
   -- The first item is the first field's, and the others are left.
@@ -88,7 +96,11 @@ module _ (int : IntType) (left : FieldsLeft) where
   pub length-field_items_left : length (field_items_left int left) ≤ length left.rest
   unfolding field_items_left
   length-field_items_left =
-      omega (arith, length-items_of_parts (cut_of left.trims) answer left.index left.place (slice_split ends left.rest), length-fields_of left.separator left.rest)
+      omega (
+        arith,
+        length-items_of_parts (cut_of left.trims) answer left.index left.place (slice_split ends left.rest),
+        length-fields_of left.separator left.rest,
+      )
 
   -- Where a byte is left, an item is.
   pub some-field_items_left : min (length left.rest) 1 ≤ length (field_items_left int left)
@@ -100,7 +112,8 @@ module _ (int : IntType) (left : FieldsLeft) where
 
 -- What is left of an input that ends at the offset `end`.
 abbrev pub left_before : (trims : Bool) (separator index end : ℕ) → List ℕ → FieldsLeft
-left_before trims separator index end rest = record { trims = trims; separator = separator; index = index; place = end - length rest; rest = rest }
+left_before trims separator index end rest =
+    record { trims = trims; separator = separator; index = index; place = end - length rest; rest = rest }
 
 left_before-moves : (trims : Bool) (separator index end : ℕ) (rest : List ℕ) → length rest ≤ end
     → left_before trims separator (index + 1) end (after_first (λ byte. byte == separator) rest)
@@ -112,7 +125,8 @@ left_before-moves trims separator index end rest within =
     rw place refl
 
 -- A step with the item of the first field leaves the others.
-pub first_field_step : (int : IntType) {trims : Bool} {separator index end : ℕ} {rest following : List ℕ} {old : FieldsLeft} {item : Result ℤ BadField}
+pub first_field_step : (int : IntType) {trims : Bool} {separator index end : ℕ}
+    {rest following : List ℕ} {old : FieldsLeft} {item : Result ℤ BadField}
     → left_before trims separator index end rest ≡ old → 0 < length rest → length rest ≤ end
     → item ≡ first_item int (left_before trims separator index end rest) → following ≡ after_first (λ byte. byte == separator) rest
     → (field_items_left int old ≡ item ∷ field_items_left int (left_before trims separator (index + 1) end following))

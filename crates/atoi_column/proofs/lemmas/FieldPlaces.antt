@@ -51,7 +51,8 @@ module _ (int : IntType) (trims : Bool) (separator : ℕ) (input : List ℕ) whe
       let field = before_first ends rest in
       let tail = drop (position_or_len ends rest) rest in
       let begins = part_begins trims field in
-      elim (position_or_len ends rest == length rest) as (λ b. (following : List ℕ) × (rest ≡ (if b then rest else cut_of trims field) ++ following)) [
+      elim (position_or_len ends rest == length rest) as
+      (λ b. (following : List ℕ) × (rest ≡ (if b then rest else cut_of trims field) ++ following)) [
         | true ↦ ([], sym (append-nil rest))
         | false ↦ (
           begins.0 ++ tail,
@@ -69,7 +70,8 @@ module _ (int : IntType) (trims : Bool) (separator : ℕ) (input : List ℕ) whe
 
   -- The first item: its place is the start of `rest`.
   placed_first : (bad : BadField) (index : ℕ) (rest : List ℕ) → drop (place_of rest) input ≡ rest
-      → field_item index (place_of rest) (first_text (cut_of trims) separator rest) (parse_answer int true true (first_text (cut_of trims) separator rest)) ≡ Err bad
+      → field_item index (place_of rest) (first_text (cut_of trims) separator rest)
+      (parse_answer int true true (first_text (cut_of trims) separator rest)) ≡ Err bad
       → IsPlacedIn index rest [] bad
   placed_first bad index rest is same =
       let item = field_item-err index (place_of rest) (first_text (cut_of trims) separator rest) _ bad same in
@@ -89,7 +91,8 @@ module _ (int : IntType) (trims : Bool) (separator : ℕ) (input : List ℕ) whe
       let field = before_first ends rest in
       let others = slice_split ends (after_first ends rest) in
       let len : length field ≡ position_or_len ends rest = length-prefix_len (λ byte. not (ends byte)) rest in
-      let left_over : length (after_first ends rest) ≡ length rest - (position_or_len ends rest + 1) = length-drop (position_or_len ends rest + 1) rest in
+      let left_over : length (after_first ends rest) ≡ length rest - (position_or_len ends rest + 1) =
+      length-drop (position_or_len ends rest + 1) rest in
       let parts : slice_split ends rest ≡ field ∷ others = slice_split_first ends rest 0 found in
       let sum : place_after (field ∷ take (length before) others) ≡ length field + 1 + place_after (take (length before) others) =
       place_after-cons field (take (length before) others) in
@@ -100,7 +103,8 @@ module _ (int : IntType) (trims : Bool) (separator : ℕ) (input : List ℕ) whe
         text_is = later.text_is;
       }
 
-  some_left : (before after : List (Result ℤ BadField)) (bad : BadField) (index : ℕ) (rest : List ℕ) → left index rest ≡ before ++ Err bad ∷ after → 0 < length rest
+  some_left : (before after : List (Result ℤ BadField)) (bad : BadField) (index : ℕ) (rest : List ℕ)
+      → left index rest ≡ before ++ Err bad ∷ after → 0 < length rest
   some_left before after bad index rest same =
       elim (leb_tells (length rest) 0) [
         | inl none ↦
@@ -114,7 +118,8 @@ module _ (int : IntType) (trims : Bool) (separator : ℕ) (input : List ℕ) whe
   first_step : (index : ℕ) (rest : List ℕ) → 0 < length rest → length rest ≤ length input
       → left index rest ≡ first_item int (left_before trims separator index (length input) rest) ∷ left (index + 1) (after_first ends rest)
   first_step index rest some within =
-      (first_field_step int {trims = trims} {separator = separator} {index = index} {end = length input} {rest = rest} refl some within refl refl).0
+      (first_field_step int {trims = trims} {separator = separator} {index = index}
+      {end = length input} {rest = rest} refl some within refl refl).0
 
   -- What follows the first separator is the end of the input, too.
   following_is : (rest : List ℕ) → length rest ≤ length input → position_or_len ends rest < length rest → drop (place_of rest) input ≡ rest
@@ -124,7 +129,8 @@ module _ (int : IntType) (trims : Bool) (separator : ℕ) (input : List ℕ) whe
       let place : place_of (after_first ends rest) ≡ place_of rest + count = omega (arith, length-drop count rest) in
       ap (λ n. drop n input) place ∙ (sym (drop-drop count (place_of rest) input) ∙ ap (drop count) is)
 
-  placed : (before after : List (Result ℤ BadField)) (bad : BadField) (index : ℕ) (rest : List ℕ) → length rest ≤ length input → drop (place_of rest) input ≡ rest
+  placed : (before after : List (Result ℤ BadField)) (bad : BadField) (index : ℕ) (rest : List ℕ)
+      → length rest ≤ length input → drop (place_of rest) input ≡ rest
       → left index rest ≡ before ++ Err bad ∷ after → IsPlacedIn index rest before bad
   placed [] after bad index rest within is same =
       let first = first_step index rest (some_left [] after bad index rest same) within in
@@ -140,7 +146,8 @@ module _ (int : IntType) (trims : Bool) (separator : ℕ) (input : List ℕ) whe
       (placed before after bad (index + 1) following (omega (arith, left_over)) (following_is rest within found is) later)
 
   is_placed : (before after : List (Result ℤ BadField)) (bad : BadField)
-      → field_items_left int (record { trims = trims; separator = separator; index = 0; place = 0; rest = input }) ≡ before ++ Err bad ∷ after
+      → field_items_left int (record { trims = trims; separator = separator; index = 0; place = 0; rest = input })
+      ≡ before ++ Err bad ∷ after
       → IsPlaced separator input before bad
   is_placed before after bad same =
       let start : place_of input ≡ 0 = omega arith in

@@ -14,7 +14,8 @@ onto_first-last : (piece : List ℕ) (x : ℕ) (pieces : List (List ℕ))
 onto_first-last piece x [] = refl
 onto_first-last piece x (next ∷ pieces) = refl
 
-split-last : (piece : List ℕ) (p : ℕ → Bool) (xs : List ℕ) → without_empty_last (piece ∷ slice_split p xs) ≡ piece ∷ without_empty_last (slice_split p xs)
+split-last : (piece : List ℕ) (p : ℕ → Bool) (xs : List ℕ)
+    → without_empty_last (piece ∷ slice_split p xs) ≡ piece ∷ without_empty_last (slice_split p xs)
 split-last piece p [] = refl
 split-last piece p (x ∷ xs) =
     elim (p x) as (λ b. without_empty_last (piece ∷ (if b then [] ∷ slice_split p xs else onto_first x (slice_split p xs)))
@@ -37,7 +38,8 @@ module _ (p : ℕ → Bool) (xs : List ℕ) where
       rw (one, ne_eqb _ _ none, take_all (position_or_len p xs) xs absent, drop_all (position_or_len p xs + 1) xs (omega arith)) refl
 
 pub fields_of_first : (separator : ℕ) (rest : List ℕ) → 0 < length rest
-    → fields_of separator rest ≡ before_first (λ byte. byte == separator) rest ∷ fields_of separator (after_first (λ byte. byte == separator) rest)
+    → fields_of separator rest
+    ≡ before_first (λ byte. byte == separator) rest ∷ fields_of separator (after_first (λ byte. byte == separator) rest)
 fields_of_first separator rest some =
     let p : ℕ → Bool = λ byte. byte == separator in
     elim (leb_tells (length rest) (position_or_len p rest)) [
@@ -46,7 +48,8 @@ fields_of_first separator rest some =
     ]
 
 -- One more byte makes at most one more piece.
-onto_first-length : (x : ℕ) (pieces : List (List ℕ)) → length (without_empty_last (onto_first x pieces)) ≤ length (without_empty_last pieces) + 1
+onto_first-length : (x : ℕ) (pieces : List (List ℕ))
+    → length (without_empty_last (onto_first x pieces)) ≤ length (without_empty_last pieces) + 1
 onto_first-length x [] = omega arith
 onto_first-length x (piece ∷ []) =
     let some : length (x ∷ piece) ≢ 0 = omega arith in
@@ -56,7 +59,8 @@ onto_first-length x (piece ∷ next ∷ pieces) = omega arith
 pieces-fit : (p : ℕ → Bool) (xs : List ℕ) → length (without_empty_last (slice_split p xs)) ≤ length xs
 pieces-fit p [] = omega arith
 pieces-fit p (x ∷ xs) =
-    elim (p x) as (λ b. length (without_empty_last (if b then [] ∷ slice_split p xs else onto_first x (slice_split p xs))) ≤ length (x ∷ xs)) [
+    elim (p x) as
+    (λ b. length (without_empty_last (if b then [] ∷ slice_split p xs else onto_first x (slice_split p xs))) ≤ length (x ∷ xs)) [
       | true ↦ rw (split-last [] p xs) (omega (arith, pieces-fit p xs))
       | false ↦ omega (arith, pieces-fit p xs, onto_first-length x (slice_split p xs))
     ]

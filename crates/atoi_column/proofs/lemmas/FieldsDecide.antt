@@ -15,26 +15,31 @@ module _ (int : IntType) (texts : AcceptedTexts int) (numbers : AcceptedNumbers 
   abbrev answer : List ℕ → Result ℤ Refusal
   answer text = parse_answer int true true text
 
-  decides_as : (index place : ℕ) (text : List ℕ) (r : Result ℤ Refusal) → answer text ≡ r → DecidesText int text (field_item index place text r)
+  decides_as : (index place : ℕ) (text : List ℕ) (r : Result ℤ Refusal)
+      → answer text ≡ r → DecidesText int text (field_item index place text r)
   decides_as index place text (Ok number) h = numbers.written (looked_for true) true text number h
   decides_as index place text (Err reason) h = (refl, λ is. absurd (cc (texts.number text is.number is.written, h)))
 
   decides : (index place : ℕ) (text : List ℕ) → DecidesText int text (field_item index place text (answer text))
   decides index place text = decides_as index place text (answer text) refl
 
-  fields : (index place : ℕ) (parts : List (List ℕ)) → AllZip (DecidesText int) (without_empty_last parts) (items_of_parts (cut_of false) answer index place parts)
+  fields : (index place : ℕ) (parts : List (List ℕ))
+      → AllZip (DecidesText int) (without_empty_last parts) (items_of_parts (cut_of false) answer index place parts)
   fields index place [] = tt
   fields index place (part ∷ []) =
-      elim (length part == 0) as (λ b. AllZip (DecidesText int) (if b then [] else part ∷ []) (if b then [] else field_item index place part (answer part) ∷ [])) [
+      elim (length part == 0) as
+      (λ b. AllZip (DecidesText int) (if b then [] else part ∷ []) (if b then [] else field_item index place part (answer part) ∷ [])) [
         | true ↦ tt
         | false ↦ (decides index place part, tt)
       ]
   fields index place (part ∷ next ∷ parts) = (decides index place part, fields (index + 1) (place + length part + 1) (next ∷ parts))
 
-  of_lines : (index place : ℕ) (parts : List (List ℕ)) → AllZip (DecidesText int) (lines_of_parts parts) (items_of_parts (cut_of true) answer index place parts)
+  of_lines : (index place : ℕ) (parts : List (List ℕ))
+      → AllZip (DecidesText int) (lines_of_parts parts) (items_of_parts (cut_of true) answer index place parts)
   of_lines index place [] = tt
   of_lines index place (part ∷ []) =
-      elim (length part == 0) as (λ b. AllZip (DecidesText int) (if b then [] else part ∷ []) (if b then [] else field_item index place part (answer part) ∷ [])) [
+      elim (length part == 0) as
+      (λ b. AllZip (DecidesText int) (if b then [] else part ∷ []) (if b then [] else field_item index place part (answer part) ∷ [])) [
         | true ↦ tt
         | false ↦ (decides index place part, tt)
       ]
@@ -49,7 +54,8 @@ fields_decide int texts numbers = record {
 }
 
 module _ (whole : List ℕ → Result ℤ Refusal) (prefix : List ℕ → Result (ℤ × ℕ) Refusal) where
-  about_field : (index place : ℕ) (read : Result (ℤ × ℕ) Refusal) → (index_of (flaw_at index place read) ≡ index) × (place ≤ place_of (flaw_at index place read))
+  about_field : (index place : ℕ) (read : Result (ℤ × ℕ) Refusal)
+      → (index_of (flaw_at index place read) ≡ index) × (place ≤ place_of (flaw_at index place read))
   about_field index place (Ok found) = (refl, omega arith)
   about_field index place (Err reason) = (refl, omega arith)
 
@@ -66,7 +72,8 @@ module _ (whole : List ℕ → Result ℤ Refusal) (prefix : List ℕ → Result
       ]
 
   stops : (index place : ℕ) (rest : List ℕ) (parts : List (List ℕ))
-      → StopsAtError (items_from whole prefix index place rest (without_empty_last parts)) (items_of_parts (cut_of false) whole index place parts)
+      → StopsAtError (items_from whole prefix index place rest (without_empty_last parts))
+      (items_of_parts (cut_of false) whole index place parts)
   stops index place rest [] = tt
   stops index place rest (part ∷ []) =
       elim (length part == 0) as (λ b. StopsAtError (items_from whole prefix index place rest (if b then [] else part ∷ []))

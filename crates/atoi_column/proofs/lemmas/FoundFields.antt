@@ -31,7 +31,8 @@ last_digit (c ∷ []) some all = all.0
 last_digit (c ∷ d ∷ digits) some all = rw (last_byte-cons c (d ∷ digits) (omega arith)) (last_digit (d ∷ digits) (omega arith) all.1)
 
 -- A text ends with a digit.
-last_of_text : (sign : SignMark) (digits : List ℕ) → 0 < length digits → AllDigits 10 digits → digit_value (last_byte (sign_bytes sign ++ digits)) < 10
+last_of_text : (sign : SignMark) (digits : List ℕ) → 0 < length digits
+    → AllDigits 10 digits → digit_value (last_byte (sign_bytes sign ++ digits)) < 10
 last_of_text no_sign digits some all = last_digit digits some all
 last_of_text plus digits some all = rw (last_byte-cons 43 digits some) (last_digit digits some all)
 last_of_text minus digits some all = rw (last_byte-cons 45 digits some) (last_digit digits some all)
@@ -39,11 +40,14 @@ last_of_text minus digits some all = rw (last_byte-cons 45 digits some) (last_di
 cut_of_text : {int : IntType} {text : List ℕ} {number : ℤ} (trims : Bool) → TextWrites int true text number → cut_of trims text ≡ text
 cut_of_text false writes = refl
 cut_of_text {int} {text} {number} true writes =
-    let digit : digit_value (last_byte text) < 10 = rw writes.parts (last_of_text writes.sign writes.digits writes.written.numeral.0 writes.written.numeral.1) in
-    let apart : last_byte text ≢ 13 = λ same. let none : digit_value 13 < 10 = subst (λ byte. digit_value byte < 10) same digit in omega arith in
+    let digit : digit_value (last_byte text) < 10 =
+    rw writes.parts (last_of_text writes.sign writes.digits writes.written.numeral.0 writes.written.numeral.1) in
+    let apart : last_byte text ≢ 13 =
+    λ same. let none : digit_value 13 < 10 = subst (λ byte. digit_value byte < 10) same digit in omega arith in
     rw (ne_eqb _ _ apart) refl
 
-separator_then : {separator : ℕ} {following : List ℕ} (bytes : List ℕ) → after_separator separator bytes ≡ Some following → bytes ≡ separator ∷ following
+separator_then : {separator : ℕ} {following : List ℕ} (bytes : List ℕ)
+    → after_separator separator bytes ≡ Some following → bytes ≡ separator ∷ following
 separator_then [] end = absurd (cc end)
 separator_then {separator} {following} (byte ∷ bytes) end =
     elim (eqb_tells byte separator) [
@@ -61,20 +65,23 @@ body_of_plus : (signed : Bool) (bytes : List ℕ) → (sign_of signed false (43 
 body_of_plus true bytes = refl
 body_of_plus false bytes = refl
 
-pub with_plus : (int : IntType) (plus : Bool) {found : ℤ × ℕ} → PrefixBegins int → (rest : List ℕ) → parse_prefix_answer int true plus rest ≡ Ok found
+pub with_plus : (int : IntType) (plus : Bool) {found : ℤ × ℕ} → PrefixBegins int
+    → (rest : List ℕ) → parse_prefix_answer int true plus rest ≡ Ok found
     → parse_prefix_answer int true true rest ≡ Ok found
 with_plus int true begins rest answer = answer
 with_plus int false begins [] answer = answer
 with_plus int false {found} begins (byte ∷ bytes) answer =
     elim (eqb_tells byte 43) [
       | inl same ↦
-          let digit : BeginsWithDigit (sign_of int.signed false (43 ∷ bytes)).body = begins (looked_for false) true (43 ∷ bytes) found (rw same.1 at answer) in
+          let digit : BeginsWithDigit (sign_of int.signed false (43 ∷ bytes)).body =
+          begins (looked_for false) true (43 ∷ bytes) found (rw same.1 at answer) in
           let none : BeginsWithDigit (43 ∷ bytes) = rw body_of_plus at digit in
           absurd (omega (arith, none))
       | inr other ↦ rw other.0 answer
     ]
 
-pub text_with_plus : {int : IntType} {takes_plus : Bool} {text : List ℕ} {number : ℤ} → TextWrites int takes_plus text number → TextWrites int true text number
+pub text_with_plus : {int : IntType} {takes_plus : Bool} {text : List ℕ} {number : ℤ}
+    → TextWrites int takes_plus text number → TextWrites int true text number
 text_with_plus writes = record {
   sign = writes.sign;
   digits = writes.digits;
@@ -90,7 +97,8 @@ pub record HasNumber (int : IntType) (separator : ℕ) (rest : List ℕ) (number
   pub written : TextWrites int true (take count rest) number
   pub texts : AcceptedTexts int
 
-module _ {int : IntType} {separator : ℕ} {rest : List ℕ} {number : ℤ} {count : ℕ} (trims : Bool) (has : HasNumber int separator rest number count) where
+module _ {int : IntType} {separator : ℕ} {rest : List ℕ} {number : ℤ} {count : ℕ}
+    (trims : Bool) (has : HasNumber int separator rest number count) where
   abbrev ends : ℕ → Bool
   ends byte = byte == separator
 
@@ -112,7 +120,8 @@ module _ {int : IntType} {separator : ℕ} {rest : List ℕ} {number : ℤ} {cou
       let within = has.within in
       let at : position_or_len ends rest ≡ count = elim (leb_tells (position_or_len ends rest) count) [
         | inl past ↦ omega arith
-        | inr before ↦ absurd (false≢true (sym (fails_before_first ends rest count 0 before.1) ∙ eq-eqb (get_or rest count 0) separator (first.1 ∙ same)))
+        | inr before ↦ absurd (false≢true (sym (fails_before_first ends rest count 0 before.1)
+            ∙ eq-eqb (get_or rest count 0) separator (first.1 ∙ same)))
       ] in
       let apart : position_or_len ends rest ≢ length rest = omega (arith, first.0) in
       record {
@@ -143,7 +152,8 @@ module _ {int : IntType} {separator : ℕ} {rest : List ℕ} {number : ℤ} {cou
       }
 
   accepted_byte : (cuts : Bool) {byte : ℕ} {bytes following : List ℕ} → trims ≡ cuts → byte ≢ separator → drop count rest ≡ byte ∷ bytes
-      → (if cuts && byte == 13 then after_separator separator bytes else None) ≡ Some following → IsAcceptedField int trims separator rest number following
+      → (if cuts && byte == 13 then after_separator separator bytes else None) ≡ Some following
+      → IsAcceptedField int trims separator rest number following
   accepted_byte false cuts apart cut end = absurd (cc end)
   accepted_byte true {byte} {bytes} {following} cuts apart cut end =
       elim (eqb_tells byte 13) [
@@ -171,7 +181,8 @@ pub text_within : {int : IntType} (separator : ℕ) (rest : List ℕ) (count : �
 text_within {int} separator rest count {number} law whole separates fits answer =
     let ends : ℕ → Bool = λ byte. byte == separator in
     let text : List ℕ = take count rest in
-    let prefix : parse_prefix_answer int true true text ≡ Ok (number, length text) = whole.back (looked_for true) true text number (inl refl) answer in
+    let prefix : parse_prefix_answer int true true text ≡ Ok (number, length text) =
+    whole.back (looked_for true) true text number (inl refl) answer in
     let few : length text ≤ position_or_len ends text = (law separator separates text).within number (length text) prefix in
     let len : length text ≡ count = length-take-le count rest fits in
     elim (leb_tells count (position_or_len ends rest)) [
@@ -185,7 +196,8 @@ text_within {int} separator rest count {number} law whole separates fits answer 
     ]
 
 -- A text at the start that a field's end follows is the field.
-pub accepted_text : {int : IntType} (trims : Bool) (separator : ℕ) (rest : List ℕ) (count : ℕ) {number : ℤ} {following : List ℕ} → FieldsArePrefixes int → PrefixIsWhole int
+pub accepted_text : {int : IntType} (trims : Bool) (separator : ℕ) (rest : List ℕ) (count : ℕ) {number : ℤ} {following : List ℕ}
+    → FieldsArePrefixes int → PrefixIsWhole int
     → AcceptedTexts int → is_separator separator ≡ true → count ≤ length rest → TextWrites int true (take count rest) number
     → Some following ≡ after_field trims separator (drop count rest) → IsAcceptedField int trims separator rest number following
 accepted_text trims separator rest count law whole texts separates fits written end =
@@ -196,7 +208,8 @@ accepted_text trims separator rest count law whole texts separates fits written 
     }) _ refl (sym end)
 
 -- A number of one byte before a separator is the number at the start.
-pub short_prefix : {int : IntType} {separator : ℕ} (rest : List ℕ) {following : List ℕ} {number : ℤ} → FieldsArePrefixes int → PrefixIsWhole int → AcceptedTexts int
+pub short_prefix : {int : IntType} {separator : ℕ} (rest : List ℕ) {following : List ℕ} {number : ℤ}
+    → FieldsArePrefixes int → PrefixIsWhole int → AcceptedTexts int
     → is_separator separator ≡ true → TextWrites int true (take 1 rest) number → drop 1 rest ≡ separator ∷ following
     → parse_prefix_answer int true true rest ≡ Ok (number, 1)
 short_prefix {int} {separator} rest {following} {number} law whole texts separates written cut =

@@ -17,7 +17,8 @@ use Rattle.atoi_column.specs.FirstField.{after_field}
 
 take_after : (byte width : ℕ) (bytes : List ℕ) → take 1 bytes ≡ byte ∷ [] → take (1 + width) bytes ≡ byte ∷ take width (drop 1 bytes)
 take_after byte width [] first = absurd (cc first)
-take_after byte width (b ∷ bs) first = let same : b ≡ byte = cc first in let more : 1 + width ≡ suc width = omega arith in rw (more, same) refl
+take_after byte width (b ∷ bs) first =
+    let same : b ≡ byte = cc first in let more : 1 + width ≡ suc width = omega arith in rw (more, same) refl
 
 -- The first bytes of a slice, whose run is as long, are a numeral.
 numeral_is : (w : ℕ) (s : List ℕ) {number : ℕ} → 0 < w → w ≤ run_len decimal_table s → number ≡ value decimal_table (take w s)

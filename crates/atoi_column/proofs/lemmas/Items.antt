@@ -46,7 +46,8 @@ module _ (whole : List ℕ → Result ℤ Refusal) (prefix : List ℕ → Result
         | Err reason ↦ refused reason
       ] refl
 
-  length-items_from : (index place : ℕ) (rest : List ℕ) (texts : List (List ℕ)) → length (items_from whole prefix index place rest texts) ≤ length texts
+  length-items_from : (index place : ℕ) (rest : List ℕ) (texts : List (List ℕ))
+      → length (items_from whole prefix index place rest texts) ≤ length texts
   length-items_from index place rest [] = omega arith
   length-items_from index place rest (text ∷ texts) =
       items_from-cases (λ items. length items ≤ length (text ∷ texts)) index place rest text texts
@@ -116,7 +117,8 @@ module _ {int : IntType} {separator index place : ℕ} {rest : List ℕ} (begins
   unfolding items_left
   value_then v count h at =
       let others = fields_of separator (after_first (ends separator) rest) in
-      let len : length (before_first (ends separator) rest) ≡ field_end separator rest = length-prefix_len (λ byte. not (ends separator byte)) rest in
+      let len : length (before_first (ends separator) rest) ≡ field_end separator rest =
+      length-prefix_len (λ byte. not (ends separator byte)) rest in
       let accepted = (begins.law separator begins.separates rest).to_field v (rw at at h) in
       rw at (ap (items_from (whole int) (prefix int) index place rest) (fields_of_first separator rest begins.some)
       ∙ (items_from-ok (whole int) (prefix int) index place rest (before_first (ends separator) rest) others v accepted
@@ -127,17 +129,20 @@ module _ {int : IntType} {separator index place : ℕ} {rest : List ℕ} (begins
   unfolding items_left
   flaw_alone none =
       ap (items_from (whole int) (prefix int) index place rest) (fields_of_first separator rest begins.some)
-      ∙ items_from-err (whole int) (prefix int) index place rest (before_first (ends separator) rest) (fields_of separator (after_first (ends separator) rest))
+      ∙ items_from-err (whole int) (prefix int) index place rest
+      (before_first (ends separator) rest) (fields_of separator (after_first (ends separator) rest))
       (λ v h. none v ((begins.law separator begins.separates rest).to_prefix v h))
 
-  pub items_left-ended : (v : ℤ) (count : ℕ) (following : List ℕ) → prefix int rest ≡ Ok (v, count) → drop count rest ≡ separator ∷ following
+  pub items_left-ended : (v : ℤ) (count : ℕ) (following : List ℕ)
+      → prefix int rest ≡ Ok (v, count) → drop count rest ≡ separator ∷ following
       → items_left int separator index place rest ≡ Ok v ∷ items_left int separator (index + 1) (place + count + 1) following
   items_left-ended v count following h cut =
       let first = drop_first count rest separator following cut in
       let within = (begins.law separator begins.separates rest).within v count h in
       let at : count ≡ field_end separator rest = elim (leb_tells (field_end separator rest) count) [
         | inl past ↦ omega arith
-        | inr before ↦ absurd (false≢true (sym (fails_before_first (ends separator) rest count 0 before.1) ∙ eq-eqb (get_or rest count 0) separator first.1))
+        | inr before ↦ absurd (false≢true (sym (fails_before_first (ends separator) rest count 0 before.1)
+            ∙ eq-eqb (get_or rest count 0) separator first.1))
       ] in
       value_then v count h at ∙ ap (λ t. Ok v ∷ items_left int separator (index + 1) (place + count + 1) t) first.2
 
@@ -151,7 +156,8 @@ module _ {int : IntType} {separator index place : ℕ} {rest : List ℕ} (begins
       ∙ ap (λ items. Ok v ∷ items) (items_left-empty int separator (index + 1) (place + count + 1) (drop (count + 1) rest) none
       ∙ sym (items_left-nil int separator index place))
 
-  pub items_left-trailing : (v : ℤ) (count byte : ℕ) (following : List ℕ) → prefix int rest ≡ Ok (v, count) → drop count rest ≡ byte ∷ following
+  pub items_left-trailing : (v : ℤ) (count byte : ℕ) (following : List ℕ)
+      → prefix int rest ≡ Ok (v, count) → drop count rest ≡ byte ∷ following
       → byte ≢ separator
       → items_left int separator index place rest ≡ Err (trailing index (place + count)) ∷ items_left int separator index place []
   items_left-trailing v count byte following h cut other =
@@ -168,7 +174,8 @@ module _ {int : IntType} {separator index place : ℕ} {rest : List ℕ} (begins
       flaw_alone (λ v ok. absurd (cc (h, ok))) ∙ ap (λ r. Err (flaw_at index place r) ∷ items_left int separator index place []) h
 
 -- Giving the first item leaves one less.
-pub one_item_less : {S A B : Type 0} (items : S → List B) (can : S → Type 0) → ((left : S) → can left) → {before after : S} {item : B} (given : A)
+pub one_item_less : {S A B : Type 0} (items : S → List B) (can : S → Type 0)
+    → ((left : S) → can left) → {before after : S} {item : B} (given : A)
     → items before ≡ item ∷ items after → MakesProgress can (item_count items) before (Some given) after
 one_item_less items can always {before} {after} given first = record {
   on = λ _. (always after, tt, subst (λ left. length (items after) < length left) (sym first) (omega arith));

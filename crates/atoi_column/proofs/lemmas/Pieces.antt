@@ -12,11 +12,13 @@ use Rattle.atoi_column.proofs.lemmas.FieldItems.{part_then, field_items_left-emp
 use Rattle.atoi_column.proofs.lemmas.Places.{place_after-cons, split-place}
 
 -- A separator between two texts ends the last part of the first.
-onto_first-append : (x : ℕ) (parts others : List (List ℕ)) → 0 < length parts → onto_first x (parts ++ others) ≡ onto_first x parts ++ others
+onto_first-append : (x : ℕ) (parts others : List (List ℕ)) → 0 < length parts
+    → onto_first x (parts ++ others) ≡ onto_first x parts ++ others
 onto_first-append x [] others some = absurd (omega arith)
 onto_first-append x (part ∷ parts) others some = refl
 
-split_between : (p : ℕ → Bool) (xs : List ℕ) (y : ℕ) (ys : List ℕ) → p y ≡ true → slice_split p (xs ++ y ∷ ys) ≡ slice_split p xs ++ slice_split p ys
+split_between : (p : ℕ → Bool) (xs : List ℕ) (y : ℕ) (ys : List ℕ) → p y ≡ true
+    → slice_split p (xs ++ y ∷ ys) ≡ slice_split p xs ++ slice_split p ys
 split_between p [] y ys ends = rw ends refl
 split_between p (x ∷ xs) y ys ends =
     let others = split_between p xs y ys ends in
@@ -31,20 +33,24 @@ module _ (cut : List ℕ → List ℕ) (answer : List ℕ → Result ℤ Refusal
   -- The items of ended parts, and then of others.
   items_between : (index place : ℕ) (parts others : List (List ℕ)) → 0 < length others
       → items_of_parts cut answer index place (parts ++ others)
-      ≡ items_of_parts cut answer index place (parts ++ [] ∷ []) ++ items_of_parts cut answer (index + length parts) (place + place_after parts) others
+      ≡ items_of_parts cut answer index place (parts ++ [] ∷ [])
+      ++ items_of_parts cut answer (index + length parts) (place + place_after parts) others
   items_between index place [] others some = simp add-zero
   items_between index place (part ∷ parts) others some =
       let first : index + length (part ∷ parts) ≡ index + 1 + length parts = omega arith in
-      let start : place + place_after (part ∷ parts) ≡ place + length part + 1 + place_after parts = omega (arith, place_after-cons part parts) in
+      let start : place + place_after (part ∷ parts) ≡ place + length part + 1 + place_after parts =
+      omega (arith, place_after-cons part parts) in
       rw (
         part_then cut answer index place part (parts ++ others) (omega (arith, length-append parts others)),
         part_then cut answer index place part (parts ++ [] ∷ []) (omega (arith, length-append parts ([] ∷ []))),
         first,
         start,
       )
-      (ap (λ items. field_item index place (cut part) (answer (cut part)) ∷ items) (items_between (index + 1) (place + length part + 1) parts others some))
+      (ap (λ items. field_item index place (cut part) (answer (cut part)) ∷ items)
+      (items_between (index + 1) (place + length part + 1) parts others some))
 
-  length-ended : (index place : ℕ) (parts : List (List ℕ)) → length (items_of_parts cut answer index place (parts ++ [] ∷ [])) ≡ length parts
+  length-ended : (index place : ℕ) (parts : List (List ℕ))
+      → length (items_of_parts cut answer index place (parts ++ [] ∷ [])) ≡ length parts
   length-ended index place [] = refl
   length-ended index place (part ∷ parts) =
       rw (part_then cut answer index place part (parts ++ [] ∷ []) (omega (arith, length-append parts ([] ∷ []))))
@@ -66,7 +72,8 @@ module _ (int : IntType) where
       let piece : slice_split ends left.rest ≡ parts ++ [] ∷ [] = rw ended.1 (split_between ends front left.separator [] same) in
       let all : slice_split ends (left.rest ++ more) ≡ parts ++ slice_split ends more =
       rw (ended.1, append_assoc) (split_between ends front left.separator more same) in
-      let size : length left.rest ≡ place_after parts = omega (arith, split-place ends front, ap length ended.1, length-append front (left.separator ∷ [])) in
+      let size : length left.rest ≡ place_after parts =
+      omega (arith, split-place ends front, ap length ended.1, length-append front (left.separator ∷ [])) in
       rw (all, piece, length-ended cut answer left.index left.place parts, size)
       (items_between cut answer left.index left.place parts (slice_split ends more) (omega (arith, length-slice_split ends more)))
 
@@ -80,12 +87,18 @@ module _ (int : IntType) where
       let index : new.index + length (field_items_left int new) ≡ old.index + length (field_items_left int old) =
       omega (arith, ap length items, ap (λ left. left.index) moved) in
       let place : new.place + length new.rest ≡ old.place + length old.rest =
-      omega (arith, ap (λ left. left.place) moved, ap length rest, length-drop (position_or_len (λ byte. byte == old.separator) old.rest + 1) old.rest) in
+      omega (
+        arith,
+        ap (λ left. left.place) moved,
+        ap length rest,
+        length-drop (position_or_len (λ byte. byte == old.separator) old.rest + 1) old.rest,
+      ) in
       rw (index, place, trims, separator) refl
 
   at_end : (left : FieldsLeft) → left.rest ≡ [] → end_of int left ≡ left
   at_end left none =
-      let index : left.index + length (field_items_left int left) ≡ left.index = omega (arith, ap length (field_items_left-empty int left none)) in
+      let index : left.index + length (field_items_left int left) ≡ left.index =
+      omega (arith, ap length (field_items_left-empty int left none)) in
       let place : left.place + length left.rest ≡ left.place = omega (arith, ap length none) in
       rw (index, place, ← none) refl
 

@@ -52,7 +52,8 @@ module _ (int : IntType) (law : FieldsArePrefixes int) (separator : ℕ) (separa
   IsInside item = IfErr item (λ flaw. (place_of flaw < bytes) × (index_of flaw < bytes))
 
   -- A byte of a refused field follows the number at its start.
-  number-inside : (rest : List ℕ) (reason : Refusal) (v : ℤ) (count : ℕ) → whole (before_first ends rest) ≡ Err reason → prefix rest ≡ Ok (v, count) → count < length rest
+  number-inside : (rest : List ℕ) (reason : Refusal) (v : ℤ) (count : ℕ)
+      → whole (before_first ends rest) ≡ Err reason → prefix rest ≡ Ok (v, count) → count < length rest
   number-inside rest reason v count refused found =
       let first = law separator separates rest in
       elim (leb_tells (position_or_len ends rest) count) [
@@ -70,7 +71,8 @@ module _ (int : IntType) (law : FieldsArePrefixes int) (separator : ℕ) (separa
         | Err other ↦ λ is. (omega arith, fewer)
       ] refl
 
-  items_from-inside : (index place : ℕ) (rest : List ℕ) (texts : List (List ℕ)) → texts ≡ fields_of separator rest → index + length texts ≤ bytes
+  items_from-inside : (index place : ℕ) (rest : List ℕ) (texts : List (List ℕ))
+      → texts ≡ fields_of separator rest → index + length texts ≤ bytes
       → (0 < length rest → place + length rest ≤ bytes) → All IsInside (items_from whole prefix index place rest texts)
   items_from-inside index place rest [] are fewer room = All-nil IsInside
   items_from-inside index place rest (text ∷ texts) are fewer room =
@@ -89,16 +91,19 @@ module _ (int : IntType) (law : FieldsArePrefixes int) (separator : ℕ) (separa
       (flaw_at-inside index place rest reason (rw text_is at refused) some here (omega arith)) (All-nil IsInside))
 
 pub items_left-inside : (int : IntType) → FieldsArePrefixes int → (separator : ℕ) → is_separator separator ≡ true → (input : List ℕ)
-    → All (λ item. IfErr item (λ flaw. (place_of flaw < length input) × (index_of flaw < length input))) (items_left int separator 0 0 input)
+    → All (λ item. IfErr item (λ flaw. (place_of flaw < length input) × (index_of flaw < length input)))
+    (items_left int separator 0 0 input)
 unfolding items_left
 items_left-inside int law separator separates input =
-    items_from-inside int law separator separates (length input) 0 0 input (fields_of separator input) refl (omega (arith, length-fields_of separator input)) (λ some. omega arith)
+    items_from-inside int law separator separates (length input) 0 0 input
+    (fields_of separator input) refl (omega (arith, length-fields_of separator input)) (λ some. omega arith)
 
 module _ (cut : List ℕ → List ℕ) (answer : List ℕ → Result ℤ Refusal) (bytes : ℕ) where
   abbrev IsBadInside : Result ℤ BadField → Type 0
   IsBadInside item = IfErr item (λ bad. (bad.place < bytes) × (bad.index < bytes))
 
-  field_item-inside : (index place : ℕ) (text : List ℕ) (r : Result ℤ Refusal) → place < bytes → index < bytes → IsBadInside (field_item index place text r)
+  field_item-inside : (index place : ℕ) (text : List ℕ) (r : Result ℤ Refusal)
+      → place < bytes → index < bytes → IsBadInside (field_item index place text r)
   field_item-inside index place text (Ok number) within fewer = tt
   field_item-inside index place text (Err reason) within fewer = (within, fewer)
 
@@ -110,7 +115,8 @@ module _ (cut : List ℕ → List ℕ) (answer : List ℕ → Result ℤ Refusal
         | inl none ↦ rw none.0 (All-nil IsBadInside)
         | inr some ↦
             let within : place + length part ≤ bytes = omega (arith, place_after-cons part []) in
-            rw some.0 (All-cons IsBadInside _ [] (field_item-inside index place part (answer part) (omega arith) (omega (arith, some.1))) (All-nil IsBadInside))
+            rw some.0 (All-cons IsBadInside _ []
+            (field_item-inside index place part (answer part) (omega arith) (omega (arith, some.1))) (All-nil IsBadInside))
       ]
   items_of_parts-inside index place (part ∷ next ∷ parts) fewer room =
       let within : place + length part + 1 + place_after (next ∷ parts) ≤ bytes + 1 = omega (arith, place_after-cons part (next ∷ parts)) in
@@ -123,4 +129,5 @@ pub field_items_left-inside : (int : IntType) (left : FieldsLeft) → left.index
 unfolding field_items_left
 field_items_left-inside int left first start =
     items_of_parts-inside (cut_of left.trims) (parse_answer int true true) (length left.rest) left.index left.place
-    (slice_split (λ byte. byte == left.separator) left.rest) (omega arith) (omega (arith, split-place (λ byte. byte == left.separator) left.rest))
+    (slice_split (λ byte. byte == left.separator) left.rest) (omega arith)
+    (omega (arith, split-place (λ byte. byte == left.separator) left.rest))

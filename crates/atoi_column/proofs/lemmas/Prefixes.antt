@@ -41,7 +41,8 @@ module _ (b : ℕ) (ys : List ℕ) (fails : is_digit decimal_table b ≡ false) 
   same_run : (xs : List ℕ) → run decimal_table xs ≡ run decimal_table (xs ++ b ∷ ys)
   same_run xs = prefix-stops (is_digit decimal_table) b ys fails xs
 
-  same_prefix : (is_plus is_minus : Bool) (x : ℕ) (xs : List ℕ) → HaveSamePrefix (sign_by is_plus is_minus x xs) (sign_by is_plus is_minus x (xs ++ b ∷ ys))
+  same_prefix : (is_plus is_minus : Bool) (x : ℕ) (xs : List ℕ)
+      → HaveSamePrefix (sign_by is_plus is_minus x xs) (sign_by is_plus is_minus x (xs ++ b ∷ ys))
   same_prefix true is_minus x xs = record { minus = refl; taken = refl; run = same_run xs }
   same_prefix false true x xs = record { minus = refl; taken = refl; run = same_run xs }
   same_prefix false false x xs = record { minus = refl; taken = refl; run = same_run (x ∷ xs) }

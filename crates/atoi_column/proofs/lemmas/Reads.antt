@@ -26,7 +26,12 @@ module _ {T : Type 0} (int : IntType) (number : T → ℤ) (old : FieldsLeft) (i
     within = omega (arith, length-set values count value);
     numbers =
         let item : T → Result ℤ _ = λ value. Ok (number value) in
-        rw (take_more_set values count value room, map-append item (take count values) (value ∷ []), append_assoc (map item (take count values)) (Ok (number value) ∷ []) (field_items_left int next), ← first)
+        rw (
+          take_more_set values count value room,
+          map-append item (take count values) (value ∷ []),
+          append_assoc (map item (take count values)) (Ok (number value) ∷ []) (field_items_left int next),
+          ← first,
+        )
         has.numbers;
     others = drop-set-lt (count + 1) values count value (omega arith) ∙ drop_more_same values initial count has.others;
     moves = let more : count + 1 ≡ suc count = omega arith in rw more (step ∙ ap after_first_field has.moves);

@@ -18,7 +18,8 @@ data IsRead (int : IntType) (whole : List ℕ → Result ℤ Refusal) (text : Li
   accepted : (v : ℤ) → whole text ≡ Ok v → TextWrites int true text v → IsRead int whole text
   refused : ((v : ℤ) → whole text ≡ Ok v → ⊥) → ¬ IsText int text → IsRead int whole text
 
-module _ (int : IntType) (whole : List ℕ → Result ℤ Refusal) (prefix : List ℕ → Result (ℤ × ℕ) Refusal) (read : (text : List ℕ) → IsRead int whole text) where
+module _ (int : IntType) (whole : List ℕ → Result ℤ Refusal)
+    (prefix : List ℕ → Result (ℤ × ℕ) Refusal) (read : (text : List ℕ) → IsRead int whole text) where
   -- `HasItems` for the fields from `index` and `place` on.
   record HasItemsFrom (index place : ℕ) (rest : List ℕ) (fields : List (List ℕ)) : Type 0 where
     texts : List (List ℕ)
@@ -34,7 +35,8 @@ module _ (int : IntType) (whole : List ℕ → Result ℤ Refusal) (prefix : Lis
   ends_after : (index place : ℕ) (rest text : List ℕ) (texts others : List (List ℕ)) (last : List (Result ℤ Flaw))
       → EndsItems int prefix (index + 1 + length texts) (place + length text + 1 + place_after texts)
       (drop (place_after texts) (drop (length text + 1) rest)) others last
-      → EndsItems int prefix (index + length (text ∷ texts)) (place + place_after (text ∷ texts)) (drop (place_after (text ∷ texts)) rest) others last
+      → EndsItems int prefix (index + length (text ∷ texts)) (place + place_after (text ∷ texts))
+      (drop (place_after (text ∷ texts)) rest) others last
   ends_after index place rest text texts others last h =
       let further : place_after (text ∷ texts) ≡ length text + 1 + place_after texts = sum_by-cons (λ t. length t + 1) text texts in
       let count : index + length (text ∷ texts) ≡ index + 1 + length texts = omega arith in
@@ -42,7 +44,8 @@ module _ (int : IntType) (whole : List ℕ → Result ℤ Refusal) (prefix : Lis
       rw (further, count, place_is, ← drop-drop (place_after texts) (length text + 1) rest) h
 
   has_items_from : (index place : ℕ) (rest : List ℕ) (fields : List (List ℕ)) → HasItemsFrom index place rest fields
-  has_items_from index place rest [] = record { texts = []; others = []; numbers = []; last = []; parts = refl; written = tt; items = refl; end = refl }
+  has_items_from index place rest [] =
+      record { texts = []; others = []; numbers = []; last = []; parts = refl; written = tt; items = refl; end = refl }
   has_items_from index place rest (text ∷ fields) =
       let following = has_items_from (index + 1) (place + length text + 1) (drop (length text + 1) rest) fields in
       elim (read text) [
@@ -85,7 +88,8 @@ pub texts_and_items : (int : IntType) → AcceptedTexts int → AcceptedNumbers 
 unfolding items_left
 texts_and_items int texts numbers separator input =
     let read = read_by_law int texts numbers in
-    let from = has_items_from int (parse_answer int true true) (parse_prefix_answer int true true) read 0 0 input (fields_of separator input) in
+    let from = has_items_from int (parse_answer int true true)
+    (parse_prefix_answer int true true) read 0 0 input (fields_of separator input) in
     record {
       texts = from.texts;
       others = from.others;

@@ -34,7 +34,8 @@ after_error : (int : IntType) (separator : ℕ) (input : List ℕ) (numbers : Li
     → items_of int separator input ≡ map Ok numbers ++ Err flaw ∷ after → after ≡ []
 unfolding items_left
 after_error int separator input numbers flaw after same =
-    following_error (parse_answer int true true) (parse_prefix_answer int true true) flaw after 0 0 input (fields_of separator input) numbers same
+    following_error (parse_answer int true true) (parse_prefix_answer int true true)
+    flaw after 0 0 input (fields_of separator input) numbers same
 
 more_values : (items left after : List (Result ℤ Flaw)) (numbers values : List ℤ) → HaveRead items numbers left
     → left ≡ map Ok values ++ after → HaveRead items (numbers ++ values) after
@@ -42,8 +43,16 @@ more_values items left after numbers values read next =
     let ok : ℤ → Result ℤ Flaw = λ value. Ok value in
     record {
       parts = read.parts ∙ (ap (λ rest. map Ok numbers ++ rest) next
-          ∙ (sym (append_assoc (map Ok numbers) (map Ok values) after) ∙ ap (λ values. values ++ after) (sym (map-append Ok numbers values))));
-      count = omega (arith, read.count, ap length next, length-map values ok, length-append (map ok values) after, length-append numbers values);
+          ∙ (sym (append_assoc (map Ok numbers) (map Ok values) after)
+          ∙ ap (λ values. values ++ after) (sym (map-append Ok numbers values))));
+      count = omega (
+        arith,
+        read.count,
+        ap length next,
+        length-map values ok,
+        length-append (map ok values) after,
+        length-append numbers values,
+      );
     }
 
 pub items_in_turn : ItemsInTurn
@@ -54,6 +63,7 @@ items_in_turn = record {
   all = λ items left numbers read none. read.parts ∙ (ap (λ rest. map Ok numbers ++ rest) none ∙ append-nil (map Ok numbers));
   after_error = after_error;
   at_error = λ int separator input numbers left after flaw read next.
-      let same : items_of int separator input ≡ map Ok numbers ++ Err flaw ∷ after = read.parts ∙ ap (λ rest. map Ok numbers ++ rest) next in
+      let same : items_of int separator input ≡ map Ok numbers ++ Err flaw ∷ after =
+      read.parts ∙ ap (λ rest. map Ok numbers ++ rest) next in
       same ∙ ap (λ rest. map Ok numbers ++ Err flaw ∷ rest) (after_error int separator input numbers flaw after same);
 }

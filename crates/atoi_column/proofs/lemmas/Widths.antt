@@ -62,8 +62,10 @@ module _ (w count : ℕ) (some : 0 < w) (few : w + count ≤ 8) where
     with_more : (c d : ℕ) → (zeros_in w + c) % 2 ^ (w * 8) ≡ d % 2 ^ (w * 8) → (digits + d) % 2 ^ (w * 8) ≡ (word + c) % 2 ^ (w * 8)
     with_more c d same =
         let regroup : digits + (zeros_in w + c) ≡ digits + zeros_in w + c = omega arith in
-        let start = sym (add-mul-mod_self_right (digits + zeros_in w) ends (2 ^ (w * 8))) ∙ sym (start_of _) ∙ ap (λ x. x % 2 ^ (w * 8)) back in
-        sym (add-mod-mod digits d (2 ^ (w * 8))) ∙ ap (λ x. (digits + x) % 2 ^ (w * 8)) (sym same) ∙ add-mod-mod digits (zeros_in w + c) (2 ^ (w * 8))
+        let start = sym (add-mul-mod_self_right (digits + zeros_in w) ends (2 ^ (w * 8)))
+        ∙ sym (start_of _) ∙ ap (λ x. x % 2 ^ (w * 8)) back in
+        sym (add-mod-mod digits d (2 ^ (w * 8))) ∙ ap (λ x. (digits + x) % 2 ^ (w * 8)) (sym same)
+        ∙ add-mod-mod digits (zeros_in w + c) (2 ^ (w * 8))
         ∙ ap (λ x. x % 2 ^ (w * 8)) regroup ∙ sym (mod-add-mod (digits + zeros_in w) (2 ^ (w * 8)) c)
         ∙ ap (λ x. (x + c) % 2 ^ (w * 8)) start ∙ mod-add-mod word (2 ^ (w * 8)) c
 
@@ -74,7 +76,8 @@ module _ (w count : ℕ) (some : 0 < w) (few : w + count ≤ 8) where
         ∙ with_more (without_48 8) 0 (compared (λ n. (zeros_in n + without_48 8) % 2 ^ (n * 8)) (λ n. 0 % 2 ^ (n * 8)) refl w (omega arith))
 
     module _ (above others : ℕ) (above_is : above ≡ (digits + 0x7676_7676_7676_7676 / 2 ^ (64 - 8 * w)) % 2 ^ 64)
-        (others_are : others ≡ lifted w (1 * 2 ^ (8 * count) % 2 ^ 64 - 1)) (none : bit_and (bit_or above digits) (bit_or (marks_in_first w) others) ≡ 0) where
+        (others_are : others ≡ lifted w (1 * 2 ^ (8 * count) % 2 ^ 64 - 1))
+        (none : bit_and (bit_or above digits) (bit_or (marks_in_first w) others) ≡ 0) where
       ones : others ≡ (2 ^ (count * 8) - 1) * 2 ^ (w * 8)
       ones =
           let eight : 8 * count ≡ count * 8 = omega arith in
@@ -84,10 +87,12 @@ module _ (w count : ℕ) (some : 0 < w) (few : w + count ≤ 8) where
       -- Without a mark, the first bytes are digits.
       pub unmarked : w ≤ run_len decimal_table (low_bytes 8 word)
       unmarked =
-          let raised = compared (λ n. (zeros_in n + repeated 70 8) % 2 ^ (n * 8)) (λ n. 0x7676_7676_7676_7676 / 2 ^ (64 - 8 * n) % 2 ^ (n * 8)) refl w (omega arith) in
+          let raised = compared (λ n. (zeros_in n + repeated 70 8) % 2 ^ (n * 8))
+          (λ n. 0x7676_7676_7676_7676 / 2 ^ (64 - 8 * n) % 2 ^ (n * 8)) refl w (omega arith) in
           let high = (word + repeated 70 8) % 2 ^ 64 in
           let lower = (word + without_48 8) % 2 ^ 64 in
-          let up = start_of (word + repeated 70 8) ∙ sym (with_more (repeated 70 8) _ raised) ∙ sym (start_of _) ∙ ap (λ x. x % 2 ^ (w * 8)) (sym above_is) in
+          let up = start_of (word + repeated 70 8) ∙ sym (with_more (repeated 70 8) _ raised)
+          ∙ sym (start_of _) ∙ ap (λ x. x % 2 ^ (w * 8)) (sym above_is) in
           let down = start_of (word + without_48 8) ∙ sym low in
           let marks = compared (λ n. repeated 128 8 % 2 ^ (n * 8)) (λ n. bit_or (marks_in_first n % 2 ^ (n * 8)) 0) refl w (omega arith) in
           let none_other = sym (mul-mod_left (2 ^ (count * 8) - 1) (2 ^ (w * 8))) ∙ ap (λ x. x % 2 ^ (w * 8)) (sym ones) in
@@ -95,7 +100,8 @@ module _ (w count : ℕ) (some : 0 < w) (few : w + count ≤ 8) where
           and_mod (bit_or high lower) (repeated 128 8) (w * 8)
           ∙ ap₂ bit_and (or_mod high lower (w * 8) ∙ ap₂ bit_or up down ∙ sym (or_mod above digits (w * 8)))
           (marks ∙ ap (bit_or (marks_in_first w % 2 ^ (w * 8))) none_other ∙ sym (or_mod (marks_in_first w) others (w * 8)))
-          ∙ sym (and_mod (bit_or above digits) (bit_or (marks_in_first w) others) (w * 8)) ∙ ap (λ x. x % 2 ^ (w * 8)) none ∙ zero-mod (2 ^ (w * 8)) in
+          ∙ sym (and_mod (bit_or above digits) (bit_or (marks_in_first w) others) (w * 8))
+          ∙ ap (λ x. x % 2 ^ (w * 8)) none ∙ zero-mod (2 ^ (w * 8)) in
           let all : w * 8 + (64 - w * 8) ≡ 64 = omega arith in
           omega (arith, marks_of_8 word, rw all at (zero_field (w * 8) (64 - w * 8) _ same))
 
@@ -112,16 +118,20 @@ module _ (w count : ℕ) (some : 0 < w) (few : w + count ≤ 8) where
           omega (arith, shr_split digits (w * 8)) in
           let mask : bit_or (marks_in_first w) others / 2 ^ (w * 8) ≡ 2 ^ k - 1 =
           or_shr (marks_in_first w) others (w * 8)
-          ∙ ap₂ bit_or (compared (λ n. marks_in_first n / 2 ^ (n * 8)) (λ n. 0) refl w (omega arith)) (ap (λ x. x / 2 ^ (w * 8)) ones ∙ shl-shr (2 ^ k - 1) (w * 8))
+          ∙ ap₂ bit_or (compared (λ n. marks_in_first n / 2 ^ (n * 8)) (λ n. 0) refl w (omega arith))
+          (ap (λ x. x / 2 ^ (w * 8)) ones ∙ shl-shr (2 ^ k - 1) (w * 8))
           ∙ or_zero_l (2 ^ k - 1) in
           let both : bit_or (above / 2 ^ (w * 8)) high % 2 ^ k ≡ 0 =
           ap (λ x. x % 2 ^ k) (sym (or_shr above digits (w * 8))) ∙ sym (and_mask (bit_or above digits / 2 ^ (w * 8)) k)
-          ∙ ap (bit_and (bit_or above digits / 2 ^ (w * 8))) (sym mask) ∙ sym (and_shr (bit_or above digits) (bit_or (marks_in_first w) others) (w * 8))
+          ∙ ap (bit_and (bit_or above digits / 2 ^ (w * 8))) (sym mask)
+          ∙ sym (and_shr (bit_or above digits) (bit_or (marks_in_first w) others) (w * 8))
           ∙ ap (λ x. x / 2 ^ (w * 8)) none ∙ zero-div (2 ^ (w * 8)) in
-          let zero_is : high % 2 ^ k ≡ 0 = omega (arith, both, or_mod (above / 2 ^ (w * 8)) high k, le_or_r (above / 2 ^ (w * 8) % 2 ^ k) (high % 2 ^ k)) in
+          let zero_is : high % 2 ^ k ≡ 0 =
+          omega (arith, both, or_mod (above / 2 ^ (w * 8)) high k, le_or_r (above / 2 ^ (w * 8) % 2 ^ k) (high % 2 ^ k)) in
           ap (λ x. x / 2 ^ (w * 8) % 2 ^ k) (sym back) ∙ field_in (digits + zeros_in w + ends * 2 ^ (w * 8))
           ∙ ap (λ x. x % 2 ^ k) (ap (λ x. x / 2 ^ (w * 8)) parts ∙ shr_high (high + ends) (w * 8) (digits % 2 ^ (w * 8) + zeros_in w) below)
-          ∙ sym (mod-add-mod high (2 ^ k) ends) ∙ ap (λ x. (x + ends) % 2 ^ k) zero_is ∙ ap (λ x. x % 2 ^ k) (zero-add ends) ∙ mod-eq_of_lt ends_fit
+          ∙ sym (mod-add-mod high (2 ^ k) ends) ∙ ap (λ x. (x + ends) % 2 ^ k) zero_is
+          ∙ ap (λ x. x % 2 ^ k) (zero-add ends) ∙ mod-eq_of_lt ends_fit
 
       pub ended_by : (s : List ℕ) → ((i : ℕ) → get_or s i 0 < 256) → word ≡ word_of (take 8 s) → word_of (take count (drop w s)) ≡ ends
       ended_by s bytes word_is =
@@ -137,7 +147,8 @@ module _ (w count : ℕ) (some : 0 < w) (few : w + count ≤ 8) where
           let all : w * 8 + z ≡ 64 = omega arith in
           let cut : (x : ℕ) → x * 2 ^ z % 2 ^ 64 ≡ x % 2 ^ (w * 8) * 2 ^ z = λ x. rw all at (shift_cut x (w * 8) z) in
           let same = low ∙ sym (start_of (word + without_48 8)) in
-          lowered_value w word top (omega arith) unmarked (top_is ∙ cut digits ∙ ap (λ x. x * 2 ^ z) same ∙ sym (cut ((word + without_48 8) % 2 ^ 64)))
+          lowered_value w word top (omega arith) unmarked
+          (top_is ∙ cut digits ∙ ap (λ x. x * 2 ^ z) same ∙ sym (cut ((word + without_48 8) % 2 ^ 64)))
 
 -- A shift of the factor is one of the digits.
 pub sum_of_lifted : (digits shift : ℕ) → let top = digits * 2 ^ shift % 2 ^ 64 in bit_and top 0x0F0F_0F0F_0F0F_0F0F ≡ top
@@ -146,7 +157,8 @@ pub sum_of_lifted : (digits shift : ℕ) → let top = digits * 2 ^ shift % 2 ^ 
     bit_and (hundreds / 2 ^ 16) 0xFFFF * 10000 + hundreds / 2 ^ 48 ≡ low_value (low_bytes 8 top)
 sum_of_lifted digits shift halves =
     let regroup : digits * (0xA01 * 2 ^ shift) ≡ digits * 2 ^ shift * 0xA01 = omega arith in
-    let factor = mul-mod_second digits (0xA01 * 2 ^ shift) (2 ^ 64) ∙ ap (λ x. x % 2 ^ 64) regroup ∙ sym (mul-mod_first (digits * 2 ^ shift) 0xA01 (2 ^ 64)) in
+    let factor = mul-mod_second digits (0xA01 * 2 ^ shift) (2 ^ 64)
+    ∙ ap (λ x. x % 2 ^ 64) regroup ∙ sym (mul-mod_first (digits * 2 ^ shift) 0xA01 (2 ^ 64)) in
     rw factor (sum_of_fields (digits * 2 ^ shift % 2 ^ 64) (omega arith) halves)
 
 -- ---- The bytes of a slice

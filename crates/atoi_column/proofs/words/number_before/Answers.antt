@@ -21,6 +21,7 @@ returns c =
     record {
       run = found.0;
       value = found.1;
-      ends = ended_by c.args.width c.args.count r.some r.few c.args.ends word _ (omega arith) r.fits refl _ _ refl refl none c.args.s.now bytes loaded;
+      ends = ended_by c.args.width c.args.count r.some r.few c.args.ends word _
+          (omega arith) r.fits refl _ _ refl refl none c.args.s.now bytes loaded;
       most = c.sum_of_shifted.ensures.most;
     }

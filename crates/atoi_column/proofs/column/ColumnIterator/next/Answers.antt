@@ -19,7 +19,8 @@ field_begins g c = record {
 
 -- What is left before the call, if the column has not ended.
 left_is : (g : _) (c : After-short_field g)
-    → c.args.self.now ≡ items_left g.T.Number.int_type c.self.inside.separator c.self.inside.index c.self.inside.place c.self.inside.rest.now
+    → c.args.self.now
+    ≡ items_left g.T.Number.int_type c.self.inside.separator c.self.inside.index c.self.inside.place c.self.inside.rest.now
 left_is g c =
     let inside = c.self.inside in
     let left = items_left g.T.Number.int_type inside.separator inside.index inside.place inside.rest.now in
@@ -53,7 +54,8 @@ pub returns-in-Some-clause-steps : goal.returns-in-Some-clause-steps
 returns-in-Some-clause-steps g c =
     let at = (goal.at.returns-in-Some-clause-steps g c).After-short_field in
     let short = c.in-Some.ensures c.self.invariant.separates in
-    let step = left_is g at ∙ items_left-ended (field_begins g at) (g.T.Number.number c.in-Some.value) 1 c.in-Some.following.now short.prefix short.ends in
+    let step = left_is g at
+    ∙ items_left-ended (field_begins g at) (g.T.Number.number c.in-Some.value) 1 c.in-Some.following.now short.prefix short.ends in
     search rules
 
 pub returns-in-Some-split_first-clause-steps : goal.returns-in-Some-split_first-clause-steps
@@ -63,7 +65,8 @@ returns-in-Some-split_first-clause-steps g c =
     let begins = field_begins g at in
     let found = c.in-Ok.found in
     let cut = rw (take_rest rest found.1) at c.in-Some-split_first.ensures.cases.0 in
-    left_is g at ∙ items_left-ended begins (g.T.Number.number found.0) found.1 c.in-Some-split_first.following.now (sym c.in-Ok.ensures.answer)
+    left_is g at
+    ∙ items_left-ended begins (g.T.Number.number found.0) found.1 c.in-Some-split_first.following.now (sym c.in-Ok.ensures.answer)
     (cut ∙ ap (λ byte. byte ∷ c.in-Some-split_first.following.now) c.if-byte-self.true)
 
 pub returns-in-Some-2-clause-steps : goal.returns-in-Some-2-clause-steps
@@ -74,7 +77,8 @@ returns-in-Some-2-clause-steps g c =
     let begins = field_begins g at in
     let found = c.in-Ok.found in
     let cut = rw (take_rest rest found.1) at c.in-Some-split_first.ensures.cases.0 in
-    left_is g at ∙ items_left-trailing begins (g.T.Number.number found.0) found.1 c.in-Some-split_first.byte.now c.in-Some-split_first.following.now
+    left_is g at
+    ∙ items_left-trailing begins (g.T.Number.number found.0) found.1 c.in-Some-split_first.byte.now c.in-Some-split_first.following.now
     (sym c.in-Ok.ensures.answer) cut c.if-byte-self.false
 
 pub returns-in-Err-clause-steps : goal.returns-in-Err-clause-steps
