@@ -1,5 +1,5 @@
 /* Made by .ci/erase from crates/atoi_fast/src/vectors/wide.rt. Do not edit. */ //! The parsers of 64 and 128 bits of `Vectors`. To skip zeros, they read 32 bytes at once, from the start again.
-// ghost use Rattle.std.specs.Prelude.{◌≡◌, ◌+◌, ◌/◌, ◌<◌, ◌≤◌, MatchOption, length, take, drop, true, false};
+// ghost use Rattle.std.specs.Prelude.{◌≡◌, ◌+◌, ◌*◌, ◌/◌, ◌<◌, ◌≤◌, MatchOption, length, take, drop, min, true, false};
 // ghost use Rattle.atoi_core.specs.Digit.{decimal_table};
 // ghost use Rattle.atoi_core.specs.Loads.{LoadsWithin, most_loads};
 // ghost use Rattle.atoi_core.specs.Magnitude.{HasDigits, wide64, wide128, prefix_magnitude};
@@ -190,8 +190,9 @@ fn prefix_128_after_zeros<'a>(
 // Returns the first window that is not full of digits or does not begin with a zero, and its offset.
 #[inline] fn window_after_zeros(s: &[u8], steps: &mut Steps) -> (usize, Window32)
     // ensures reached { ReadsAfterZeros s.now result.0 result.1 }
-    // ensures most { steps.new ≤ steps.old + zeros decimal_table s.now / 32 + 2 }
-    // ensures least { steps.old + zeros decimal_table s.now / 32 ≤ steps.new }
+    // ensures offset { result.0
+    //     ≡ min (zeros decimal_table s.now) (run_len decimal_table s.now / 32 * 32) }
+    // ensures loads { steps.new ≡ steps.old + (result.0 + 31) / 32 + 1 }
 {
     let mut at = 0;
     loop {
