@@ -7,7 +7,7 @@ ghost use Rattle.atoi_core.specs.Run.{run_len, value};
 ghost use Rattle.atoi_core.specs.Words.{word_of};
 
 use crate::digits::{
-    digits_of, digits_of_four, starts_with_digit_of_four, value_at_end, value_in_four,
+    digits_of, digits_of_four, starts_with_digit_of_four, value_after, value_up_to_4,
 };
 use crate::loads::{load_four_from, load_from, load_last_four};
 use atoi_core::powers::{append_digits, power_of_ten};
@@ -87,7 +87,7 @@ fn last_four(s: &[u8]) -> Option<u32>
         return None;
     }
     // Some of these four may be among the first 16.
-    Some(value_at_end(word, 20 - s.len()))
+    Some(value_after(word, 20 - s.len()))
 }
 
 fn answer_to_end(bound: u64, number: u128, s: &[u8]) -> Result<(u64, usize), AtoiSimdError<'_>>
@@ -142,11 +142,11 @@ fn answer_from_17<'a>(
 {
     let more = digits_of_four(word);
     if more == 4 {
-        let number = append_digits(high, 4, u64::from(value_in_four(word, 4)));
+        let number = append_digits(high, 4, u64::from(value_up_to_4(word, 4)));
         return answer_from_20(bound, limit, number, s);
     }
     // At most 19 digits fit in 64 bits.
-    let number = high * power_of_ten(more) + u64::from(value_in_four(word, more));
+    let number = high * power_of_ten(more) + u64::from(value_up_to_4(word, more));
     answer_64(bound, limit, 0, 16 + more, u128::from(number), s)
 }
 

@@ -13,7 +13,7 @@ const FOUR_ZEROS: u32 = 0x3030_3030;
 
 /// Returns the word of `8 - len` zeros, which fills a short slice to eight bytes.
 #[tactic(auto, using(crate::proofs::lemmas::WordWindows::zeros_shifted, crate::proofs::lemmas::WordWindows::zeros_left_out))]
-pub(crate) fn fill_of_zeros(len: usize) -> u64
+pub(crate) fn zero_padding(len: usize) -> u64
     requires some { 0 < len }
     requires few { len ≤ 8 }
     ensures { result ≡ word_of (replicate (8 - len) 48) }
@@ -85,7 +85,7 @@ pub(crate) fn value_of(word: u64, len: u32) -> u64
 
 // `value_of` for at most seven digits, or none: it shifts twice, as no shift is by 64 bits.
 #[tactic(auto, using(atoi_core::proofs::lemmas::LoweredWords::lowered_value, crate::proofs::lemmas::WordRuns::lowered_sum, atoi_core::proofs::lemmas::LoweredWords::shifted_twice))]
-pub(crate) fn value_of_fewer(word: u64, len: u32) -> u64
+pub(crate) fn value_below_8(word: u64, len: u32) -> u64
     requires few { len < 8 }
     requires digits { len ≤ run_len decimal_table (low_bytes 8 word) }
     ensures sum { result ≡ low_value (low_bytes len word) }
@@ -141,7 +141,7 @@ pub(crate) fn starts_with_digit_of_four(word: u32) -> bool
 
 /// `value_of` for a word of four bytes.
 #[tactic(auto, using(crate::proofs::lemmas::WordRuns::lowered_in_four))]
-pub(crate) fn value_in_four(word: u32, len: u32) -> u32
+pub(crate) fn value_up_to_4(word: u32, len: u32) -> u32
     requires some { 1 ≤ len }
     requires few { len ≤ 4 }
     requires digits { len ≤ run_len decimal_table (low_bytes 4 word) }
@@ -152,7 +152,7 @@ pub(crate) fn value_in_four(word: u32, len: u32) -> u32
 
 /// Returns the number that a word of four digits spells after its first `skipped` bytes.
 #[tactic(auto, using(crate::proofs::lemmas::WordRuns::lowered_end))]
-pub(crate) fn value_at_end(word: u32, skipped: usize) -> u32
+pub(crate) fn value_after(word: u32, skipped: usize) -> u32
     requires digits { run_len decimal_table (low_bytes 4 word) ≡ 4 }
     requires few { skipped < 4 }
     ensures { result ≡ low_value (drop skipped (low_bytes 4 word)) }

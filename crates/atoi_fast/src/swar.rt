@@ -12,10 +12,10 @@ ghost use Rattle.std.proofs.lemmas.Bool.Decides.{nat_tests};
 
 use crate::after_16::answer_after_16;
 use crate::digits::{
-    ZEROS, digits_of, fill_of_zeros, number_in_word, sum_of, value_of, value_of_fewer, zeroes_of,
+    ZEROS, digits_of, number_in_word, sum_of, value_below_8, value_of, zero_padding, zeroes_of,
     zeroes_of_two,
 };
-use crate::loads::{load_full, load_high, load_last};
+use crate::loads::{load_full, load_last, load_right_aligned};
 use crate::one_byte::window_of_one;
 use atoi_core::powers::{append_digits, power_of_ten};
 use atoi_core::wide_answer::{answer_64, answer_128, found_or_empty};
@@ -219,7 +219,7 @@ fn long_window(s: &[u8]) -> Window
     let more = digits_of(next);
     if more != 8 {
         let high = value_of(first, 8) * power_of_ten(more);
-        return Window::not_full(8 + more, high + value_of_fewer(next, more));
+        return Window::not_full(8 + more, high + value_below_8(next, more));
     }
     Window {
         len: 16,
@@ -240,7 +240,7 @@ fn short_window(s: &[u8]) -> Window
     if s.len() <= 1 {
         return window_of_one(s);
     }
-    let filled = load_high(s) + fill_of_zeros(s.len());
+    let filled = load_right_aligned(s) + zero_padding(s.len());
     let digits = digits_of(filled);
     if digits == 8 {
         Window::not_full(s.len() as u32, sum_of(filled.wrapping_sub(ZEROS)))

@@ -9,8 +9,8 @@ ghost use Rattle.atoi_core.specs.Reading.{window_of};
 ghost use Rattle.atoi_core.specs.Lanes.{padded_start};
 ghost use Rattle.atoi_fast.specs.Vectors.{itself, padded, paired};
 
-use crate::digits::{ZEROS, digits_of, fill_of_zeros};
-use crate::loads::{load_full, load_high, load_last};
+use crate::digits::{ZEROS, digits_of, zero_padding};
+use crate::loads::{load_full, load_last, load_right_aligned};
 use crate::one_byte::window_of_one;
 use atoi_core::Window;
 use atoi_core::words::load_8;
@@ -197,7 +197,7 @@ pub(crate) fn short_window(s: &[u8]) -> Window
     if s.len() <= 1 {
         return window_of_one(s);
     }
-    let filled = load_high(s) + fill_of_zeros(s.len());
+    let filled = load_right_aligned(s) + zero_padding(s.len());
     let digits = digits_of(filled);
     if digits == 8 {
         // The number need not wait for its length.
@@ -229,7 +229,7 @@ pub(crate) fn number_in_half(digits: u8x16) -> u64
     requires { Each1 (λ digit. digit < 16) digits }
     ensures { result ≡ value itself (take 8 digits) }
 {
-    let [fours, _] = fours(digits).to_array();
+    let [fours, _] = sums_of_4(digits).to_array();
     // Adds 10,000 times the lower half to the upper half.
     fours.wrapping_mul(10_000 << 32 | 1) >> 32
 }
@@ -240,22 +240,22 @@ pub(crate) fn number_in_lanes(digits: u8x16) -> u64
     ensures { result ≡ value itself digits }
 {
     // With the mask, LLVM knows that 32 bits are enough for the product.
-    let halves = eights(digits) & u64x2::splat(0xFFFF_FFFF);
+    let halves = sums_of_8(digits) & u64x2::splat(0xFFFF_FFFF);
     (halves * u64x2::from_array([100_000_000, 1])).reduce_sum()
 }
 
 // Joins sixteen digit values to two numbers of eight digits.
-fn eights(digits: u8x16) -> u64x2
+fn sums_of_8(digits: u8x16) -> u64x2
     requires { Each1 (λ digit. digit < 16) digits }
     ensures { result ≡ paired 10000 (paired 100 (paired 10 digits)) }
 {
-    let fields = fours(digits);
+    let fields = sums_of_4(digits);
     (fields & u64x2::splat(0xFFFF_FFFF)) * u64x2::splat(10_000) + (fields >> u64x2::splat(32))
 }
 
 // Joins sixteen digit values to pairs, and these to fours, in 32 bits each.
 #[tactic(auto, using(crate::proofs::lemmas::JoinedDigits::fours_joined))]
-fn fours(digits: u8x16) -> u64x2
+fn sums_of_4(digits: u8x16) -> u64x2
     requires { Each1 (λ digit. digit < 16) digits }
     ensures { result ≡ digits_l (2 ^ 64) 2 (number_l (2 ^ 32) (paired 100 (paired 10 digits))) }
 {

@@ -5,14 +5,14 @@
 /// Returns the word whose highest bytes are the bytes of `s`, without a branch on the length.
 #[inline(always)]
 // #[tactic(auto, using(crate::proofs::lemmas::LoadedWords::high_joined))]
-pub(crate) fn load_high(s: &[u8]) -> u64
+pub(crate) fn load_right_aligned(s: &[u8]) -> u64
     // requires some { 0 < length s.now }
     // requires few { length s.now ≤ 8 }
     // ensures { result ≡ word_of (replicate (8 - length s.now) 0 ++ s.now) }
 {
-    let (first, last) = both_fours(s);
+    let (first, last) = head_and_tail(s);
     let front = u64::from(u32::from(s[0]) | first);
-    let back = u64::from(last | (last_two(s) << 16));
+    let back = u64::from(last | (tail_of_2(s) << 16));
     (front << (64 - 8 * s.len())) | (back << 32)
 }
 
@@ -91,7 +91,7 @@ pub(crate) fn load_four_from(s: &[u8], at: usize) -> u32
 // The words of the first and of the last four bytes, or 0 if there are fewer. Compilers turn two equal
 // tests into a branch.
 // #[tactic(auto, using(atoi_core::proofs::lemmas::LoadedWords::word_from_four))]
-#[inline] fn both_fours(s: &[u8]) -> (u32, u32)
+#[inline] fn head_and_tail(s: &[u8]) -> (u32, u32)
     // ensures first { 4 ≤ length s.now → result.0 ≡ word_of (take 4 s.now) }
     // ensures last { 4 ≤ length s.now → result.1 ≡ word_of (drop (length s.now - 4) s.now) }
     // ensures few { length s.now < 4 → result ≡ (0, 0) }
@@ -105,7 +105,7 @@ pub(crate) fn load_four_from(s: &[u8], at: usize) -> u32
 
 // With the first two bytes instead, LLVM would branch on x86-64-v3.
 // #[tactic(auto, using(crate::proofs::lemmas::LoadedWords::word_from_two))]
-#[inline] fn last_two(s: &[u8]) -> u32
+#[inline] fn tail_of_2(s: &[u8]) -> u32
     // ensures enough { 2 ≤ length s.now → result ≡ word_of (drop (length s.now - 2) s.now) }
     // ensures few { length s.now < 2 → result ≡ 0 }
 {

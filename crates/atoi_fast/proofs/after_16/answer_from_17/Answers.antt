@@ -42,11 +42,11 @@ pub answer_from_20-requires-clause-number : goal.answer_from_20-requires-clause-
 answer_from_20-requires-clause-number c =
     c.append_digits-number.ensures
     ∙ (following (goal.at.answer_from_20-requires-clause-number c).After-digits_of_four-more).1 4
-    c.from.result (omega (arith, c.if-more-eq4.true)) (c.from.ensures ∙ c.value_in_four.ensures)
+    c.from.result (omega (arith, c.if-more-eq4.true)) (c.from.ensures ∙ c.value_up_to_4.ensures)
 
-pub value_in_four-requires-2-clause-some : goal.value_in_four-requires-2-clause-some
-value_in_four-requires-2-clause-some c =
-    omega (arith, (following (goal.at.value_in_four-requires-2-clause-some c).After-digits_of_four-more).0, c.requires.full)
+pub value_up_to_4-requires-2-clause-some : goal.value_up_to_4-requires-2-clause-some
+value_up_to_4-requires-2-clause-some c =
+    omega (arith, (following (goal.at.value_up_to_4-requires-2-clause-some c).After-digits_of_four-more).0, c.requires.full)
 
 -- At most 19 digits.
 fits : (c : After-digits_of_four-more) → let more : ℕ = c.digits_of_four-more.result in
@@ -70,7 +70,7 @@ overflow_mul-number c =
 
 pub overflow_add-number : goal.overflow_add-number
 overflow_add-number c =
-    rw (c.power_of_ten.ensures.power, c.from-2.ensures, c.value_in_four-2.ensures)
+    rw (c.power_of_ten.ensures.power, c.from-2.ensures, c.value_up_to_4-2.ensures)
     (omega (
       arith,
       fits (goal.at.overflow_add-number c).After-digits_of_four-more
@@ -86,7 +86,7 @@ pub returns : goal.returns
 returns c =
     let more : ℕ = c.digits_of_four-more.result in
     let known = following (goal.at.returns c).After-digits_of_four-more in
-    let spelled = known.1 more c.from-2.result (omega arith) (c.from-2.ensures ∙ c.value_in_four-2.ensures) in
+    let spelled = known.1 more c.from-2.result (omega arith) (c.from-2.ensures ∙ c.value_up_to_4-2.ensures) in
     let few : more < 4 = omega (arith, c.digits_of_four-more.ensures.most, c.if-more-eq4.false) in
     c.answer_64.ensures
     ∙ (by_digits c.args.bound c.args.limit c.args.s.now (16 + more) c.from-3.result c.requires.limit_high (omega (arith, known.0, few))

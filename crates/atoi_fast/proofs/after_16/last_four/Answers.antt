@@ -36,7 +36,7 @@ returns c =
     let digits : run_len decimal_table s ≡ 16 + run_len decimal_table rest = prefix_len-drop (is_digit decimal_table) 16 s (omega arith) in
     let all : take (length rest) rest ≡ rest = take_all (length rest) rest (omega arith) in (
       whole,
-      c.value_at_end.ensures
+      c.value_after.ensures
           ∙ ap (λ bytes. low_value (drop (20 - length s) bytes)) found.0
           ∙ ap low_value (drop-drop (20 - length s) (length s - 4) s ∙ ap (λ n. drop n s) offset ∙ sym all)
           ∙ low_value_is (length rest) rest (omega (arith, whole, digits, length-drop 16 s)) ∙ ap (value decimal_table) all,
