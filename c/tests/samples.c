@@ -41,7 +41,8 @@ static long number_at(const char *text, const char **end)
         value = *start == '-' ? LONG_MIN : LONG_MAX;
         count = 1 + strspn(start + 1, "0123456789");
     }
-    *end = start + count;
+    if (end != NULL)
+        *end = start + count;
     return value;
 }
 
@@ -57,7 +58,7 @@ static int is_strtol(const char *text)
     error = errno;
     errno = 0;
     their_value = strtol(text, &their_end, 10);
-    if (value == their_value && end == their_end && error == errno)
+    if (value == their_value && end == their_end && error == errno && value == number_at(text, NULL))
         return 1;
     printf("number_at differs for \"%s\"\n", text);
     return 0;

@@ -111,14 +111,24 @@ fn version(text: &[u8]) -> Option<(u32, u32, u32)> {
     Some((major, minor, patch))
 }
 
-// Returns the total, and how many lines have no number there.
-fn total_of_second_column(table: impl Read) -> io::Result<(u64, usize)> {
-    let (mut reader, mut total, mut bad) = (LineReader::new(table), 0, 0);
-    while let Some(line) = reader.next_line()? {
-        let cell = line.ok().and_then(|line| line.text.split(|byte| *byte == b'\t').nth(1));
-        match cell.map(parse::<u32, true, false>) {
-            Some(Ok(number)) => total += u64::from(number),
-            _ => bad += 1,
+// Returns the total, and the line and byte of each cell that is no number.
+fn total_of_third_column(table: impl Read) -> io::Result<(u64, Vec<(usize, usize)>)> {
+    let (mut reader, mut total, mut bad) = (LineReader::new(table), 0, Vec::new());
+    while let Some(item) = reader.next_line()? {
+        let line = match item {
+            Ok(line) => line,
+            Err(error) => {
+                bad.push((error.line(), error.place()));
+                continue;
+            }
+        };
+        // The line from its third cell on.
+        let rest = line.text.splitn(3, |byte| *byte == b';').nth(2).unwrap_or_default();
+        match parse_prefix::<u32, true, false>(rest) {
+            Ok((number, length)) if matches!(rest.get(length), None | Some(b';')) => {
+                total += u64::from(number);
+            }
+            _ => bad.push((line.line(), line.place + line.text.len() - rest.len())),
         }
     }
     Ok((total, bad))
@@ -149,8 +159,11 @@ fn totals() {
     assert_eq!(total_between(b"1;2", b'-'), None);
     assert_eq!(version(b"1.22.333"), Some((1, 22, 333)));
     assert_eq!(version(b"1.22.x"), None);
-    let table = b"tea\t250\t-3\r\nmilk\t90\r\nr\xf6sti\n\t\xff\n";
-    assert_eq!(total_of_second_column(&table[..]).unwrap(), (340, 2));
+    let mut table = b"tea;-3;250\r\nmilk;;90;x\r\nr\xf6sti\n;;9\xff\n".to_vec();
+    table.resize(table.len() + (1 << 20) + 1, b'y');
+    table.extend(b"\n;;2");
+    let bad = vec![(3, 29), (4, 32), (5, 35)];
+    assert_eq!(total_of_third_column(&table[..]).unwrap(), (342, bad));
 }
 
 #[test]
