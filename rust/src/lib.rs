@@ -109,6 +109,11 @@ pub use proved::atoi_simd::{
 /// [rules]: crate::specification#the-result-for-a-body-magnitudeantt
 /// [messages]: crate::specification#errors-refusalantt-errortextantt-errorkindsantt
 /// [trust]: crate#what-is-proved-and-what-you-trust
+/// [commands]: https://docs.rs/crate/torkettle/latest/source/docs/CONTRIBUTING.md
+/// [readme]: https://docs.rs/crate/torkettle/latest
+/// [differences]: https://docs.rs/crate/torkettle/latest/source/docs/DIFFERENCES.md
+/// [log]: https://docs.rs/crate/torkettle/latest/source/rust/examples/log.rs
+/// [threads]: https://docs.rs/crate/torkettle/latest/source/rust/examples/threads.rs
 ///
 #[cfg_attr(all(doc, not(doctest)), doc = include_str!("../../docs/GUIDE.md"))]
 pub mod guide {}
