@@ -30,7 +30,14 @@ impl Engine for Swar {
     #[inline(always)]
     fn window(s: &[u8], steps: &mut Steps) -> Window {
         steps.tick();
-        read_window(s)
+        // In this order, LLVM puts no jump before long slices.
+        if s.len() >= 16 {
+            long_window(s)
+        } else if s.len() <= 8 {
+            short_window(s)
+        } else {
+            medium_window(s)
+        }
     }
 
     #[inline(always)]
@@ -190,21 +197,7 @@ pub(crate) fn answer_after_32<'a>(
     answer_128(bound, skipped, high, third.len, third.number, s)
 }
 
-// The window of 16 bytes. In this order, LLVM puts no jump before long slices.
-#[inline(always)]
-fn read_window(s: &[u8]) -> Window
-    // ensures { result ≡ window_of decimal_table 16 s.now }
-{
-    if s.len() >= 16 {
-        long_window(s)
-    } else if s.len() <= 8 {
-        short_window(s)
-    } else {
-        medium_window(s)
-    }
-}
-
-// `read_window` for at least 16 bytes.
+// The window of at least 16 bytes.
 #[inline(always)]
 fn long_window(s: &[u8]) -> Window
     // requires { 16 ≤ length s.now }
@@ -228,7 +221,7 @@ fn long_window(s: &[u8]) -> Window
     }
 }
 
-// `read_window` for at most 8 bytes. Fills a slice to eight bytes with zeros before it. Only one byte, the
+// The window of at most 8 bytes. Fills a slice to eight bytes with zeros before it. Only one byte, the
 // most frequent length, or none has a branch.
 #[inline(always)]
 // #[tactic(auto, using(crate::proofs::lemmas::WordWindows::filled_fits, crate::proofs::lemmas::WordWindows::filled_digits))]
@@ -250,7 +243,7 @@ fn short_window(s: &[u8]) -> Window
     }
 }
 
-// `read_window` for 9 to 15 bytes. The last eight overlap the first eight.
+// The window of 9 to 15 bytes. The last eight overlap the first eight.
 #[inline(always)]
 fn medium_window(s: &[u8]) -> Window
     // requires enough { 8 < length s.now }
