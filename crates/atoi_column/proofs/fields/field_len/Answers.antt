@@ -10,5 +10,6 @@ returns c =
     let rest = c.args.rest.now in
     let in_field = λ (byte : _). not (byte == c.args.separator) in
     count_from_yields_List c.take_while.result _ c.count.ensures.ran
-    (YieldsList-from_take_while _ in_field (YieldsList-from_slice rest cc) c.take_while.ensures.closure c.take_while.ensures.done (λ x b q k. search (rules, tests)))
+    (YieldsList-from_take_while _ in_field (YieldsList-from_slice rest cc)
+    c.take_while.ensures.closure c.take_while.ensures.done (λ x b q k. search (rules, tests)))
     ∙ length-prefix_len in_field rest

@@ -8,7 +8,8 @@ use Rattle.atoi_column.proofs.fields.short_field.Goals as goal
 pub returns-in_ok-value-in-len2-up : goal.returns-in_ok-value-in-len2-up
 returns-in_ok-value-in-len2-up g c = λ separates.
     let rest = c.args.rest.now in
-    let ends : drop 1 rest ≡ c.args.separator ∷ drop 2 rest = rw (drop_more rest 1 0 (omega (arith, c.in-len2-up.len_at_least)), c.if-second-separator.true) refl in
+    let ends : drop 1 rest ≡ c.args.separator ∷ drop 2 rest =
+    rw (drop_more rest 1 0 (omega (arith, c.in-len2-up.len_at_least)), c.if-second-separator.true) refl in
     let parsed = ok_is c.parse.result (sym c.ok.ensures.value ∙ c.in_ok-value-in-len2-up.was) in
     let written = text_with_plus (IfOk-at_ok _ parsed c.parse.ensures.number) in
     record {

@@ -18,8 +18,8 @@ pub returns-in-Some-clause-some : goal.returns-in-Some-clause-some
 returns-in-Some-clause-some g c =
     let some : 0 < length c.self.inside.rest.now = grind (arith, nat_tests) in
     let accepted = c.in-Some.ensures.some c.self.invariant.separates in
-    let step = first_field_step g.T.Number.int_type {item = Ok (g.T.Number.number c.in-Some.value)} c.self.view_is some c.self.invariant.within
-    (rw accepted.accepted refl) accepted.after in
+    let step = first_field_step g.T.Number.int_type {item = Ok (g.T.Number.number c.in-Some.value)} c.self.view_is some
+    c.self.invariant.within (rw accepted.accepted refl) accepted.after in
     search rules
 
 pub returns-in_ok-value-in-None-clause-some : goal.returns-in_ok-value-in-None-clause-some

@@ -14,5 +14,6 @@ loop-at-preserved g c =
     record {
       after = omega (arith, before.after);
       within = omega (arith, c.loop-at-test.true);
-      fills = λ first initial has. rw more (filled_more g.T.Number.int_type g.T.Number.number first initial (rw here at (before.fills first initial has)) room step.0 step.1);
+      fills = λ first initial has. rw more (filled_more g.T.Number.int_type g.T.Number.number first initial
+          (rw here at (before.fills first initial has)) room step.0 step.1);
     }
