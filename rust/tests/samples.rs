@@ -70,6 +70,17 @@ fn total(input: &[u8]) -> Result<u64, ColumnError<'_>> {
     Ok(total)
 }
 
+fn total_of_numbers(input: &[u8]) -> Result<u64, FieldError<'_>> {
+    let (mut fields, mut numbers, mut total) = (Fields::<u32>::lines(input), [0; 1024], 0);
+    loop {
+        let read = fields.read(&mut numbers);
+        total += numbers[..read].iter().map(|number| u64::from(*number)).sum::<u64>();
+        if read < numbers.len() {
+            return fields.next().map_or(Ok(total), |item| item.and(Ok(total)));
+        }
+    }
+}
+
 fn total_of_good_lines(input: &[u8]) -> u64 {
     let mut total = 0;
     for item in Fields::<u32>::lines(input) {
@@ -152,6 +163,8 @@ fn totals() {
     assert_eq!(error, Err("field 1 at byte 2 has no digit at its start".to_string()));
     let error = total(b"1,2x").map_err(|error| error.to_string());
     assert_eq!(error, Err("field 1 has an unexpected byte at byte 3".to_string()));
+    assert_eq!(total_of_numbers("12\n".repeat(3000).as_bytes()), Ok(36_000));
+    assert_eq!(total_of_numbers(b"1\nx\n2").map_err(|error| error.line()), Err(2));
     assert_eq!(total_of_good_lines(b"1\r\nx\r\n\r\n3\r\n"), 4);
     let text = "1\n".repeat((1 << 20) + 1) + "x\r\n7";
     assert_eq!(total_of_file(text.as_bytes()).unwrap(), (1 << 20) + 8);
