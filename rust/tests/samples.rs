@@ -122,7 +122,6 @@ fn version(text: &[u8]) -> Option<(u32, u32, u32)> {
     Some((major, minor, patch))
 }
 
-// Returns the total, and the line and byte of each cell that is no number.
 fn total_of_third_column(table: impl Read) -> io::Result<(u64, Vec<(usize, usize)>)> {
     let (mut reader, mut total, mut bad) = (LineReader::new(table), 0, Vec::new());
     while let Some(item) = reader.next_line()? {
@@ -133,7 +132,6 @@ fn total_of_third_column(table: impl Read) -> io::Result<(u64, Vec<(usize, usize
                 continue;
             }
         };
-        // The line from its third cell on.
         let rest = line.text.splitn(3, |byte| *byte == b';').nth(2).unwrap_or_default();
         match parse_prefix::<u32, true, false>(rest) {
             Ok((number, length)) if matches!(rest.get(length), None | Some(b';')) => {
