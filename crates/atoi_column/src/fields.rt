@@ -1,5 +1,5 @@
 //! An iterator over the fields of a byte slice, which goes on after an error.
-ghost use Rattle.std.specs.Prelude.{◌≡◌, ◌+◌, ◌^◌, ◌<◌, ◌≤◌, ◌==◌, ◌∷◌, ◌++◌, ℕ, ℤ, true, None, Ok, length, take, drop, map, All, IsFalse, IfSome, IfNone, IfOk, IfErr};
+ghost use Rattle.std.specs.Prelude.{◌≡◌, ◌+◌, ◌^◌, ◌<◌, ◌≤◌, ◌==◌, ◌∷◌, ◌++◌, ℕ, ℤ, true, false, None, Ok, length, take, drop, map, All, IsFalse, IfSome, IfNone, IfOk, IfErr};
 ghost use Rattle.std.specs.Iterator.{item_count};
 ghost use Rattle.std.specs.Option.{option_map};
 ghost use Rattle.std.specs.List.{position_or_len, after_first};
@@ -393,7 +393,7 @@ impl<'a, T: Parse> Fields<'a, T> {
         if rest.is_empty() {
             return None;
         }
-        match accepted_field::<T, false, ONE_DIGIT>(rest, self.separator, self.trims) {
+        match accepted_field::<T, ONE_DIGIT>(rest, self.separator, self.trims) {
             Some((value, following)) => {
                 self.index = index + 1;
                 self.rest = following;
@@ -430,7 +430,7 @@ impl<'a, T: Parse> Iterator for Fields<'a, T> {
             return None;
         }
         self.index = index + 1;
-        match accepted_field::<T, false, true>(rest, self.separator, self.trims) {
+        match accepted_field::<T, true>(rest, self.separator, self.trims) {
             Some((value, following)) => {
                 self.rest = following;
                 Some(Ok(value))
@@ -461,9 +461,9 @@ impl<'a, T: Parse> Iterator for Fields<'a, T> {
 impl<'a, T: Parse> FusedIterator for Fields<'a, T> {}
 
 // Returns the value of the first field of `rest`, and what follows its separator, if the field is a
-// number. `PLUS` accepts a plus.
+// number without a plus.
 #[inline(always)]
-fn accepted_field<T: Parse, const PLUS: bool, const ONE_DIGIT: bool>(
+fn accepted_field<T: Parse, const ONE_DIGIT: bool>(
     rest: &[u8],
     separator: u8,
     trims: bool,
@@ -471,7 +471,7 @@ fn accepted_field<T: Parse, const PLUS: bool, const ONE_DIGIT: bool>(
     ensures some { is_separator separator ≡ true → IfSome result (λ found. IsAcceptedField T.int_type
         trims separator rest.now (T.number found.0) found.1.now) }
     ensures none { IfNone result ((number : ℤ) (count : ℕ)
-        → parse_prefix_answer T.int_type true PLUS rest.now ≡ Ok (number, count)
+        → parse_prefix_answer T.int_type true false rest.now ≡ Ok (number, count)
         → after_field trims separator (drop count rest.now) ≡ None) }
 {
     fields_are_prefixes::<T>();
@@ -482,7 +482,7 @@ fn accepted_field<T: Parse, const PLUS: bool, const ONE_DIGIT: bool>(
             return Some((value, following));
         }
     }
-    let (value, count) = first_number::<T, PLUS>(rest).ok()?;
+    let (value, count) = first_number::<T, false>(rest).ok()?;
     let following = after_field(&rest[count..], separator, trims)?;
     Some((value, following))
 }
@@ -561,8 +561,8 @@ fn after_field(tail: &[u8], separator: u8, trims: bool) -> Option<&[u8]>
     }
 }
 
-// Returns the item of the first field of `rest`, and what follows its separator. A rare plus is looked
-// for here, so that other fields need no test for it.
+// Returns the item of the first field of `rest`, which may begin with a plus, and what follows its
+// separator.
 #[cold]
 #[inline(never)]
 fn read_field<'a, T: Parse>(
@@ -578,13 +578,6 @@ fn read_field<'a, T: Parse>(
         (parse_answer T.int_type true true (first_text (cut_of trims) separator rest.now)) }
     ensures following { result.1.now ≡ after_first (λ byte. byte == separator) rest.now }
 {
-    let after_plus = match rest {
-        [b'+', ..] => accepted_field::<T, true, false>(rest, separator, trims),
-        _ => None,
-    };
-    if let Some((value, following)) = after_plus {
-        return (Ok(value), following);
-    }
     let (text, following) = first_field(rest, separator, trims);
     match parse::<T, true, true>(text) {
         Ok(value) => (Ok(value), following),

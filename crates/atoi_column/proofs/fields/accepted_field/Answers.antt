@@ -1,5 +1,5 @@
 -- The number that is found is the whole field.
-use Rattle.std.proofs.Common.{refl, sym, ap, ◌∙◌, rules}
+use Rattle.std.proofs.Common.{false, refl, sym, ap, ◌∙◌, rules}
 use Rattle.std.proofs.lemmas.Result.{IfOk-at_ok}
 use Rattle.std.proofs.lemmas.List.{take_rest}
 use Rattle.std.proofs.lemmas.Bool.{eq-eqb}
@@ -23,7 +23,7 @@ returns-clause-some g c = λ separates.
     let answer = sym c.first_number.ensures.answer ∙ ap (typed_prefix_answer g.T.Number.number) parsed in
     accepted c.args.trims (record {
       within = (c.fields_are_prefixes.ensures c.args.separator separates c.args.rest.now).within _ _
-          (with_plus g.T.Number.int_type _ c.prefix_begins.ensures c.args.rest.now answer);
+          (with_plus g.T.Number.int_type false c.prefix_begins.ensures c.args.rest.now answer);
       written = text_with_plus (IfOk-at_ok _ parsed c.first_number.ensures.prefix).written;
       texts = c.accepted_texts.ensures;
     }) _ (sym (take_rest c.args.rest.now c.in_ok-value.count)) (sym c.in_ok-following.ensures)
