@@ -20,6 +20,12 @@ pub data Extent : Type 0 where
 abbrev pub HasDigits : ℕ → ℕ → Type 0
 HasDigits limit number = (10 ^ (limit - 1) ≤ number) × (number < 10 ^ limit)
 
+-- A bound of 64 bits, which has `limit` digits.
+pub record IsBound64 (limit bound : ℕ) : Type 0 where
+  pub low : 17 ≤ limit
+  pub high : limit ≤ 20
+  pub digits : HasDigits limit bound
+
 -- What holds of the largest magnitude in range, for a type of these bits with this limit of digits.
 pub record IsBound (bits limit bound : ℕ) : Type 0 where
   pub narrow_low : bits ≤ 32 → 9 ≤ bound

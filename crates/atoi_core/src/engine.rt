@@ -2,7 +2,7 @@
 ghost use Rattle.std.specs.Prelude.{◌≡◌, ◌+◌, ◌≤◌};
 ghost use Rattle.atoi_core.specs.Digit.{Table, IsBelowTen};
 ghost use Rattle.atoi_core.specs.Loads.{LoadsWithin, most_loads};
-ghost use Rattle.atoi_core.specs.Magnitude.{HasDigits, wide64, wide128, prefix_magnitude};
+ghost use Rattle.atoi_core.specs.Magnitude.{HasDigits, IsBound64, wide64, wide128, prefix_magnitude};
 ghost use Rattle.atoi_core.specs.Refusal.{answer_of};
 ghost use Rattle.atoi_core.specs.Reading.{window_of};
 
@@ -42,9 +42,7 @@ pub trait Engine {
         s: &'a [u8],
         steps: &mut Steps,
     ) -> Result<(u64, usize), AtoiSimdError<'a>>
-        requires limit_low { 17 ≤ limit }
-        requires limit_high { limit ≤ 20 }
-        requires digits { HasDigits limit bound }
+        requires bound { IsBound64 limit bound }
         ensures answer { answer_of result ≡ prefix_magnitude table wide64 bound limit skip s.now }
         ensures loads { LoadsWithin (most_loads table wide64 s.now) table skip s.now
             steps.old steps.new }

@@ -2,7 +2,7 @@
 ghost use Rattle.std.specs.Prelude.{◌≡◌, ◌+◌, ◌*◌, ◌/◌, ◌≤◌, min, true, false};
 ghost use Rattle.atoi_core.specs.Digit.{decimal_table};
 ghost use Rattle.atoi_core.specs.Loads.{LoadsWithin};
-ghost use Rattle.atoi_core.specs.Magnitude.{HasDigits, wide64, wide128, prefix_magnitude};
+ghost use Rattle.atoi_core.specs.Magnitude.{HasDigits, IsBound64, wide64, wide128, prefix_magnitude};
 ghost use Rattle.atoi_core.specs.Refusal.{answer_of};
 ghost use Rattle.atoi_core.specs.Run.{run_len, zeros};
 ghost use Rattle.atoi_lanes.specs.Lanes.{ReadsAfterZeros};
@@ -24,9 +24,7 @@ pub fn prefix_64_lanes<'a>(
     s: &'a [u8],
     steps: &mut Steps,
 ) -> Result<(u64, usize), AtoiSimdError<'a>>
-    requires limit_low { 17 ≤ limit }
-    requires limit_high { limit ≤ 20 }
-    requires digits { HasDigits limit bound }
+    requires bound { IsBound64 limit bound }
     ensures answer { answer_of result ≡ prefix_magnitude decimal_table wide64 bound limit skip s.now }
     ensures loads { LoadsWithin (zeros decimal_table s.now / 32 + 2) decimal_table skip s.now
         steps.old steps.new }

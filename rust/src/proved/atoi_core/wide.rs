@@ -1,7 +1,7 @@
 /* Made by .ci/erase from crates/atoi_core/src/wide.rt. Do not edit. */ //! Parsers of all of a slice as an integer of 64 or 128 bits.
 // ghost use Rattle.std.specs.Prelude.{◌≡◌, ◌≤◌};
 // ghost use Rattle.atoi_core.specs.Loads.{LoadsWithin, most_loads};
-// ghost use Rattle.atoi_core.specs.Magnitude.{HasDigits, wide64, wide128, whole_magnitude};
+// ghost use Rattle.atoi_core.specs.Magnitude.{HasDigits, IsBound64, wide64, wide128, whole_magnitude};
 // ghost use Rattle.atoi_core.specs.Refusal.{answer_of};
 
 use crate::proved::atoi_core::engine::Engine;
@@ -19,9 +19,7 @@ pub fn whole_64<'a, E: Engine>(
     s: &'a [u8],
     steps: &mut Steps,
 ) -> Result<u64, AtoiSimdError<'a>>
-    // requires limit_low { 17 ≤ limit }
-    // requires limit_high { limit ≤ 20 }
-    // requires digits { HasDigits limit bound }
+    // requires bound { IsBound64 limit bound }
     // ensures answer { answer_of result ≡ whole_magnitude E.table wide64 bound limit skip s.now }
     // ensures loads { LoadsWithin (most_loads E.table wide64 s.now) E.table skip s.now
     //     steps.old steps.new }

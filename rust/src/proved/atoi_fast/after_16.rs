@@ -1,7 +1,7 @@
 /* Made by .ci/erase from crates/atoi_fast/src/after_16.rt. Do not edit. */ //! The answer of a prefix of 64 bits after its first sixteen digits, from words of four bytes.
 // ghost use Rattle.std.specs.Prelude.{◌≡◌, ◌+◌, ◌-◌, ◌<◌, ◌≤◌, nat_lt, if◌then◌else◌, length, take, drop, false, Ok, Err, MatchOption};
 // ghost use Rattle.atoi_core.specs.Digit.{decimal_table};
-// ghost use Rattle.atoi_core.specs.Magnitude.{HasDigits, wide64, prefix_magnitude};
+// ghost use Rattle.atoi_core.specs.Magnitude.{HasDigits, IsBound64, wide64, prefix_magnitude};
 // ghost use Rattle.atoi_core.specs.Refusal.{answer_of, overflow};
 // ghost use Rattle.atoi_core.specs.Run.{run_len, value};
 // ghost use Rattle.atoi_core.specs.Words.{word_of};
@@ -27,9 +27,7 @@ pub(crate) fn answer_after_16<'a>(
     s: &'a [u8],
     steps: &mut Steps,
 ) -> Result<(u64, usize), AtoiSimdError<'a>>
-    // requires limit_low { 17 ≤ limit }
-    // requires limit_high { limit ≤ 20 }
-    // requires digits { HasDigits limit bound }
+    // requires bound { IsBound64 limit bound }
     // requires full { 16 ≤ run_len decimal_table s.now }
     // requires number { high ≡ value decimal_table (take 16 s.now) }
     // ensures answer { answer_of result
@@ -52,9 +50,7 @@ fn answer_near_end<'a>(
     high: u64,
     s: &'a [u8],
 ) -> Result<(u64, usize), AtoiSimdError<'a>>
-    // requires limit_low { 17 ≤ limit }
-    // requires limit_high { limit ≤ 20 }
-    // requires digits { HasDigits limit bound }
+    // requires bound { IsBound64 limit bound }
     // requires few { length s.now ≤ limit }
     // requires full { 16 ≤ run_len decimal_table s.now }
     // requires number { high ≡ value decimal_table (take 16 s.now) }
@@ -110,9 +106,7 @@ fn answer_by_word<'a>(
     s: &'a [u8],
 ) -> Result<(u64, usize), AtoiSimdError<'a>>
     // requires some { 16 < length s.now }
-    // requires limit_low { 17 ≤ limit }
-    // requires limit_high { limit ≤ 20 }
-    // requires digits { HasDigits limit bound }
+    // requires bound { IsBound64 limit bound }
     // requires full { 16 ≤ run_len decimal_table s.now }
     // requires number { high ≡ value decimal_table (take 16 s.now) }
     // ensures { answer_of result ≡ prefix_magnitude decimal_table wide64 bound limit false s.now }

@@ -2,7 +2,7 @@
 // ghost use Rattle.std.specs.Prelude.{◌≡◌, ◌+◌, ◌-◌, ◌*◌, ◌^◌, ◌<◌, ◌≤◌, ◌==◌, true, if◌then◌else◌, length, drop};
 // ghost use Rattle.atoi_core.specs.Digit.{decimal_table};
 // ghost use Rattle.atoi_core.specs.Loads.{LoadsWithin, most_loads};
-// ghost use Rattle.atoi_core.specs.Magnitude.{HasDigits, wide64, wide128, prefix_magnitude};
+// ghost use Rattle.atoi_core.specs.Magnitude.{HasDigits, IsBound64, wide64, wide128, prefix_magnitude};
 // ghost use Rattle.atoi_core.specs.Reading.{answer_by_digits, window_of};
 // ghost use Rattle.atoi_core.specs.Refusal.{answer_of};
 // ghost use Rattle.atoi_core.specs.Run.{run_len, zeros};
@@ -129,9 +129,7 @@ fn prefix_64_after_zeros<'a>(
     s: &'a [u8],
     steps: &mut Steps,
 ) -> Result<(u64, usize), AtoiSimdError<'a>>
-    // requires limit_low { 17 ≤ limit }
-    // requires limit_high { limit ≤ 20 }
-    // requires digits { HasDigits limit bound }
+    // requires bound { IsBound64 limit bound }
     // requires some { 0 < zeroes }
     // requires first_window { zeroes ≡ (window_of decimal_table 16 s.now).zeroes }
     // ensures answer { answer_of result

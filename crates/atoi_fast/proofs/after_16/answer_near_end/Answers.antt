@@ -15,7 +15,7 @@ returns-then-s-eq16 c =
     let r = c.requires in
     let all : run_len decimal_table s ≡ 16 = omega (arith, prefix_len-le-length (is_digit decimal_table) s) in
     ap (λ len. Ok (c.args.high, len)) c.if-s-eq16.true
-    ∙ ended_at_16 c.args.bound c.args.limit s _ r.limit_low r.limit_high r.digits all r.number
+    ∙ ended_at_16 c.args.bound c.args.limit s _ r.bound.low r.bound.high r.bound.digits all r.number
 
 pub returns-in-Some : goal.returns-in-Some
 returns-in-Some c =
@@ -28,6 +28,6 @@ returns-in-Some c =
     c.append_digits-number.ensures
     ∙ rw (c.requires.number, c.from.ensures ∙ c.in-Some.ensures.1, ← rest)
     (sym (value-take-add decimal_table 16 more s (omega arith)) ∙ ap (λ n. value decimal_table (take n s)) len) in
-    let known = by_digits c.args.bound c.args.limit s (length s) _ c.requires.limit_high (omega (arith, c.in-Some.ensures.0)) number in
+    let known = by_digits c.args.bound c.args.limit s (length s) _ c.requires.bound.high (omega (arith, c.in-Some.ensures.0)) number in
     c.answer_to_end.ensures
     ∙ (rw (zero-add (length s), ne_eqb (length s) 0 (omega arith), le-ltb c.args.limit (length s) c.requires.few) at known.2)

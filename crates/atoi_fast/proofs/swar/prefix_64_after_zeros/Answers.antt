@@ -19,7 +19,7 @@ returns-then-first-lt16-clause-answer c =
     let some = ne_eqb (c.window_after_zeros-at.result.0 + c.window_after_zeros-at.result.1.len) 0
     (omega (arith, c.window_after_zeros-at.ensures.some)) in
     rw some at (answers_short wide64 c.args.bound c.args.limit (omega arith)
-    after_skip c.if-first-lt16.true (omega arith) c.requires.digits refl refl)
+    after_skip c.if-first-lt16.true (omega arith) c.requires.bound.digits refl refl)
 
 pub slice_bounds-window_8-start : goal.slice_bounds-window_8-start
 slice_bounds-window_8-start c =

@@ -2,7 +2,7 @@
 // ghost use Rattle.std.specs.Prelude.{◌≡◌, ◌+◌, ◌*◌, ◌/◌, ◌<◌, ◌≤◌, MatchOption, length, take, drop, min, true, false};
 // ghost use Rattle.atoi_core.specs.Digit.{decimal_table};
 // ghost use Rattle.atoi_core.specs.Loads.{LoadsWithin, most_loads};
-// ghost use Rattle.atoi_core.specs.Magnitude.{HasDigits, wide64, wide128, prefix_magnitude};
+// ghost use Rattle.atoi_core.specs.Magnitude.{HasDigits, IsBound64, wide64, wide128, prefix_magnitude};
 // ghost use Rattle.atoi_core.specs.Refusal.{answer_of};
 // ghost use Rattle.atoi_core.specs.Run.{run_len, value, zeros};
 // ghost use Rattle.atoi_fast.specs.Vectors.{ReadsAfterZeros};
@@ -29,9 +29,7 @@ pub(crate) fn prefix_64_vectors<'a>(
     s: &'a [u8],
     steps: &mut Steps,
 ) -> Result<(u64, usize), AtoiSimdError<'a>>
-    // requires limit_low { 17 ≤ limit }
-    // requires limit_high { limit ≤ 20 }
-    // requires digits { HasDigits limit bound }
+    // requires bound { IsBound64 limit bound }
     // ensures answer { answer_of result ≡ prefix_magnitude decimal_table wide64 bound limit skip s.now }
     // ensures loads { LoadsWithin (most_loads decimal_table wide64 s.now) decimal_table skip s.now
     //     steps.old steps.new }

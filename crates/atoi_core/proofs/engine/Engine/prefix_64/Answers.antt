@@ -38,7 +38,7 @@ ended g c =
 pub returns-then-first-lt16-clause-answer : goal.returns-then-first-lt16-clause-answer
 returns-then-first-lt16-clause-answer g c =
     let after_skip = ended g (goal.at.returns-then-first-lt16-clause-answer g c).Left-loop-first in
-    c.found_or_empty.ensures ∙ answers_short _ _ _ (omega arith) after_skip c.if-first-lt16.true (omega arith) c.requires.digits refl refl
+    c.found_or_empty.ensures ∙ answers_short _ _ _ (omega arith) after_skip c.if-first-lt16.true (omega arith) c.requires.bound.digits refl refl
 
 pub returns-then-first-lt16-clause-loads : goal.returns-then-first-lt16-clause-loads
 returns-then-first-lt16-clause-loads g c =

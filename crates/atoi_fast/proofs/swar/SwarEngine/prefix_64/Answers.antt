@@ -22,7 +22,7 @@ returns-then-first-lt16-clause-answer c =
     let after_skip = last (goal.at.returns-then-first-lt16-clause-answer c).After-window-first c.else-skip.either in
     c.found_or_empty.ensures
     ∙ answers_short wide64 _ _ {len = c.window-first.result.len} (omega arith)
-    after_skip c.if-first-lt16.true (omega arith) c.requires.digits refl (omega arith)
+    after_skip c.if-first-lt16.true (omega arith) c.requires.bound.digits refl (omega arith)
 
 pub returns-then-first-lt16-clause-loads : goal.returns-then-first-lt16-clause-loads
 returns-then-first-lt16-clause-loads c =
@@ -65,7 +65,7 @@ returns-clause-answer c =
     omega (arith, c.if-s-ge16.false, after_skip.window.len_is, prefix_len-le-length (is_digit decimal_table) c.args.s.now) in
     c.found_or_empty-2.ensures
     ∙ answers_short wide64 _ _ {len = c.window-only.result.len} (omega arith)
-    after_skip few (omega arith) c.requires.digits refl (omega arith)
+    after_skip few (omega arith) c.requires.bound.digits refl (omega arith)
 
 pub returns-clause-loads : goal.returns-clause-loads
 returns-clause-loads c = Skipped-loads (short (goal.at.returns-clause-loads c).After-window-only) 0 (omega arith) (omega arith)

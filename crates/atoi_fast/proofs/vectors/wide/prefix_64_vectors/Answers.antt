@@ -17,8 +17,8 @@ returns-then-others-ne0-clause-answer c =
     let first = reading_of_lanes c.args.s.now c.load_lanes-first.result _ _
     c.load_lanes-first.ensures (others.some some) c.sum_lanes.ensures in
     c.found_or_empty.ensures
-    ∙ ended_in_16 wide64 c.args.bound c.args.limit (omega (arith, c.requires.limit_high))
-    (omega (arith, c.requires.limit_low)) c.requires.digits c.args.skip first
+    ∙ ended_in_16 wide64 c.args.bound c.args.limit (omega (arith, c.requires.bound.high))
+    (omega (arith, c.requires.bound.low)) c.requires.bound.digits c.args.skip first
     (omega (arith, others.some some, others.fewer some))
 
 pub returns-then-others-ne0-clause-loads : goal.returns-then-others-ne0-clause-loads
@@ -53,8 +53,8 @@ pub returns-clause-answer : goal.returns-clause-answer
 returns-clause-answer c =
     let only = reading_of_window c.window_below_16-only.ensures in
     c.found_or_empty-2.ensures
-    ∙ ended_in_16 wide64 c.args.bound c.args.limit (omega (arith, c.requires.limit_high))
-    (omega (arith, c.requires.limit_low)) c.requires.digits c.args.skip only
+    ∙ ended_in_16 wide64 c.args.bound c.args.limit (omega (arith, c.requires.bound.high))
+    (omega (arith, c.requires.bound.low)) c.requires.bound.digits c.args.skip only
     (omega (arith, within only, c.if-s-ge16.false))
 
 pub returns-clause-loads : goal.returns-clause-loads
