@@ -9,12 +9,48 @@ ghost use Rattle.atoi_column.specs.FirstField.{after_field};
 use crate::words::{number_before, number_of_width};
 use atoi_simd::{Parse, parse};
 
-/// What is guessed of the next fields: how many digits a number has, and whether a carriage return
-/// follows it.
+/// What is guessed of the next fields. Others are read, too.
 #[derive(Clone, Copy)]
 pub(crate) struct Guess {
+    /// How many digits each has, or 0 if they differ.
     pub width: usize,
+    /// Whether a carriage return follows each.
     pub has_return: bool,
+    /// Whether most have one digit.
+    pub are_short: bool,
+    /// Whether some have a minus.
+    pub have_minus: bool,
+}
+
+/// What is guessed of the first field.
+pub(crate) const NO_GUESS: Guess = Guess {
+    width: 0,
+    has_return: false,
+    are_short: true,
+    have_minus: false,
+};
+
+/// Guesses that the fields of `rest` look like those before, which have these numbers and `used` bytes.
+/// If a field has less than 2¾ bytes on average, most have one digit.
+#[inline(never)]
+pub(crate) fn guess_after<T: Parse>(numbers: &[T], used: usize, rest: &[u8], trims: bool) -> Guess {
+    let count = numbers.len().max(1);
+    let minuses = numbers.iter().filter(|number| number.parts().0).count();
+    let digits_and_ends = used.saturating_sub(minuses);
+    let each = digits_and_ends / count;
+    let at = sign_len::<T>(rest).saturating_add(each.saturating_sub(2));
+    let has_return = trims && matches!(rest.split_at_checked(at), Some((_, [b'\r', ..])));
+    let width = each.saturating_sub(1 + usize::from(has_return));
+    Guess {
+        width: if digits_and_ends % count == 0 {
+            width
+        } else {
+            0
+        },
+        has_return,
+        are_short: used / 11 < count / 4,
+        have_minus: minuses > count / 8,
+    }
 }
 
 /// Whether a word has room for the digits and what ends the field.
@@ -124,14 +160,4 @@ pub(crate) fn sign_len<T: Parse>(rest: &[u8]) -> usize
         [b'-', ..] if T::SIGNED => 1,
         _ => 0,
     }
-}
-
-// Whether `most` fields of `used` bytes may have had `width` digits each: their mean length says so. Minus
-// signs would have to be counted. Fields of one digit are read faster without a guess.
-#[inline(always)]
-pub(crate) fn is_likely<T: Parse>(width: usize, most: usize, used: usize) -> bool
-    requires { 0 < most }
-{
-    let ends = (used / most).saturating_sub(width);
-    width > 1 && (T::SIGNED || used % most == 0 && (ends == 1 || ends == 2))
 }

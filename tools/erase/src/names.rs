@@ -38,10 +38,10 @@ pub const METHODS: &str = "len is_empty iter first first_chunk last_chunk split_
     split_first copy_from_slice is_ascii_digit checked_add checked_mul checked_sub cmp max min \
     partial_cmp saturating_add saturating_sub to_le_bytes trailing_ones trailing_zeros unsigned_abs \
     wrapping_add wrapping_mul wrapping_sub \
-    count enumerate take_while ok unwrap write_str dot4 simd_eq simd_ge simd_le \
+    count enumerate filter take_while ok unwrap write_str dot4 simd_eq simd_ge simd_le \
     reduce_sum swizzle_dyn_within to_array to_bitmask";
 const OWN_METHODS: &str = "index parts text tick \
-    guess guessed_number next_number number read_guessed read_part read_plain taken_out";
+    guessed_number next_number number read_guessed read_part read_plain taken_out";
 
 // All other small names that Rust has without a declaration: keywords, types and functions.
 const REFUSED: &str = "abstract async await become box do dyn extern final gen macro macro_rules \

@@ -131,7 +131,7 @@ impl<'a, T: Parse> Iterator for Column<'a, T> {
         }
         // No item follows unless a separator is found.
         self.has_ended = true;
-        let (value, count) = match first_number::<T, true>(rest) {
+        let (value, count) = match first_number::<T, true>(rest, false) {
             Ok(found) => found,
             Err(cause) => return Some(Err(ColumnError::Field {
                 index,

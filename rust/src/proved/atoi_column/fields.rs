@@ -8,27 +8,16 @@
 // ghost use Rattle.atoi_column.specs.Fields.{is_separator};
 // ghost use Rattle.atoi_column.specs.FieldItems.{cut_of, field_item, field_item_of, fields_in, lines_in, field_items, field_items_left, after_first_field, line_items, GivesFirstField};
 // ghost use Rattle.atoi_column.specs.FirstField.{after_field, first_text, IsAcceptedField, IsShortField};
-// ghost use Rattle.atoi_column.specs.Reads.{BeginsWithNoNumber, FillsMore, after_fields};
+
+mod read;
 
 use crate::proved::atoi_column::field_error::FieldError;
-use crate::proved::atoi_column::guesses::{
-    Guess, end_of, is_likely, is_short, number_of_digits, number_with_end, sign_len,
-};
+use crate::proved::atoi_column::guesses::{Guess, NO_GUESS};
 use crate::proved::atoi_column::laws::fields_are_prefixes;
 use crate::proved::atoi_core::laws::{accepted_texts, prefix_begins, prefix_is_whole};
 use crate::proved::atoi_simd::{AtoiSimdError, Parse, parse, parse_prefix, parse_prefix_pos};
 use core::iter::FusedIterator;
 use core::marker::{ PhantomData};
-
-// How many fields are read before a guess, at least and at most.
-const PART: usize = 16;
-
-const LONG_PART: usize = 1024;
-
-const NO_GUESS: Guess = Guess {
-    width: 0,
-    has_return: false,
-};
 
 /// The numbers of a byte slice, with a separator between them. The item of a field that
 /// `parse::<T, true, true>` refuses is an [error](FieldError), and the next field follows.
@@ -190,230 +179,6 @@ impl<'a, T: Parse> Fields<'a, T> {
     {
         (self.index, self.end - self.rest.len())
     }
-
-    /// Writes the numbers of the next fields to the front of `values`, and returns how many there are. If
-    /// that is fewer than `values` has room for, it stopped at the end or before a field that is refused,
-    /// whose error `next` then returns. The other values stay as they are.
-    ///
-    /// A column of numbers with equally many digits is read faster than by `next`.
-    ///
-    /// **Proved:** the values are the numbers of the next fields [as specified](crate::specification#columns).
-    ///
-    /// ```
-    /// use torkettle::column::Fields;
-    ///
-    /// let mut fields = Fields::<u8>::new(b"1,22,x,3", b',');
-    /// let mut numbers = [0; 64];
-    /// assert_eq!(fields.read(&mut numbers), 2);
-    /// assert_eq!(numbers[..2], [1, 22]);
-    /// assert_eq!(fields.next().unwrap().unwrap_err().text, b"x");
-    /// assert_eq!(fields.read(&mut numbers), 1);
-    /// assert_eq!(fields.next(), None);
-    /// ```
-    #[inline] pub fn read(&mut self, values: &mut [T]) -> usize
-        // ensures within { result ≤ length values.old }
-        // ensures numbers { field_items_left T.int_type self.old
-        //     ≡ map (λ value. Ok (T.number value)) (take result values.new)
-        //     ++ field_items_left T.int_type self.new }
-        // ensures others { drop result values.new ≡ drop result values.old }
-        // ensures moves { self.new ≡ after_fields result self.old }
-        // ensures stops { result < length values.old
-        //     → BeginsWithNoNumber (field_items_left T.int_type self.new) }
-    {
-        let mut read = 0;
-        let mut part = PART;
-        let mut are_short = true;
-        while read < values.len() {
-            let most = part.min(values.len() - read);
-            let before = self.rest.len();
-            let found = self.read_plain(values, read, most, are_short);
-            read += found;
-            if found < most || read == values.len() {
-                break;
-            }
-            let used = before.saturating_sub(self.rest.len());
-            let run = self.read_guessed(values, read, most, used);
-            read += run;
-            are_short = used / most < 3;
-            part = if run < PART {
-                (4 * part).min(LONG_PART)
-            } else {
-                PART
-            };
-        }
-        read
-    }
-
-    // Returns the same fields, which stay in registers while numbers are written to memory.
-    #[inline(always)]
-    fn taken_out(&self) -> Fields<'a, T>
-        // ensures { result ≡ self.now }
-    {
-        Fields {
-            rest: self.rest,
-            separator: self.separator,
-            trims: self.trims,
-            index: self.index,
-            end: self.end,
-            values: PhantomData,
-        }
-    }
-
-    // Returns what the next fields may look like: as the next one does. Any guess is right.
-    #[cold]
-    #[inline(never)]
-    fn guess(&self) -> Guess {
-        match parse_prefix::<T, true, false>(self.rest) {
-            Ok((_, count)) => Guess {
-                width: count.saturating_sub(sign_len::<T>(self.rest)),
-                has_return: matches!(&self.rest[count..], [b'\r', ..]),
-            },
-            Err(_) => NO_GUESS,
-        }
-    }
-
-    // Reads numbers of any width. If most have one digit, a test for that is predicted.
-    #[inline(always)]
-    fn read_plain(&mut self, values: &mut [T], from: usize, most: usize, are_short: bool) -> usize
-        // requires { from + most ≤ length values.old }
-        // ensures within { result ≤ most }
-        // ensures fills { FillsMore T.int_type T.number self.old self.new values.old values.new from
-        //     result }
-        // ensures stops { result < most → BeginsWithNoNumber (field_items_left T.int_type self.new) }
-    {
-        if are_short {
-            self.read_part::<false, true>(values, from, most, NO_GUESS)
-        } else {
-            self.read_part::<false, false>(values, from, most, NO_GUESS)
-        }
-    }
-
-    // Guesses what the next fields look like. If `most` fields of `used` bytes may look so, reads numbers
-    // as guessed to `values[from..]`: none waits for the end of the one before.
-    #[inline(never)]
-    fn read_guessed(&mut self, values: &mut [T], from: usize, most: usize, used: usize) -> usize
-        // requires from { from ≤ length values.old }
-        // requires some { 0 < most }
-        // ensures within { from + result ≤ length values.old }
-        // ensures fills { FillsMore T.int_type T.number self.old self.new values.old values.new from
-        //     result }
-    {
-        let guess = self.guess();
-        if !is_likely::<T>(guess.width, most, used) {
-            return 0;
-        }
-        let room = values.len() - from;
-        // The compiler makes a loop for each case.
-        if is_short(guess) {
-            return self.read_part::<true, false>(values, from, room, guess);
-        }
-        match guess.width {
-            1..=8 => self.read_part::<true, false>(values, from, room, guess),
-            9..=16 => self.read_part::<true, false>(values, from, room, guess),
-            _ => self.read_part::<true, false>(values, from, room, guess),
-        }
-    }
-
-    // Reads at most `most` numbers to `values[from..]`. With `GUESSES`, they look as guessed.
-    #[inline(always)]
-    fn read_part<const GUESSES: bool, const ONE_DIGIT: bool>(
-        &mut self,
-        values: &mut [T],
-        from: usize,
-        most: usize,
-        guess: Guess,
-    ) -> usize
-        // requires { from + most ≤ length values.old }
-        // ensures within { result ≤ most }
-        // ensures fills { FillsMore T.int_type T.number self.old self.new values.old values.new from
-        //     result }
-        // ensures stops { IsFalse GUESSES → result < most
-        //     → BeginsWithNoNumber (field_items_left T.int_type self.new) }
-    {
-        // The compiler knows that this is an end within `values`.
-        let end = values.len().min(from + most);
-        let mut fields = self.taken_out();
-        let mut at = from;
-        while at < end {
-            match fields.number::<GUESSES, ONE_DIGIT>(guess) {
-                Some(value) => {
-                    values[at] = value;
-                    at += 1;
-                }
-                None => break,
-            }
-        }
-        *self = fields;
-        at - from
-    }
-
-    // Returns the number of the next field. If there is none, or `GUESSES` and it does not look as
-    // guessed, nothing changes.
-    #[inline(always)]
-    fn number<const GUESSES: bool, const ONE_DIGIT: bool>(&mut self, guess: Guess) -> Option<T>
-        // ensures some { IfSome result (λ value. (field_items_left T.int_type self.old
-        //     ≡ Ok (T.number value) ∷ field_items_left T.int_type self.new)
-        //     × (self.new ≡ after_first_field self.old)) }
-        // ensures none { IfNone result (self.new ≡ self.old) }
-        // ensures stops { IfNone result (IsFalse GUESSES
-        //     → BeginsWithNoNumber (field_items_left T.int_type self.old)) }
-    {
-        if GUESSES {
-            self.guessed_number(guess)
-        } else {
-            self.next_number::<ONE_DIGIT>()
-        }
-    }
-
-    // `next_number`, if the field looks as guessed.
-    #[inline(always)]
-    fn guessed_number(&mut self, guess: Guess) -> Option<T>
-        // ensures some { IfSome result (λ value. (field_items_left T.int_type self.old
-        //     ≡ Ok (T.number value) ∷ field_items_left T.int_type self.new)
-        //     × (self.new ≡ after_first_field self.old)) }
-        // ensures none { IfNone result (self.new ≡ self.old) }
-    {
-        let (rest, index) = (self.rest, self.index);
-        let (value, following) = guessed_field::<T>(rest, self.separator, self.trims, guess)?;
-        self.index = index + 1;
-        self.rest = following;
-        Some(value)
-    }
-
-    // Returns the number of the next field, if it is one. Otherwise, nothing changes.
-    #[inline(always)]
-    fn next_number<const ONE_DIGIT: bool>(&mut self) -> Option<T>
-        // ensures some { IfSome result (λ value. (field_items_left T.int_type self.old
-        //     ≡ Ok (T.number value) ∷ field_items_left T.int_type self.new)
-        //     × (self.new ≡ after_first_field self.old)) }
-        // ensures none { IfNone result ((self.new ≡ self.old)
-        //     × BeginsWithNoNumber (field_items_left T.int_type self.old)) }
-    {
-        let (rest, index) = (self.rest, self.index);
-        if rest.is_empty() {
-            return None;
-        }
-        match accepted_field::<T, ONE_DIGIT>(rest, self.separator, self.trims) {
-            Some((value, following)) => {
-                self.index = index + 1;
-                self.rest = following;
-                Some(value)
-            }
-            None => {
-                let (item, following) = read_field::<T>(
-                    rest,
-                    self.separator,
-                    self.trims,
-                    index,
-                    self.end - rest.len(),
-                );
-                let value = item.ok()?;
-                self.index = index + 1;
-                self.rest = following;
-                Some(value)
-            }
-        }
-    }
 }
 
 impl<'a, T: Parse> Iterator for Fields<'a, T> {
@@ -430,7 +195,7 @@ impl<'a, T: Parse> Iterator for Fields<'a, T> {
             return None;
         }
         self.index = index + 1;
-        match accepted_field::<T, true>(rest, self.separator, self.trims) {
+        match accepted_field::<T>(rest, self.separator, self.trims, NO_GUESS) {
             Some((value, following)) => {
                 self.rest = following;
                 Some(Ok(value))
@@ -463,10 +228,11 @@ impl<'a, T: Parse> FusedIterator for Fields<'a, T> {}
 // Returns the value of the first field of `rest`, and what follows its separator, if the field is a
 // number without a plus.
 #[inline(always)]
-fn accepted_field<T: Parse, const ONE_DIGIT: bool>(
+fn accepted_field<T: Parse>(
     rest: &[u8],
     separator: u8,
     trims: bool,
+    guess: Guess,
 ) -> Option<(T, &[u8])>
     // ensures some { is_separator separator ≡ true → IfSome result (λ found. IsAcceptedField T.int_type
     //     trims separator rest.now (T.number found.0) found.1.now) }
@@ -477,20 +243,21 @@ fn accepted_field<T: Parse, const ONE_DIGIT: bool>(
     fields_are_prefixes::<T>();
     accepted_texts::<T>();
     prefix_begins::<T>();
-    if ONE_DIGIT {
+    if guess.are_short {
         if let Some((value, following)) = short_field::<T>(rest, separator) {
             return Some((value, following));
         }
     }
-    let (value, count) = first_number::<T, false>(rest).ok()?;
+    let (value, count) = first_number::<T, false>(rest, guess.have_minus).ok()?;
     let following = after_field(&rest[count..], separator, trims)?;
     Some((value, following))
 }
 
-// `parse_prefix`. Signed numbers mostly have no sign, and a digit says so before the sign is looked for.
+// `parse_prefix`. Unless some numbers `have_minus`, a first digit says that there is no sign.
 #[inline(always)]
 pub(crate) fn first_number<T: Parse, const PLUS: bool>(
     rest: &[u8],
+    have_minus: bool,
 ) -> Result<(T, usize), AtoiSimdError<'_>>
     // ensures answer { typed_prefix_answer T.number result
     //     ≡ parse_prefix_answer T.int_type true PLUS rest.now }
@@ -499,7 +266,7 @@ pub(crate) fn first_number<T: Parse, const PLUS: bool>(
     //     PrefixWrites (TextWrites T.int_type PLUS) rest.now (T.number found.0) found.1) }
 {
     match rest {
-        [b'0'..=b'9', ..] if T::SIGNED => parse_prefix_pos::<T, true>(rest),
+        [b'0'..=b'9', ..] if T::SIGNED && !have_minus => parse_prefix_pos::<T, true>(rest),
         _ => parse_prefix::<T, true, PLUS>(rest),
     }
 }
@@ -520,31 +287,6 @@ pub(crate) fn short_field<T: Parse>(rest: &[u8], separator: u8) -> Option<(T, &[
         }
         _ => None,
     }
-}
-
-// `accepted_field`, if the field looks as guessed.
-#[inline(always)]
-fn guessed_field<T: Parse>(
-    rest: &[u8],
-    separator: u8,
-    trims: bool,
-    guess: Guess,
-) -> Option<(T, &[u8])>
-    // ensures some { IfSome result (λ found. 0 < length rest.now) }
-    // ensures accepted { is_separator separator ≡ true → IfSome result (λ found. IsAcceptedField T.int_type
-    //     trims separator rest.now (T.number found.0) found.1.now) }
-{
-    fields_are_prefixes::<T>();
-    accepted_texts::<T>();
-    prefix_is_whole::<T>();
-    if is_short(guess) {
-        let (ends, tail) = end_of(separator, trims, guess.has_return);
-        let (value, count) = number_with_end::<T>(rest, guess.width, ends, tail)?;
-        return Some((value, &rest[count + tail..]));
-    }
-    let (value, count) = number_of_digits::<T>(rest, guess.width)?;
-    let following = after_field(&rest[count..], separator, trims)?;
-    Some((value, following))
 }
 
 // Returns what follows a field that ends before `tail`, or `None` if no field does.

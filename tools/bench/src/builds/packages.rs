@@ -14,8 +14,9 @@ const ENGINES: &str = "tools/erase/src/engines.rs";
 const TUNED: &str = "atoi_fast::Swar";
 const PLAIN: &str = "atoi_core::Words";
 
-// The file that has `Fields`, and what is in it if it has `Fields::read`.
-const FIELDS: &str = "rust/src/proved/atoi_column/fields.rs";
+// The files of which one has `Fields::read`, if the package has it, and what is in that file.
+const FIELDS: [&str; 2] =
+    ["rust/src/proved/atoi_column/fields/read.rs", "rust/src/proved/atoi_column/fields.rs"];
 const READ: &str = " fn read(&mut self";
 
 /// A package. A commit is called by its short name.
@@ -32,7 +33,8 @@ pub fn package(cache: &Cache, against: &Against) -> Result<Other, String> {
         erase(cache, &room)?;
     }
     edit(&room.join("Cargo.toml"), |manifest| Ok(with_other_version(manifest)))?;
-    let has_read = fs::read_to_string(room.join(FIELDS)).is_ok_and(|text| text.contains(READ));
+    let reads = |file| fs::read_to_string(room.join(file)).is_ok_and(|text| text.contains(READ));
+    let has_read = FIELDS.into_iter().any(reads);
     Ok(Other { package: Package::of_folder(&room)?, name, folder: room, has_read })
 }
 
@@ -110,7 +112,7 @@ mod tests {
 
     #[test]
     fn fields_of_the_package_have_read() {
-        let fields = include_str!("../../../../rust/src/proved/atoi_column/fields.rs");
+        let fields = include_str!("../../../../rust/src/proved/atoi_column/fields/read.rs");
         assert_eq!(fields.matches(READ).count(), 1);
     }
 

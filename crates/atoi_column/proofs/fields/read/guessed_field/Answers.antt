@@ -3,7 +3,7 @@ use Rattle.std.proofs.Common.{◌+◌, ◌≤◌, ◌∙◌, Some, length, drop,
 use Rattle.std.proofs.lemmas.List.{take_rest, drop-drop}
 use Rattle.atoi_core.proofs.lemmas.LoadedWords.{fits_after}
 use Rattle.atoi_column.proofs.lemmas.FoundFields.{accepted_text}
-use Rattle.atoi_column.proofs.fields.guessed_field.Goals as goal
+use Rattle.atoi_column.proofs.fields.read.guessed_field.Goals as goal
 
 pub returns-then-is_short-clause-accepted : goal.returns-then-is_short-clause-accepted
 returns-then-is_short-clause-accepted g c = λ separates.
