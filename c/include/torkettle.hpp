@@ -406,20 +406,25 @@ private:
     // item of a loop stays in registers, because no function that is not inlined gets its address.
     [[gnu::always_inline]] bool advance(item<T> &field, mark &last) noexcept
     {
-        if (used == filled && (alone > 0 || !read_block())) {
-            item<T> one;
-            if (!read_one(one))
-                return false;
-            field = one;
-            return true;
+        // Most iterators go on where they were. Their index is in a register, and `used` in memory takes longer.
+        std::size_t index = last.index + 1;
+        if (__builtin_expect(index != used || index >= filled, 0)) {
+            if (used == filled && (alone > 0 || !read_block())) {
+                item<T> one;
+                if (!read_one(one))
+                    return false;
+                field = one;
+                return true;
+            }
+            index = used;
         }
         const bool is_known = last.block == block.rest && last.separator == block.separator;
-        const std::size_t last_index = is_known ? last.index : used;
-        const char *const place = place_of(used, block_text(), block.separator, last_index, last.place);
-        last = {block.rest, block.separator, used, place};
+        const std::size_t last_index = is_known ? last.index : index;
+        const char *const place = place_of(index, block_text(), block.separator, last_index, last.place);
+        last = {block.rest, block.separator, index, place};
         const std::size_t offset = block.next_offset + static_cast<std::size_t>(place - block.rest);
-        field = {block_values[used], std::errc(), std::string_view(), block.next_index + used, offset};
-        ++used;
+        field = {block_values[index], std::errc(), std::string_view(), block.next_index + index, offset};
+        used = index + 1;
         return true;
     }
 
