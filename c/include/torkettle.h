@@ -45,6 +45,7 @@
 #else
 
 #include <limits.h>
+#include <string.h>
 
 #ifdef __cplusplus
 #define TORKETTLE_NOEXCEPT noexcept
@@ -55,6 +56,9 @@ extern "C" {
 #define TORKETTLE_NOEXCEPT
 #define TORKETTLE_CAST_(type, value) ((type)(value))
 #endif
+
+/* Begins an inline function that -O2 would call, as it is long. */
+#define TORKETTLE_INLINE_ static inline __attribute__((__always_inline__))
 
 /* The version of this header. torkettle_version returns the version of the library. */
 #define TORKETTLE_VERSION "0.1.0"
@@ -256,7 +260,8 @@ typedef struct torkettle_error {
  * and its length in two registers. The length is 0 if there is no number. The length that torkettle_next_field_ returns
  * is 1 for a number, and 2 for a bad field. If `flags` is a constant, the compiler keeps only one call.
  *
- * A number of one digit is read here, because a call would take most of its time.
+ * A whole text of one digit is read here, because a call would take most of its time. So is a number at the start of a
+ * text if it has one digit or, in a text of more than 16 bytes, up to 15.
  */
 static inline bool torkettle_is_digit(char byte) TORKETTLE_NOEXCEPT
 {
@@ -278,6 +283,73 @@ static inline bool torkettle_prefix_is_digit(const char *text, size_t length) TO
 }
 
 /*
+ * Returns the highest bit of each byte that is no digit. After the first such byte, bits may be wrong. `minus` is 1 if
+ * the first byte is a minus, which then has no bit, but a `0` after it has one.
+ */
+TORKETTLE_INLINE_ uint64_t torkettle_marks(uint64_t word, uint64_t minus) TORKETTLE_NOEXCEPT
+{
+    return ((word + 0x4646464646464646u) | (word - 0x3030303030303030u)) & (0x8080808080808080u - (minus << 7));
+}
+
+/* Joins four numbers of two digits, the first in the lowest byte, and the others in every second byte after it. */
+TORKETTLE_INLINE_ uint64_t torkettle_join_pairs(uint64_t pairs) TORKETTLE_NOEXCEPT
+{
+    pairs &= 0x00ff00ff00ff00ffu;
+    pairs = (pairs * (100u << 16 | 1) >> 16) & 0x0000ffff0000ffffu;
+    return pairs * (UINT64_C(10000) << 32 | 1) >> 32;
+}
+
+/*
+ * Reads the number at the start of 16 bytes, on a little-endian target, and returns its length. Returns 0 if the
+ * library has to read it: more than 15 digits, a zero after a minus, and what is no number.
+ *
+ * A word has the first of eight bytes in its lowest bits. Its digits are moved up, so that zeros precede them. The
+ * product by 10 << 8 | 1 adds to each digit ten times the one before it.
+ */
+TORKETTLE_INLINE_ size_t torkettle_read_16(const char *text, bool is_signed, int64_t *value) TORKETTLE_NOEXCEPT
+{
+    static const uint64_t powers[] = {1, 10, 100, 1000, 10000, 100000, 1000000, 10000000};
+    const uint64_t zeros = 0x3030303030303030u, minus = is_signed && text[0] == '-';
+    uint64_t first, last, marks, number;
+    unsigned place, count;
+    memcpy(&first, text, sizeof first);
+    marks = torkettle_marks(first, minus);
+    /* A minus becomes a zero. */
+    first += 3 * minus - zeros;
+    if (marks != 0) {
+        place = TORKETTLE_CAST_(unsigned, __builtin_ctzll(marks));
+        count = place / 8;
+        number = torkettle_join_pairs((first << (63 - place)) * (10 << 8 | 1));
+    } else {
+        memcpy(&last, text + 8, sizeof last);
+        marks = torkettle_marks(last, 0);
+        if (marks == 0)
+            return 0;
+        place = TORKETTLE_CAST_(unsigned, __builtin_ctzll(marks));
+        count = place / 8;
+        number = torkettle_join_pairs(first * (10 << 8 | 1) >> 8) * powers[count];
+        number += torkettle_join_pairs(((last - zeros) << (63 - place)) * (10 << 8 | 1));
+        count += 8;
+    }
+    *value = TORKETTLE_CAST_(int64_t, (number ^ (0 - minus)) + minus);
+    return count > minus ? count : 0;
+}
+
+/* Reads the number at the start of a text, and returns its length, or 0 if the library has to read it. */
+TORKETTLE_INLINE_ size_t torkettle_read_prefix(const char *text, size_t length, bool is_signed,
+                                               int64_t *value) TORKETTLE_NOEXCEPT
+{
+    if (length > 16 && __BYTE_ORDER__ == __ORDER_LITTLE_ENDIAN__) {
+        if (torkettle_is_digit(text[1]) || !torkettle_is_digit(text[0]))
+            return torkettle_read_16(text, is_signed, value);
+        *value = text[0] - '0';
+        return 1;
+    }
+    *value = length > 0 ? text[0] - '0' : 0;
+    return torkettle_prefix_is_digit(text, length);
+}
+
+/*
  * The status of a call that found no number. It is never TORKETTLE_OK, but a compiler cannot know that, and would warn
  * that the value of such a call may not be set.
  */
@@ -294,8 +366,7 @@ static inline size_t torkettle_rest_length(size_t length, char separator) TORKET
 
 /* `suffix` is `_i64` and so on. The program may have `i64` itself as a macro, which the call would expand. */
 #define TORKETTLE_PICK_(kind, suffix)                                                                                  \
-    (torkettle_##kind##_is_digit(text, length) ? torkettle_digit##suffix(text)                                         \
-     : flags & TORKETTLE_SKIP_ZEROES                                                                                   \
+    (flags & TORKETTLE_SKIP_ZEROES                                                                                     \
          ? (flags & TORKETTLE_SKIP_PLUS ? torkettle_##kind##_zeroes_plus##suffix(text, length)                         \
                                         : torkettle_##kind##_zeroes##suffix(text, length))                             \
          : (flags & TORKETTLE_SKIP_PLUS ? torkettle_##kind##_plus##suffix(text, length)                                \
@@ -390,23 +461,36 @@ static inline size_t torkettle_rest_length(size_t length, char separator) TORKET
         return found;                                                                                                  \
     }                                                                                                                  \
                                                                                                                        \
+    TORKETTLE_INLINE_ torkettle_found_##name torkettle_read_##name(const char *text, size_t length, unsigned flags)    \
+        TORKETTLE_NOEXCEPT                                                                                             \
+    {                                                                                                                  \
+        torkettle_found_##name found;                                                                                  \
+        int64_t value = 0;                                                                                             \
+        found.length = torkettle_read_prefix(text, length, TORKETTLE_CAST_(type, -1) < 1, &value);                     \
+        found.value = TORKETTLE_CAST_(type, value);                                                                    \
+        if (found.length > 0 && TORKETTLE_CAST_(int64_t, found.value) == value)                                        \
+            return found;                                                                                              \
+        return TORKETTLE_PICK_(prefix, _##name);                                                                       \
+    }                                                                                                                  \
+                                                                                                                       \
     TORKETTLE_NEXT_(column, next, _##name)                                                                             \
     TORKETTLE_NEXT_(fields, next_field, _##name)                                                                       \
                                                                                                                        \
     static inline torkettle_status torkettle_parse_##name(const char *text, size_t length, unsigned flags,             \
                                                           type *value) TORKETTLE_NOEXCEPT                              \
     {                                                                                                                  \
-        torkettle_found_##name found = TORKETTLE_PICK_(whole, _##name);                                                \
+        torkettle_found_##name found =                                                                                 \
+            torkettle_whole_is_digit(text, length) ? torkettle_digit_##name(text) : TORKETTLE_PICK_(whole, _##name);   \
         if (found.length == 0)                                                                                         \
             return torkettle_refusal(torkettle_parse_error_##name(text, length, flags).status);                        \
         *value = found.value;                                                                                          \
         return TORKETTLE_OK;                                                                                           \
     }                                                                                                                  \
                                                                                                                        \
-    static inline torkettle_status torkettle_parse_prefix_##name(const char *text, size_t length, unsigned flags,      \
-                                                                 type *value, size_t *count) TORKETTLE_NOEXCEPT        \
+    TORKETTLE_INLINE_ torkettle_status torkettle_parse_prefix_##name(const char *text, size_t length, unsigned flags,  \
+                                                                     type *value, size_t *count) TORKETTLE_NOEXCEPT    \
     {                                                                                                                  \
-        torkettle_found_##name found = TORKETTLE_PICK_(prefix, _##name);                                               \
+        torkettle_found_##name found = torkettle_read_##name(text, length, flags);                                     \
         if (found.length == 0)                                                                                         \
             return torkettle_refusal(torkettle_parse_prefix_error_##name(text, length, flags).status);                 \
         *value = found.value;                                                                                          \
@@ -571,6 +655,7 @@ const char *torkettle_version(void) TORKETTLE_SYMBOL_(version);
 
 #undef TORKETTLE_ALIASES_
 #undef TORKETTLE_FUNCTIONS_
+#undef TORKETTLE_INLINE_
 #undef TORKETTLE_NEXT_
 #undef TORKETTLE_PICK_
 #undef TORKETTLE_CAST_

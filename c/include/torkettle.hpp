@@ -35,10 +35,9 @@ struct functions;
             return torkettle_whole_is_digit(text, length) ? torkettle_digit_##name(text)                               \
                                                           : torkettle_whole_zeroes_##name(text, length);               \
         }                                                                                                              \
-        static auto prefix(const char *text, std::size_t length) noexcept                                              \
+        [[gnu::always_inline]] static auto prefix(const char *text, std::size_t length) noexcept                       \
         {                                                                                                              \
-            return torkettle_prefix_is_digit(text, length) ? torkettle_digit_##name(text)                              \
-                                                           : torkettle_prefix_zeroes_##name(text, length);             \
+            return torkettle_read_##name(text, length, TORKETTLE_SKIP_ZEROES);                                         \
         }                                                                                                              \
         static auto canonical(const char *text, std::size_t length) noexcept                                           \
         {                                                                                                              \
@@ -119,7 +118,7 @@ using from_chars_result = std::from_chars_result;
 // out of range, returns the end of its digits and `std::errc::result_out_of_range`. An error leaves `value` as it is.
 // In C++23, a constant expression has to call `std::from_chars`.
 template <class T, std::enable_if_t<detail::is_integer<T>, int> = 0>
-inline from_chars_result from_chars(const char *first, const char *last, T &value) noexcept
+[[gnu::always_inline]] inline from_chars_result from_chars(const char *first, const char *last, T &value) noexcept
 {
     const auto found = detail::functions_of<T>::prefix(first, static_cast<std::size_t>(last - first));
     if (found.length == 0)

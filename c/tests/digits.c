@@ -1,6 +1,7 @@
 /*
- * Compares the inline functions of torkettle.h, which read one digit themselves, with the functions of the library that
- * they call otherwise: for every text of at most two bytes, and for columns that are mostly of one digit.
+ * Compares the inline functions of torkettle.h, which read short numbers themselves, with the functions of the library
+ * that they call otherwise: for every text of at most two bytes, for texts near 16 bytes, and for columns that are
+ * mostly of one digit.
  *
  * This file is C99 and C++.
  */
@@ -158,6 +159,33 @@ static void check_short_texts(void)
     }
 }
 
+/* Up to 17 digits, with and without a sign and zeros before them, and after them every byte, digits and commas. */
+static void check_longer_texts(void)
+{
+    static const char *const starts[] = {"", "-", "+", "--", "0", "-0", "+00", "-000000", "00000000"};
+    static const size_t lengths[] = {15, 16, 17, 24, 32};
+    size_t start, digits, size;
+    unsigned byte;
+    for (start = 0; start < sizeof starts / sizeof *starts; start++) {
+        for (digits = 0; digits <= 17; digits++) {
+            const size_t before = strlen(starts[start]) + digits;
+            for (size = 0; size < sizeof lengths / sizeof *lengths; size++) {
+                const size_t length = lengths[size];
+                char *text = allocated(length);
+                for (byte = 0; byte < 256 && before < length; byte++) {
+                    size_t at;
+                    for (at = 0; at < length; at++)
+                        text[at] = at > before && below(8) == 0 ? ',' : (char)('0' + (int)below(10));
+                    memcpy(text, starts[start], strlen(starts[start]));
+                    text[before] = (char)byte;
+                    ALL_TYPES(CHECK_TEXT)
+                }
+                free(text);
+            }
+        }
+    }
+}
+
 /* Every two bytes, with nothing or with a field after them, as fields and as lines. */
 static void check_short_columns(void)
 {
@@ -230,6 +258,7 @@ static void check_long_columns(unsigned long texts)
 int main(void)
 {
     check_short_texts();
+    check_longer_texts();
     check_short_columns();
     check_separators();
     check_long_columns(2000);
