@@ -25,11 +25,12 @@ pub record IsSized (int : IntType) : Type 0 where
   pub bits : is_size int.bits ≡ true
   pub greatest : int.greatest ≡ greatest_of int.bits int.signed
 
--- The fields of `int` are these constants of a type.
+-- The fields of `int`, which has one of the five sizes, are these constants of a type.
 pub record IsTypeOf (int : IntType) (bits : ℕ) (signed : Bool) (greatest : ℕ) : Type 0 where
   pub bits_are : int.bits ≡ bits
   pub sign_is : int.signed ≡ signed
   pub greatest_is : int.greatest ≡ greatest
+  pub sized : IsSized int
 
 -- A type's width class: at most 32 bits, 64, or 128.
 abbrev pub class_of : IntType → Class

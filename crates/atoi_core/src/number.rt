@@ -1,6 +1,6 @@
 //! What a parse needs to know of an integer type.
 ghost use Rattle.std.specs.Prelude.{◌≡◌, ◌+◌, ◌^◌, ◌<◌, ◌≤◌, ◌<ℤ◌, ◌↔◌, ℕ, ℤ, pos, Bool, true, false, IsTrue, refl};
-ghost use Rattle.atoi_core.specs.IntType.{IntType, IsSized, IsTypeOf, bound_of, limit_of, u8_type, i8_type, u16_type, i16_type, u32_type, i32_type, u64_type, i64_type, u128_type, i128_type, usize_type, isize_type};
+ghost use Rattle.atoi_core.specs.IntType.{IntType, IsTypeOf, bound_of, limit_of, u8_type, i8_type, u16_type, i16_type, u32_type, i32_type, u64_type, i64_type, u128_type, i128_type, usize_type, isize_type};
 ghost use Rattle.atoi_core.specs.Magnitude.{IsBound};
 ghost use Rattle.atoi_core.specs.Sign.{with_sign};
 
@@ -29,7 +29,10 @@ pub trait Number: Copy {
     /// Returns `value` as a number of the type.
     fn from_pos(value: u128) -> Self
         requires { value ≤ GREATEST }
-        ensures { number result ≡ pos value };
+        ensures { number result ≡ pos value }
+    {
+        Self::from_parts(false, value)
+    }
 
     /// Returns whether the value is negative, and its *magnitude*, the value without its sign.
     fn parts(self) -> (bool, u128)
@@ -44,8 +47,6 @@ pub trait Number: Copy {
         ensures { number result ≡ with_sign minus magnitude };
 
     ghost type_is: { IsTypeOf int_type BITS SIGNED GREATEST };
-
-    ghost sized: { IsSized int_type };
 }
 
 /// An integer type with negative values.
@@ -58,11 +59,12 @@ pub trait Signed: Number {
     /// Returns minus `magnitude`.
     fn from_neg(magnitude: u128) -> Self
         requires { magnitude ≤ LEAST_MAGNITUDE }
-        ensures { Self.number result ≡ with_sign true magnitude };
+        ensures { Self.number result ≡ with_sign true magnitude }
+    {
+        Self::from_parts(true, magnitude)
+    }
 
-    ghost signed: { Self.SIGNED ≡ true };
-
-    ghost least: { LEAST_MAGNITUDE ≡ Self.GREATEST + 1 };
+    ghost signed: { (Self.SIGNED ≡ true) × (LEAST_MAGNITUDE ≡ Self.GREATEST + 1) };
 }
 
 // Returns the magnitude of `T::MIN` if `minus` is set, otherwise `T::MAX`.
@@ -106,10 +108,6 @@ impl Number for u8 {
 
     ghost number = { λ x. pos x };
 
-    fn from_pos(value: u128) -> u8 {
-        value as u8
-    }
-
     fn parts(self) -> (bool, u128) {
         (false, u128::from(self))
     }
@@ -118,9 +116,7 @@ impl Number for u8 {
         magnitude as u8
     }
 
-    ghost type_is = { record { bits_are = refl; sign_is = refl; greatest_is = refl } };
-
-    ghost sized = { record { bits = refl; greatest = refl } };
+    ghost type_is = { record { bits_are = refl; sign_is = refl; greatest_is = refl; sized = record { bits = refl; greatest = refl } } };
 }
 
 impl Number for i8 {
@@ -140,10 +136,6 @@ impl Number for i8 {
 
     ghost number = { λ x. x };
 
-    fn from_pos(value: u128) -> i8 {
-        value as i8
-    }
-
     fn parts(self) -> (bool, u128) {
         (self < 0, u128::from(self.unsigned_abs()))
     }
@@ -152,9 +144,7 @@ impl Number for i8 {
         with_sign_64(minus, magnitude as u64) as i8
     }
 
-    ghost type_is = { record { bits_are = refl; sign_is = refl; greatest_is = refl } };
-
-    ghost sized = { record { bits = refl; greatest = refl } };
+    ghost type_is = { record { bits_are = refl; sign_is = refl; greatest_is = refl; sized = record { bits = refl; greatest = refl } } };
 }
 
 impl Signed for i8 {
@@ -162,13 +152,7 @@ impl Signed for i8 {
 
     ghost LEAST_MAGNITUDE = { 128 };
 
-    fn from_neg(magnitude: u128) -> i8 {
-        -(magnitude as i64) as i8
-    }
-
-    ghost signed = { refl };
-
-    ghost least = { refl };
+    ghost signed = { (refl, refl) };
 }
 
 impl Number for u16 {
@@ -188,10 +172,6 @@ impl Number for u16 {
 
     ghost number = { λ x. pos x };
 
-    fn from_pos(value: u128) -> u16 {
-        value as u16
-    }
-
     fn parts(self) -> (bool, u128) {
         (false, u128::from(self))
     }
@@ -200,9 +180,7 @@ impl Number for u16 {
         magnitude as u16
     }
 
-    ghost type_is = { record { bits_are = refl; sign_is = refl; greatest_is = refl } };
-
-    ghost sized = { record { bits = refl; greatest = refl } };
+    ghost type_is = { record { bits_are = refl; sign_is = refl; greatest_is = refl; sized = record { bits = refl; greatest = refl } } };
 }
 
 impl Number for i16 {
@@ -222,10 +200,6 @@ impl Number for i16 {
 
     ghost number = { λ x. x };
 
-    fn from_pos(value: u128) -> i16 {
-        value as i16
-    }
-
     fn parts(self) -> (bool, u128) {
         (self < 0, u128::from(self.unsigned_abs()))
     }
@@ -234,9 +208,7 @@ impl Number for i16 {
         with_sign_64(minus, magnitude as u64) as i16
     }
 
-    ghost type_is = { record { bits_are = refl; sign_is = refl; greatest_is = refl } };
-
-    ghost sized = { record { bits = refl; greatest = refl } };
+    ghost type_is = { record { bits_are = refl; sign_is = refl; greatest_is = refl; sized = record { bits = refl; greatest = refl } } };
 }
 
 impl Signed for i16 {
@@ -244,13 +216,7 @@ impl Signed for i16 {
 
     ghost LEAST_MAGNITUDE = { 32768 };
 
-    fn from_neg(magnitude: u128) -> i16 {
-        -(magnitude as i64) as i16
-    }
-
-    ghost signed = { refl };
-
-    ghost least = { refl };
+    ghost signed = { (refl, refl) };
 }
 
 impl Number for u32 {
@@ -270,10 +236,6 @@ impl Number for u32 {
 
     ghost number = { λ x. pos x };
 
-    fn from_pos(value: u128) -> u32 {
-        value as u32
-    }
-
     fn parts(self) -> (bool, u128) {
         (false, u128::from(self))
     }
@@ -282,9 +244,7 @@ impl Number for u32 {
         magnitude as u32
     }
 
-    ghost type_is = { record { bits_are = refl; sign_is = refl; greatest_is = refl } };
-
-    ghost sized = { record { bits = refl; greatest = refl } };
+    ghost type_is = { record { bits_are = refl; sign_is = refl; greatest_is = refl; sized = record { bits = refl; greatest = refl } } };
 }
 
 impl Number for i32 {
@@ -304,10 +264,6 @@ impl Number for i32 {
 
     ghost number = { λ x. x };
 
-    fn from_pos(value: u128) -> i32 {
-        value as i32
-    }
-
     fn parts(self) -> (bool, u128) {
         (self < 0, u128::from(self.unsigned_abs()))
     }
@@ -316,9 +272,7 @@ impl Number for i32 {
         with_sign_64(minus, magnitude as u64) as i32
     }
 
-    ghost type_is = { record { bits_are = refl; sign_is = refl; greatest_is = refl } };
-
-    ghost sized = { record { bits = refl; greatest = refl } };
+    ghost type_is = { record { bits_are = refl; sign_is = refl; greatest_is = refl; sized = record { bits = refl; greatest = refl } } };
 }
 
 impl Signed for i32 {
@@ -326,13 +280,7 @@ impl Signed for i32 {
 
     ghost LEAST_MAGNITUDE = { 2147483648 };
 
-    fn from_neg(magnitude: u128) -> i32 {
-        -(magnitude as i64) as i32
-    }
-
-    ghost signed = { refl };
-
-    ghost least = { refl };
+    ghost signed = { (refl, refl) };
 }
 
 impl Number for u64 {
@@ -352,10 +300,6 @@ impl Number for u64 {
 
     ghost number = { λ x. pos x };
 
-    fn from_pos(value: u128) -> u64 {
-        value as u64
-    }
-
     fn parts(self) -> (bool, u128) {
         (false, u128::from(self))
     }
@@ -364,9 +308,7 @@ impl Number for u64 {
         magnitude as u64
     }
 
-    ghost type_is = { record { bits_are = refl; sign_is = refl; greatest_is = refl } };
-
-    ghost sized = { record { bits = refl; greatest = refl } };
+    ghost type_is = { record { bits_are = refl; sign_is = refl; greatest_is = refl; sized = record { bits = refl; greatest = refl } } };
 }
 
 impl Number for i64 {
@@ -386,10 +328,6 @@ impl Number for i64 {
 
     ghost number = { λ x. x };
 
-    fn from_pos(value: u128) -> i64 {
-        value as i64
-    }
-
     fn parts(self) -> (bool, u128) {
         (self < 0, u128::from(self.unsigned_abs()))
     }
@@ -398,9 +336,7 @@ impl Number for i64 {
         with_sign_64(minus, magnitude as u64) as i64
     }
 
-    ghost type_is = { record { bits_are = refl; sign_is = refl; greatest_is = refl } };
-
-    ghost sized = { record { bits = refl; greatest = refl } };
+    ghost type_is = { record { bits_are = refl; sign_is = refl; greatest_is = refl; sized = record { bits = refl; greatest = refl } } };
 }
 
 impl Signed for i64 {
@@ -408,13 +344,7 @@ impl Signed for i64 {
 
     ghost LEAST_MAGNITUDE = { 9223372036854775808 };
 
-    fn from_neg(magnitude: u128) -> i64 {
-        -(magnitude as i128) as i64
-    }
-
-    ghost signed = { refl };
-
-    ghost least = { refl };
+    ghost signed = { (refl, refl) };
 }
 
 impl Number for u128 {
@@ -434,10 +364,6 @@ impl Number for u128 {
 
     ghost number = { λ x. pos x };
 
-    fn from_pos(value: u128) -> u128 {
-        value
-    }
-
     fn parts(self) -> (bool, u128) {
         (false, self)
     }
@@ -446,9 +372,7 @@ impl Number for u128 {
         magnitude
     }
 
-    ghost type_is = { record { bits_are = refl; sign_is = refl; greatest_is = refl } };
-
-    ghost sized = { record { bits = refl; greatest = refl } };
+    ghost type_is = { record { bits_are = refl; sign_is = refl; greatest_is = refl; sized = record { bits = refl; greatest = refl } } };
 }
 
 impl Number for i128 {
@@ -468,25 +392,21 @@ impl Number for i128 {
 
     ghost number = { λ x. x };
 
-    fn from_pos(value: u128) -> i128 {
-        value as i128
-    }
-
     fn parts(self) -> (bool, u128) {
         (self < 0, self.unsigned_abs())
     }
 
     fn from_parts(minus: bool, magnitude: u128) -> i128 {
-        if minus {
-            Self::from_neg(magnitude)
-        } else {
+        if !minus {
             magnitude as i128
+        } else if magnitude == Self::LEAST_MAGNITUDE {
+            i128::MIN
+        } else {
+            -(magnitude as i128)
         }
     }
 
-    ghost type_is = { record { bits_are = refl; sign_is = refl; greatest_is = refl } };
-
-    ghost sized = { record { bits = refl; greatest = refl } };
+    ghost type_is = { record { bits_are = refl; sign_is = refl; greatest_is = refl; sized = record { bits = refl; greatest = refl } } };
 }
 
 impl Signed for i128 {
@@ -494,18 +414,7 @@ impl Signed for i128 {
 
     ghost LEAST_MAGNITUDE = { 170141183460469231731687303715884105728 };
 
-    fn from_neg(magnitude: u128) -> i128 {
-        if magnitude == Self::LEAST_MAGNITUDE {
-            i128::MIN
-        } else {
-            let positive = magnitude as i128;
-            -positive
-        }
-    }
-
-    ghost signed = { refl };
-
-    ghost least = { refl };
+    ghost signed = { (refl, refl) };
 }
 
 impl Number for usize {
@@ -525,10 +434,6 @@ impl Number for usize {
 
     ghost number = { λ x. pos x };
 
-    fn from_pos(value: u128) -> usize {
-        value as usize
-    }
-
     fn parts(self) -> (bool, u128) {
         (false, self as u128)
     }
@@ -537,9 +442,7 @@ impl Number for usize {
         magnitude as usize
     }
 
-    ghost type_is = { record { bits_are = refl; sign_is = refl; greatest_is = refl } };
-
-    ghost sized = { record { bits = refl; greatest = refl } };
+    ghost type_is = { record { bits_are = refl; sign_is = refl; greatest_is = refl; sized = record { bits = refl; greatest = refl } } };
 }
 
 impl Number for isize {
@@ -559,10 +462,6 @@ impl Number for isize {
 
     ghost number = { λ x. x };
 
-    fn from_pos(value: u128) -> isize {
-        value as isize
-    }
-
     fn parts(self) -> (bool, u128) {
         (self < 0, self.unsigned_abs() as u128)
     }
@@ -571,9 +470,7 @@ impl Number for isize {
         with_sign_64(minus, magnitude as u64) as isize
     }
 
-    ghost type_is = { record { bits_are = refl; sign_is = refl; greatest_is = refl } };
-
-    ghost sized = { record { bits = refl; greatest = refl } };
+    ghost type_is = { record { bits_are = refl; sign_is = refl; greatest_is = refl; sized = record { bits = refl; greatest = refl } } };
 }
 
 impl Signed for isize {
@@ -581,11 +478,5 @@ impl Signed for isize {
 
     ghost LEAST_MAGNITUDE = { 9223372036854775808 };
 
-    fn from_neg(magnitude: u128) -> isize {
-        -(magnitude as i128) as isize
-    }
-
-    ghost signed = { refl };
-
-    ghost least = { refl };
+    ghost signed = { (refl, refl) };
 }

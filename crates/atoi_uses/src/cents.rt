@@ -26,10 +26,6 @@ impl Number for Cents {
 
     ghost number = { λ amount. amount.0 };
 
-    fn from_pos(value: u128) -> Cents {
-        Cents(i64::from_pos(value))
-    }
-
     fn parts(self) -> (bool, u128) {
         self.0.parts()
     }
@@ -38,9 +34,7 @@ impl Number for Cents {
         Cents(i64::from_parts(minus, magnitude))
     }
 
-    ghost type_is = { record { bits_are = refl; sign_is = refl; greatest_is = refl } };
-
-    ghost sized = { record { bits = refl; greatest = refl } };
+    ghost type_is = { record { bits_are = refl; sign_is = refl; greatest_is = refl; sized = record { bits = refl; greatest = refl } } };
 }
 
 impl Signed for Cents {
@@ -48,13 +42,7 @@ impl Signed for Cents {
 
     ghost LEAST_MAGNITUDE = { 9223372036854775808 };
 
-    fn from_neg(magnitude: u128) -> Cents {
-        Cents(i64::from_neg(magnitude))
-    }
-
-    ghost signed = { refl };
-
-    ghost least = { refl };
+    ghost signed = { (refl, refl) };
 }
 
 impl ParseNeg for Cents {

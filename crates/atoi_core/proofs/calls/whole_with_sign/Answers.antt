@@ -15,7 +15,7 @@ decided : (g : _) (c : After-whole_short g) → map_answer (with_sign c.args.min
     ≡ whole_answer g.E.Engine.table g.T.Number.int_type c.args.minus c.args.skip c.args.s.now
 decided g c =
     ap (map_answer (with_sign c.args.minus)) (rw c.greatest_magnitude-bound.ensures.value at c.whole_short.ensures.answer
-    ∙ short_decides g.E.Engine.table g.met.E.Engine.below_ten g.T.Number.int_type c.args.s.now c.if-s-lt16.true g.met.T.Number.sized c.args.minus c.args.skip)
+    ∙ short_decides g.E.Engine.table g.met.E.Engine.below_ten g.T.Number.int_type c.args.s.now c.if-s-lt16.true g.met.T.Number.type_is.sized c.args.minus c.args.skip)
 
 pub returns-in_err-magnitude-clause-answer : goal.returns-in_err-magnitude-clause-answer
 returns-in_err-magnitude-clause-answer g c =
