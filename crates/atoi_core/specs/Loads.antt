@@ -26,7 +26,11 @@ pub record LoadsWithin (most : ℕ) (table : Table) (skip : Bool) (s : List ℕ)
   pub at_least : 0 < length s → before < after
   pub at_least_skipping : IsTrue skip → before + zeros table s / 32 ≤ after
 
+-- For a width class.
+abbrev pub ClassLoads : Table → Class → Bool → List ℕ → (before after : ℕ) → Type 0
+ClassLoads table class skip s before after = LoadsWithin (most_loads table class s) table skip s before after
+
 -- For an integer type, by its width class.
 abbrev pub TypedLoads : Table → IntType → Extent → Bool → List ℕ → (before after : ℕ) → Type 0
 TypedLoads table int extent skip s before after =
-    LoadsWithin (most_loads table (class_of int) s) table (skips_zeros (class_of int) extent skip) s before after
+    ClassLoads table (class_of int) (skips_zeros (class_of int) extent skip) s before after

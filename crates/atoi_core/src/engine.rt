@@ -1,7 +1,7 @@
 //! The reads that parsers make, and the parses of wide integers that they are enough for.
 ghost use Rattle.std.specs.Prelude.{◌≡◌, ◌+◌, ◌≤◌};
 ghost use Rattle.atoi_core.specs.Digit.{Table, IsBelowTen};
-ghost use Rattle.atoi_core.specs.Loads.{LoadsWithin, most_loads};
+ghost use Rattle.atoi_core.specs.Loads.{ClassLoads};
 ghost use Rattle.atoi_core.specs.Magnitude.{HasDigits, IsBound64, wide64, wide128, prefix_magnitude};
 ghost use Rattle.atoi_core.specs.Refusal.{answer_of};
 ghost use Rattle.atoi_core.specs.Reading.{window_of};
@@ -44,8 +44,7 @@ pub trait Engine {
     ) -> Result<(u64, usize), AtoiSimdError<'a>>
         requires bound { IsBound64 limit bound }
         ensures answer { answer_of result ≡ prefix_magnitude table wide64 bound limit skip s.now }
-        ensures loads { LoadsWithin (most_loads table wide64 s.now) table skip s.now
-            steps.old steps.new }
+        ensures loads { ClassLoads table wide64 skip s.now steps.old steps.new }
     {
         let mut at = 0;
         let mut first = Self::window(s, steps);
@@ -70,8 +69,7 @@ pub trait Engine {
     ) -> Result<(u128, usize), AtoiSimdError<'a>>
         requires digits { HasDigits 39 bound }
         ensures answer { answer_of result ≡ prefix_magnitude table wide128 bound 39 skip s.now }
-        ensures loads { LoadsWithin (most_loads table wide128 s.now) table skip s.now
-            steps.old steps.new }
+        ensures loads { ClassLoads table wide128 skip s.now steps.old steps.new }
     {
         let mut skipped = 0;
         let mut first = Self::window(s, steps);

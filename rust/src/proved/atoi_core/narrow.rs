@@ -1,6 +1,6 @@
 /* Made by .ci/erase from crates/atoi_core/src/narrow.rt. Do not edit. */ //! Parsers of integers of at most 32 bits, whose last window decides the answer.
 // ghost use Rattle.std.specs.Prelude.{◌≡◌, ◌+◌, ◌-◌, ◌<◌, ◌≤◌, ◌==◌, true, false, not, ◌&&◌, ◌||◌, nat_lt, if◌then◌else◌, Ok, Err, length, take, drop};
-// ghost use Rattle.atoi_core.specs.Loads.{LoadsWithin, most_loads};
+// ghost use Rattle.atoi_core.specs.Loads.{ClassLoads, LoadsWithin, most_loads};
 // ghost use Rattle.atoi_core.specs.Magnitude.{narrow, whole_magnitude, prefix_magnitude};
 // ghost use Rattle.atoi_core.specs.Refusal.{answer_of, empty, overflow};
 // ghost use Rattle.atoi_core.specs.Run.{run_len};
@@ -26,8 +26,7 @@ pub fn narrow_prefix<'a, E: Engine>(
     // requires low { 9 ≤ bound }
     // requires high { bound ≤ 4294967295 }
     // ensures answer { answer_of result ≡ prefix_magnitude E.table narrow bound 0 skip s.now }
-    // ensures loads { LoadsWithin (most_loads E.table narrow s.now) E.table skip s.now
-    //     steps.old steps.new }
+    // ensures loads { ClassLoads E.table narrow skip s.now steps.old steps.new }
     // ensures unskipped { skip ≡ false → steps.new ≡ steps.old
     //     + (if nat_lt (run_len E.table s.now) 16 then 1 else 2) }
 {
@@ -64,8 +63,7 @@ pub fn narrow_whole_windows<'a, E: Engine>(
     // requires low { 9 ≤ bound }
     // requires high { bound ≤ 4294967295 }
     // ensures answer { answer_of result ≡ whole_magnitude E.table narrow bound 0 false s.now }
-    // ensures loads { LoadsWithin (most_loads E.table narrow s.now) E.table true s.now
-    //     steps.old steps.new }
+    // ensures loads { ClassLoads E.table narrow true s.now steps.old steps.new }
 {
     let window = E::window(s, steps);
     if window.zeroes > 0 {

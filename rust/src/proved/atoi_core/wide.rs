@@ -1,6 +1,6 @@
 /* Made by .ci/erase from crates/atoi_core/src/wide.rt. Do not edit. */ //! Parsers of all of a slice as an integer of 64 or 128 bits.
 // ghost use Rattle.std.specs.Prelude.{◌≡◌, ◌≤◌};
-// ghost use Rattle.atoi_core.specs.Loads.{LoadsWithin, most_loads};
+// ghost use Rattle.atoi_core.specs.Loads.{ClassLoads};
 // ghost use Rattle.atoi_core.specs.Magnitude.{HasDigits, IsBound64, wide64, wide128, whole_magnitude};
 // ghost use Rattle.atoi_core.specs.Refusal.{answer_of};
 
@@ -21,8 +21,7 @@ pub fn whole_64<'a, E: Engine>(
 ) -> Result<u64, AtoiSimdError<'a>>
     // requires bound { IsBound64 limit bound }
     // ensures answer { answer_of result ≡ whole_magnitude E.table wide64 bound limit skip s.now }
-    // ensures loads { LoadsWithin (most_loads E.table wide64 s.now) E.table skip s.now
-    //     steps.old steps.new }
+    // ensures loads { ClassLoads E.table wide64 skip s.now steps.old steps.new }
 {
     let (number, len) = E::prefix_64(bound, limit, skip, s, steps)?;
     if len == s.len() {
@@ -44,8 +43,7 @@ pub fn whole_128<'a, E: Engine>(
 ) -> Result<u128, AtoiSimdError<'a>>
     // requires digits { HasDigits 39 bound }
     // ensures answer { answer_of result ≡ whole_magnitude E.table wide128 bound 39 skip s.now }
-    // ensures loads { LoadsWithin (most_loads E.table wide128 s.now) E.table skip s.now
-    //     steps.old steps.new }
+    // ensures loads { ClassLoads E.table wide128 skip s.now steps.old steps.new }
 {
     let (number, len) = E::prefix_128(bound, skip, s, steps)?;
     if len == s.len() {
