@@ -1,5 +1,5 @@
 //! The text of an error, written into a slice.
-ghost use Rattle.std.specs.Prelude.{◌≡◌, ◌+◌, ◌-◌, ◌*◌, ◌/◌, ◌%◌, ◌^◌, ◌<◌, ◌≤◌, ◌∷◌, [], ◌++◌, true, Some, length, take, codes, decimal, IsAscii};
+ghost use Rattle.std.specs.Prelude.{◌≡◌, ◌+◌, ◌-◌, ◌*◌, ◌/◌, ◌%◌, ◌^◌, ◌<◌, ◌≤◌, ◌++◌, true, Some, length, take, codes, decimal, IsAscii};
 ghost use Rattle.std.specs.Fmt.{digit_glyph};
 ghost use Rattle.atoi_core.specs.ErrorText.{hex_text, hex_list, input_text, invalid_text, error_text};
 ghost use Rattle.atoi_core.specs.Refusal.{refusal_of};
@@ -124,15 +124,6 @@ fn put_bytes(bytes: &[u8], out: &mut [u8], at: usize) -> usize
     end
 }
 
-fn put_byte(byte: u8, out: &mut [u8], at: usize) -> usize
-    requires { at < length out.old }
-    ensures written { take result out.new ≡ take at out.old ++ byte ∷ [] }
-    ensures place { result ≡ at + 1 }
-{
-    out[at] = byte;
-    at + 1
-}
-
 #[tactic(auto, using(crate::proofs::lemmas::ErrorTexts::of_decimal))]
 fn put_decimal(value: u128, out: &mut [u8], at: usize) -> usize
     requires { at + 39 ≤ length out.old }
@@ -148,7 +139,7 @@ fn put_decimal(value: u128, out: &mut [u8], at: usize) -> usize
     } else {
         put_decimal(tens, out, at)
     };
-    put_byte(b'0' + ones, out, end)
+    put_bytes(&[b'0' + ones], out, end)
 }
 
 // A long division in base 2^32. On most processors, a 128-bit division calls a function that a library
@@ -173,10 +164,10 @@ fn put_hex(byte: u8, out: &mut [u8], at: usize) -> usize
 {
     let last = hex_digit(byte % 16);
     if byte < 16 {
-        return put_byte(last, out, at);
+        return put_bytes(&[last], out, at);
     }
-    let end = put_byte(hex_digit(byte / 16), out, at);
-    put_byte(last, out, end)
+    let end = put_bytes(&[hex_digit(byte / 16)], out, at);
+    put_bytes(&[last], out, end)
 }
 
 fn hex_digit(digit: u8) -> u8
