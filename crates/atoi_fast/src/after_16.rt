@@ -1,10 +1,9 @@
 //! The answer of a prefix of 64 bits after its first sixteen digits, from words of four bytes.
 ghost use Rattle.std.specs.Prelude.{◌≡◌, ◌+◌, ◌-◌, ◌<◌, ◌≤◌, nat_lt, if◌then◌else◌, length, take, drop, false, Ok, Err, MatchOption};
 ghost use Rattle.atoi_core.specs.Digit.{decimal_table};
-ghost use Rattle.atoi_core.specs.Magnitude.{HasDigits, IsBound64, wide64, prefix_magnitude};
+ghost use Rattle.atoi_core.specs.Magnitude.{IsBound64, wide64, prefix_magnitude};
 ghost use Rattle.atoi_core.specs.Refusal.{answer_of, overflow};
 ghost use Rattle.atoi_core.specs.Run.{run_len, value};
-ghost use Rattle.atoi_core.specs.Words.{word_of};
 
 use crate::digits::{
     digits_of, digits_of_four, starts_with_digit_of_four, value_after, value_up_to_4,
@@ -14,11 +13,8 @@ use atoi_core::powers::{append_digits, power_of_ten};
 use atoi_core::wide_answer::answer_64;
 use atoi_core::{AtoiSimdError, Steps};
 
-/// Returns the answer of `prefix_64` that skips no zeros, after 16 digits, which spell `high`.
-///
-/// # Errors
-///
-/// `Size` and `Overflow`.
+/// Returns the answer of `prefix_64` that skips no zeros, after 16 digits, which spell `high`. The
+/// errors are `Size` and `Overflow`.
 #[inline(always)]
 pub(crate) fn answer_after_16<'a>(
     bound: u64,
@@ -115,25 +111,6 @@ fn answer_by_word<'a>(
     if !starts_with_digit_of_four(word) {
         return Ok((high, 16));
     }
-    answer_from_17(bound, limit, high, word, s)
-}
-
-// `answer_by_word` if a digit follows. `word` has the four bytes after 16.
-#[inline(always)]
-fn answer_from_17<'a>(
-    bound: u64,
-    limit: u32,
-    high: u64,
-    word: u32,
-    s: &'a [u8],
-) -> Result<(u64, usize), AtoiSimdError<'a>>
-    requires limit_high { limit ≤ 20 }
-    requires digits { HasDigits limit bound }
-    requires full { 17 ≤ run_len decimal_table s.now }
-    requires number { high ≡ value decimal_table (take 16 s.now) }
-    requires loaded { word ≡ word_of (take 4 (drop 16 s.now)) }
-    ensures { answer_of result ≡ prefix_magnitude decimal_table wide64 bound limit false s.now }
-{
     let more = digits_of_four(word);
     if more == 4 {
         let number = append_digits(high, 4, u64::from(value_up_to_4(word, 4)));
@@ -144,7 +121,7 @@ fn answer_from_17<'a>(
     answer_64(bound, limit, 0, 16 + more, u128::from(number), s)
 }
 
-// `answer_from_17` after 20 digits, which spell `number`.
+// `answer_by_word` after 20 digits, which spell `number`.
 #[inline(always)]
 fn answer_from_20<'a>(
     bound: u64,
@@ -167,8 +144,5 @@ fn answer_from_20<'a>(
 pub(crate) fn begins_with_digit(s: &[u8]) -> bool
     ensures { result ≡ nat_lt 0 (run_len decimal_table s.now) }
 {
-    match s.first() {
-        Some(byte) => byte.is_ascii_digit(),
-        None => false,
-    }
+    matches!(s, [b'0'..=b'9', ..])
 }

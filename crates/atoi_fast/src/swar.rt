@@ -1,12 +1,10 @@
 //! The engine `Swar`, which reads a window as one word of eight bytes, or as two.
-ghost use Rattle.std.specs.Prelude.{◌≡◌, ◌+◌, ◌-◌, ◌*◌, ◌^◌, ◌<◌, ◌≤◌, ◌==◌, true, if◌then◌else◌, length, drop};
+ghost use Rattle.std.specs.Prelude.{◌≡◌, ◌+◌, ◌-◌, ◌*◌, ◌^◌, ◌<◌, ◌≤◌, ◌==◌, true, length, drop};
 ghost use Rattle.atoi_core.specs.Digit.{decimal_table};
 ghost use Rattle.atoi_core.specs.Loads.{LoadsWithin, most_loads};
 ghost use Rattle.atoi_core.specs.Magnitude.{HasDigits, IsBound64, wide64, wide128, prefix_magnitude};
 ghost use Rattle.atoi_core.specs.Reading.{answer_by_digits, window_of};
 ghost use Rattle.atoi_core.specs.Refusal.{answer_of};
-ghost use Rattle.atoi_core.specs.Run.{run_len, zeros};
-ghost use Rattle.atoi_core.specs.Words.{low_bytes, low_value};
 ghost use Rattle.std.proofs.Common.{arith};
 ghost use Rattle.std.proofs.lemmas.Bool.Decides.{nat_tests};
 
@@ -46,7 +44,13 @@ impl Engine for Swar {
         if s.len() < 8 {
             return short_window(s);
         }
-        window_of_word(load_full(s))
+        let word = load_full(s);
+        let len = digits_of(word);
+        Window {
+            len,
+            zeroes: if len == 8 { zeroes_of(word) } else { 0 },
+            number: number_in_word(word, len),
+        }
     }
 
     /// Enters a loop only if there are zeros to skip.
@@ -264,21 +268,5 @@ fn medium_window(s: &[u8]) -> Window
             size - 8 + more,
             high * power_of_ten(more) + value_of(last, more),
         )
-    }
-}
-
-// The window of 8 bytes.
-#[inline(always)]
-fn window_of_word(word: u64) -> Window
-    ensures len { result.len ≡ run_len decimal_table (low_bytes 8 word) }
-    ensures zeroes { result.zeroes
-        ≡ (if result.len == 8 then zeros decimal_table (low_bytes 8 word) else 0) }
-    ensures number { result.number ≡ low_value (low_bytes result.len word) }
-{
-    let len = digits_of(word);
-    Window {
-        len,
-        zeroes: if len == 8 { zeroes_of(word) } else { 0 },
-        number: number_in_word(word, len),
     }
 }

@@ -124,12 +124,7 @@ pub(crate) fn len_lanes(v: u8x16) -> u32
     ensures len { result ≡ run_len decimal_table v }
     ensures most { result ≤ 16 }
 {
-    let others = others(v);
-    if others == 0 {
-        16
-    } else {
-        others.trailing_zeros()
-    }
+    others(v).trailing_zeros()
 }
 
 // Returns one bit for each lane, the lowest for the first: 1 if the lane is no digit.

@@ -1,8 +1,8 @@
 //! Windows of 32 bytes, in two vectors of sixteen.
-ghost use Rattle.std.specs.Prelude.{◌≡◌, ◌+◌, ◌*◌, ◌^◌, ◌≤◌, ◌==◌, ◌++◌, if◌then◌else◌, ◌<◌, length, take, drop, replicate};
+ghost use Rattle.std.specs.Prelude.{◌≡◌, ◌+◌, ◌==◌, if◌then◌else◌, drop};
 ghost use Rattle.atoi_core.specs.Digit.{decimal_table};
 ghost use Rattle.atoi_core.specs.Reading.{Reading};
-ghost use Rattle.atoi_core.specs.Run.{run_len, zeros, value};
+ghost use Rattle.atoi_core.specs.Run.{zeros};
 ghost use Rattle.atoi_core.specs.Lanes.{padded_start};
 
 use crate::vectors::bytes::{len_lanes, load_lanes, shuffle, sum_lanes, zeroes_lanes};
@@ -37,33 +37,31 @@ pub(crate) fn window_32(s: &[u8], steps: &mut Steps) -> Window32
     }
     let second = load_second(s);
     let more = len_lanes(second);
+    let high = sum_lanes(first, 16);
+    let number = if more == 0 {
+        u128::from(high)
+    } else {
+        append_digits(high, more, sum_lanes(second, more))
+    };
     Window32 {
         len: 16 + more,
         zeroes: zeroes_of_both(first, second),
-        number: number_in_two(first, second, more),
+        number,
     }
 }
 
 // Returns the 16 bytes after the first 16. A missing byte is 0.
+#[tactic(auto, using(crate::proofs::lemmas::Shuffles::after_first_16))]
 pub(crate) fn load_second(s: &[u8]) -> u8x16
     ensures { result ≡ padded_start 16 (drop 16 s.now) }
 {
     if s.len() >= 32 {
-        load_lanes(&s[16..])
-    } else if s.len() >= 16 {
-        load_last_after_16(s)
-    } else {
-        u8x16::splat(0)
+        return load_lanes(&s[16..]);
     }
-}
-
-// `load_second` for 16 to 31 bytes. One shuffle moves the last 16 to the start.
-#[tactic(auto, using(crate::proofs::lemmas::Shuffles::after_first_16))]
-fn load_last_after_16(s: &[u8]) -> u8x16
-    requires enough { 16 ≤ length s.now }
-    requires few { length s.now < 32 }
-    ensures { result ≡ padded_start 16 (drop 16 s.now) }
-{
+    if s.len() < 16 {
+        return u8x16::splat(0);
+    }
+    // One shuffle moves the last 16 to the start.
     shuffle(u8x16::from_slice(&s[s.len() - 16..]), 48 - s.len())
 }
 
@@ -81,20 +79,4 @@ fn zeroes_of_both(first: u8x16, second: u8x16) -> u32
     } else {
         zeroes
     }
-}
-
-// Returns the number that the lanes of `first` and then the first `more` of `second` spell.
-#[inline(always)]
-fn number_in_two(first: u8x16, second: u8x16, more: u32) -> u128
-    requires within { more ≤ 16 }
-    requires full { 16 ≤ run_len decimal_table first }
-    requires digits { more ≤ run_len decimal_table second }
-    ensures { result ≡ value decimal_table (take 16 first) * 10 ^ more
-        + value decimal_table (take more second) }
-{
-    let high = sum_lanes(first, 16);
-    if more == 0 {
-        return u128::from(high);
-    }
-    append_digits(high, more, sum_lanes(second, more))
 }

@@ -10,12 +10,14 @@ pub(crate) mod bytes;
 pub(crate) mod wide;
 pub(crate) mod window_32;
 
+use crate::proved::atoi_fast::after_16::answer_after_16;
 use crate::proved::atoi_fast::digits::number_in_word;
 use crate::proved::atoi_fast::loads::load_full;
 use crate::proved::atoi_fast::vectors::bytes::{
     load_lanes, others, read_medium, short_window, sum_lanes, zeroes_lanes,
 };
-use crate::proved::atoi_fast::vectors::wide::{prefix_64_vectors, prefix_128_vectors};
+use crate::proved::atoi_fast::vectors::wide::{answer_128_after_16, prefix_64_after_zeros, prefix_128_after_zeros};
+use crate::proved::atoi_core::wide_answer::found_or_empty;
 use crate::proved::atoi_core::{AtoiSimdError, Engine, Steps, Window};
 use crate::simd::prelude::*;
 
@@ -52,7 +54,22 @@ impl Engine for Vectors {
         s: &'a [u8],
         steps: &mut Steps,
     ) -> Result<(u64, usize), AtoiSimdError<'a>> {
-        prefix_64_vectors(bound, limit, skip, s, steps)
+        steps.tick();
+        // In this order, LLVM puts no jump before long slices.
+        if s.len() >= 16 {
+            let first = load_lanes(s);
+            let others = others(first);
+            if others != 0 {
+                let len = others.trailing_zeros();
+                return found_or_empty(sum_lanes(first, len), len as usize);
+            }
+            if skip && s[0] == b'0' {
+                return prefix_64_after_zeros(bound, limit, s, steps);
+            }
+            return answer_after_16(bound, limit, sum_lanes(first, 16), s, steps);
+        }
+        let only = window_below_16(s);
+        found_or_empty(only.number, only.len as usize)
     }
 
     #[inline(always)]
@@ -62,7 +79,21 @@ impl Engine for Vectors {
         s: &'a [u8],
         steps: &mut Steps,
     ) -> Result<(u128, usize), AtoiSimdError<'a>> {
-        prefix_128_vectors(bound, skip, s, steps)
+        steps.tick();
+        if s.len() >= 16 {
+            let first = load_lanes(s);
+            let others = others(first);
+            if others != 0 {
+                let len = others.trailing_zeros();
+                return found_or_empty(u128::from(sum_lanes(first, len)), len as usize);
+            }
+            if skip && s[0] == b'0' {
+                return prefix_128_after_zeros(bound, s, steps);
+            }
+            return answer_128_after_16(bound, sum_lanes(first, 16), s, steps);
+        }
+        let only = window_below_16(s);
+        found_or_empty(u128::from(only.number), only.len as usize)
     }
 
     // ghost below_ten = { λ byte. Prim.grind (arith, nat_tests) };

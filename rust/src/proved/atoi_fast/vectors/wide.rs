@@ -1,94 +1,23 @@
-/* Made by .ci/erase from crates/atoi_fast/src/vectors/wide.rt. Do not edit. */ //! The parsers of 64 and 128 bits of `Vectors`. To skip zeros, they read 32 bytes at once, from the start again.
+/* Made by .ci/erase from crates/atoi_fast/src/vectors/wide.rt. Do not edit. */ //! How `Vectors` parses 64 and 128 bits after 16 digits. To skip zeros, it reads 32 bytes at once, from the start.
 // ghost use Rattle.std.specs.Prelude.{◌≡◌, ◌+◌, ◌*◌, ◌/◌, ◌<◌, ◌≤◌, MatchOption, length, take, drop, min, true, false};
 // ghost use Rattle.atoi_core.specs.Digit.{decimal_table};
-// ghost use Rattle.atoi_core.specs.Loads.{LoadsWithin, most_loads};
-// ghost use Rattle.atoi_core.specs.Magnitude.{HasDigits, IsBound64, wide64, wide128, prefix_magnitude};
+// ghost use Rattle.atoi_core.specs.Magnitude.{HasDigits, wide64, wide128, prefix_magnitude};
 // ghost use Rattle.atoi_core.specs.Refusal.{answer_of};
 // ghost use Rattle.atoi_core.specs.Run.{run_len, value, zeros};
 // ghost use Rattle.atoi_fast.specs.Vectors.{ReadsAfterZeros};
 
-use crate::proved::atoi_fast::after_16::{answer_after_16, begins_with_digit};
+use crate::proved::atoi_fast::after_16::begins_with_digit;
 use crate::proved::atoi_fast::swar::answer_after_32;
 use crate::proved::atoi_fast::vectors::bytes::{load_lanes, others, sum_lanes, sum_last_lanes};
+use crate::proved::atoi_fast::vectors::read_window;
 use crate::proved::atoi_fast::vectors::window_32::{Window32, window_32};
-use crate::proved::atoi_fast::vectors::{read_window, window_below_16};
 use crate::proved::atoi_core::powers::append_digits;
 use crate::proved::atoi_core::wide_answer::{answer_64, found_or_empty};
 use crate::proved::atoi_core::{AtoiSimdError, Steps};
 
-/// `Engine::prefix_64` of `Vectors`.
-///
-/// # Errors
-///
-/// `Empty`, `Size` and `Overflow`.
+// The answer of `prefix_128` of `Vectors` that skips no zeros, after 16 digits, which spell `high`.
 #[inline(always)]
-pub(crate) fn prefix_64_vectors<'a>(
-    bound: u64,
-    limit: u32,
-    skip: bool,
-    s: &'a [u8],
-    steps: &mut Steps,
-) -> Result<(u64, usize), AtoiSimdError<'a>>
-    // requires bound { IsBound64 limit bound }
-    // ensures answer { answer_of result ≡ prefix_magnitude decimal_table wide64 bound limit skip s.now }
-    // ensures loads { LoadsWithin (most_loads decimal_table wide64 s.now) decimal_table skip s.now
-    //     steps.old steps.new }
-{
-    steps.tick();
-    // In this order, LLVM puts no jump before long slices.
-    if s.len() >= 16 {
-        let first = load_lanes(s);
-        let others = others(first);
-        if others != 0 {
-            let len = others.trailing_zeros();
-            return found_or_empty(sum_lanes(first, len), len as usize);
-        }
-        if skip && s[0] == b'0' {
-            return prefix_64_after_zeros(bound, limit, s, steps);
-        }
-        return answer_after_16(bound, limit, sum_lanes(first, 16), s, steps);
-    }
-    let only = window_below_16(s);
-    found_or_empty(only.number, only.len as usize)
-}
-
-/// `Engine::prefix_128` of `Vectors`.
-///
-/// # Errors
-///
-/// `Empty`, `Size` and `Overflow`.
-#[inline(always)]
-pub(crate) fn prefix_128_vectors<'a>(
-    bound: u128,
-    skip: bool,
-    s: &'a [u8],
-    steps: &mut Steps,
-) -> Result<(u128, usize), AtoiSimdError<'a>>
-    // requires digits { HasDigits 39 bound }
-    // ensures answer { answer_of result ≡ prefix_magnitude decimal_table wide128 bound 39 skip s.now }
-    // ensures loads { LoadsWithin (most_loads decimal_table wide128 s.now) decimal_table skip s.now
-    //     steps.old steps.new }
-{
-    steps.tick();
-    if s.len() >= 16 {
-        let first = load_lanes(s);
-        let others = others(first);
-        if others != 0 {
-            let len = others.trailing_zeros();
-            return found_or_empty(u128::from(sum_lanes(first, len)), len as usize);
-        }
-        if skip && s[0] == b'0' {
-            return prefix_128_after_zeros(bound, s, steps);
-        }
-        return answer_128_after_16(bound, sum_lanes(first, 16), s, steps);
-    }
-    let only = window_below_16(s);
-    found_or_empty(u128::from(only.number), only.len as usize)
-}
-
-// The answer of `prefix_128_vectors` that skips no zeros, after 16 digits, which spell `high`.
-#[inline(always)]
-fn answer_128_after_16<'a>(
+pub(crate) fn answer_128_after_16<'a>(
     bound: u128,
     high: u64,
     s: &'a [u8],
@@ -140,9 +69,9 @@ fn number_after_16(s: &[u8]) -> Option<u64>
     Some(sum_last_lanes(last, more))
 }
 
-// `prefix_64_vectors` with `skip`.
+// `prefix_64` of `Vectors` with `skip`.
 #[inline(never)]
-fn prefix_64_after_zeros<'a>(
+pub(crate) fn prefix_64_after_zeros<'a>(
     bound: u64,
     limit: u32,
     s: &'a [u8],
@@ -166,9 +95,9 @@ fn prefix_64_after_zeros<'a>(
     )
 }
 
-// `prefix_128_vectors` with `skip`.
+// `prefix_128` of `Vectors` with `skip`.
 #[inline(never)]
-fn prefix_128_after_zeros<'a>(
+pub(crate) fn prefix_128_after_zeros<'a>(
     bound: u128,
     s: &'a [u8],
     steps: &mut Steps,

@@ -7,8 +7,8 @@ use Rattle.atoi_core.proofs.lemmas.Readings.{within}
 use Rattle.atoi_fast.proofs.lemmas.LaneWindows.{full_lanes, reading_of_lanes}
 use Rattle.atoi_fast.proofs.lemmas.Unskipped.{unskipped}
 use Rattle.atoi_fast.proofs.lemmas.VectorAnswers.{ended_in_16, first_decides, one_load, reading_of_window}
-use Rattle.atoi_fast.proofs.vectors.wide.prefix_64_vectors.Goals as goal
-use Rattle.atoi_fast.proofs.vectors.wide.prefix_64_vectors.Goals.{else-skip-via-then-skip+else-s-eq48, else-skip-via-else-skip}
+use Rattle.atoi_fast.proofs.vectors.VectorsEngine.prefix_64.Goals as goal
+use Rattle.atoi_fast.proofs.vectors.VectorsEngine.prefix_64.Goals.{else-skip-via-then-skip+else-s-eq48, else-skip-via-else-skip}
 
 pub returns-then-others-ne0-clause-answer : goal.returns-then-others-ne0-clause-answer
 returns-then-others-ne0-clause-answer c =

@@ -1,0 +1,10 @@
+-- Without a lane that is no digit, all sixteen bits of the mask are zeros.
+use Rattle.std.proofs.Common.{inl, inr, sym}
+use Rattle.std.proofs.Math.Nat.{eq-zero-or-pos}
+use Rattle.atoi_fast.proofs.vectors.bytes.len_lanes.Goals as goal
+
+pub returns-clause-len : goal.returns-clause-len
+unfolding lib.Count.count_trailing_zeros
+returns-clause-len c =
+    let e = c.others.ensures in
+    elim (eq-zero-or-pos c.others.result) [ inl none ↦ rw none (sym (e.none none)) | inr some ↦ e.some some ]
