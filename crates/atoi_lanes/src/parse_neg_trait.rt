@@ -4,7 +4,7 @@ ghost use Rattle.atoi_core.specs.Answer.{typed_answer, typed_prefix_answer, whol
 ghost use Rattle.atoi_core.specs.Digit.{decimal_table};
 
 use crate::default_engine::DefaultEngine;
-use atoi_core::{AtoiSimdError, Parsed, Signed, Steps, prefix_neg, whole_neg};
+use atoi_core::{Parsed, Signed, Steps, prefix_neg, whole_neg};
 
 /// A signed type that is parsed from the digits of a negative number.
 ///
@@ -23,7 +23,7 @@ pub trait ParseNeg: Signed {
     /// # Errors
     ///
     /// As for `parse_neg`.
-    fn atoi_simd_parse_neg(s: &[u8], skip_zeroes: bool) -> Result<Self, AtoiSimdError<'_>>
+    fn atoi_simd_parse_neg(s: &[u8], skip_zeroes: bool) -> Parsed<'_, Self>
         ensures answer { typed_answer Self.number result
             ≡ whole_answer decimal_table Self.int_type true skip_zeroes s.now };
 
@@ -32,10 +32,7 @@ pub trait ParseNeg: Signed {
     /// # Errors
     ///
     /// As for `parse_prefix_neg`.
-    fn atoi_simd_parse_prefix_neg(
-        s: &[u8],
-        skip_zeroes: bool,
-    ) -> Result<(Self, usize), AtoiSimdError<'_>>
+    fn atoi_simd_parse_prefix_neg(s: &[u8], skip_zeroes: bool) -> Parsed<'_, (Self, usize)>
         ensures answer { typed_prefix_answer Self.number result
             ≡ prefix_answer decimal_table Self.int_type true skip_zeroes s.now }
         ensures within { IfOk result (λ found. found.1 ≤ length s.now) };

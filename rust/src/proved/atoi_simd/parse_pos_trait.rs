@@ -4,20 +4,17 @@
 // ghost use Rattle.atoi_core.specs.Digit.{decimal_table};
 
 use crate::proved::atoi_simd::default_engine::DefaultEngine;
-use crate::proved::atoi_core::{AtoiSimdError, Number, Parsed, Steps, prefix_pos, whole_pos};
+use crate::proved::atoi_core::{Number, Parsed, Steps, prefix_pos, whole_pos};
 
 /// An integer type that is parsed from digits without a sign. No other crate can name it.
 pub trait ParsePos: Number {
     /// The function [`parse_pos`](crate::parse_pos), with its flag as an argument.
-    fn atoi_simd_parse_pos(s: &[u8], skip_zeroes: bool) -> Result<Self, AtoiSimdError<'_>>
+    fn atoi_simd_parse_pos(s: &[u8], skip_zeroes: bool) -> Parsed<'_, Self>
         /* ensures answer { typed_answer Self.number result
             ≡ whole_answer decimal_table Self.int_type false skip_zeroes s.now } */;
 
     /// The function [`parse_prefix_pos`](crate::parse_prefix_pos), with its flag as an argument.
-    fn atoi_simd_parse_prefix_pos(
-        s: &[u8],
-        skip_zeroes: bool,
-    ) -> Result<(Self, usize), AtoiSimdError<'_>>
+    fn atoi_simd_parse_prefix_pos(s: &[u8], skip_zeroes: bool) -> Parsed<'_, (Self, usize)>
         // ensures answer { typed_prefix_answer Self.number result
         //     ≡ prefix_answer decimal_table Self.int_type false skip_zeroes s.now }
         /* ensures within { IfOk result (λ found. found.1 ≤ length s.now) } */;

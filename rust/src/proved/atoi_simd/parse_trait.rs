@@ -4,7 +4,7 @@
 
 use crate::proved::atoi_simd::default_engine::DefaultEngine;
 use crate::proved::atoi_simd::parse_pos_trait::ParsePos;
-use crate::proved::atoi_core::{AtoiSimdError, Parsed, Steps, parse_prefix_text, parse_text};
+use crate::proved::atoi_core::{Parsed, Steps, parse_prefix_text, parse_text};
 
 /// An integer type that is parsed with a sign. No other crate can implement it. Its methods take
 /// [flags](crate::guide#choose-the-flags) that are known only at run time.
@@ -25,11 +25,7 @@ pub trait Parse: ParsePos {
     /// # Errors
     ///
     /// As for `parse`.
-    fn atoi_simd_parse(
-        s: &[u8],
-        skip_zeroes: bool,
-        skip_plus: bool,
-    ) -> Result<Self, AtoiSimdError<'_>>
+    fn atoi_simd_parse(s: &[u8], skip_zeroes: bool, skip_plus: bool) -> Parsed<'_, Self>
         /* ensures answer { typed_answer Self.number result
             ≡ parse_answer Self.int_type skip_zeroes skip_plus s.now } */;
 
@@ -42,7 +38,7 @@ pub trait Parse: ParsePos {
         s: &[u8],
         skip_zeroes: bool,
         skip_plus: bool,
-    ) -> Result<(Self, usize), AtoiSimdError<'_>>
+    ) -> Parsed<'_, (Self, usize)>
         // ensures answer { typed_prefix_answer Self.number result
         //     ≡ parse_prefix_answer Self.int_type skip_zeroes skip_plus s.now }
         /* ensures within { IfOk result (λ found. found.1 ≤ length s.now) } */;
