@@ -2,3 +2,4 @@ pub mod Canonical
 pub mod Json
 pub mod Then
 pub mod Leading
+pub mod Outcomes

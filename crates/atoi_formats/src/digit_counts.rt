@@ -36,9 +36,7 @@ pub fn digits_between<T: Parse>(text: &[u8], least: usize, most: usize) -> Optio
 {
     prefixes_and_rests::<T>();
     let (front, _) = text.split_at(text.len().min(most));
-    let Ok((number, count)) = parse_prefix_pos::<T, true>(front) else {
-        return None;
-    };
+    let (number, count) = parse_prefix_pos::<T, true>(front).ok()?;
     let (_, rest) = text.split_at(count);
     if count < least {
         None

@@ -64,9 +64,7 @@ fn number_and_rest<T: Parse>(text: &[u8]) -> Option<(T, &[u8])>
     if let Some(rest) = after_zero(text) {
         return Some((T::from_pos(0), rest));
     }
-    let Ok((number, count)) = parse_prefix::<T, true, false>(text) else {
-        return None;
-    };
+    let (number, count) = parse_prefix::<T, true, false>(text).ok()?;
     let (_, rest) = text.split_at(count);
     Some((number, rest))
 }

@@ -42,12 +42,9 @@ pub fn number_then<T: Parse>(text: &[u8], byte: u8) -> Option<(T, &[u8])>
         → IsNumber T.int_type bytes number → ¬ (text.now ≡ bytes ++ byte ∷ rest)) }
 {
     number_then_byte::<T>();
-    let Ok((number, count)) = parse_prefix::<T, true, true>(text) else {
-        return None;
-    };
+    let (number, count) = parse_prefix::<T, true, true>(text).ok()?;
     let (_, tail) = text.split_at(count);
-    let rest = after(tail, byte)?;
-    Some((number, rest))
+    Some((number, after(tail, byte)?))
 }
 
 /// Like [`number_then`], for digits without a sign.
@@ -79,10 +76,7 @@ pub fn digits_then<T: Parse>(text: &[u8], byte: u8) -> Option<(T, &[u8])>
         → DigitsWrite T.int_type false digits number → ¬ (text.now ≡ digits ++ byte ∷ rest)) }
 {
     number_then_byte::<T>();
-    let Ok((number, count)) = parse_prefix_pos::<T, true>(text) else {
-        return None;
-    };
+    let (number, count) = parse_prefix_pos::<T, true>(text).ok()?;
     let (_, tail) = text.split_at(count);
-    let rest = after(tail, byte)?;
-    Some((number, rest))
+    Some((number, after(tail, byte)?))
 }

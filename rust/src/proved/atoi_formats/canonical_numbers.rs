@@ -37,9 +37,7 @@ pub fn canonical<T: Parse>(text: &[u8]) -> Option<T>
 {
     decimal_texts::<T>();
     one_number::<T>();
-    let Ok(number) = parse::<T, true, false>(text) else {
-        return None;
-    };
+    let number = parse::<T, true, false>(text).ok()?;
     if has_needless_byte(text) {
         None
     } else {
@@ -78,9 +76,7 @@ pub fn canonical_prefix<T: Parse>(text: &[u8]) -> Option<(T, &[u8])>
 {
     decimal_texts::<T>();
     prefixes_and_rests::<T>();
-    let Ok((number, count)) = parse_prefix::<T, true, false>(text) else {
-        return None;
-    };
+    let (number, count) = parse_prefix::<T, true, false>(text).ok()?;
     let (bytes, rest) = text.split_at(count);
     if has_needless_byte(bytes) {
         None
@@ -122,8 +118,7 @@ pub fn canonical_then<T: Parse>(text: &[u8], byte: u8) -> Option<(T, &[u8])>
     //     → IsCanonical T.int_type bytes number → ¬ (text.now ≡ bytes ++ byte ∷ rest)) }
 {assert!(!byte.is_ascii_digit(), "a digit is to follow the number");
     let (number, tail) = canonical_prefix::<T>(text)?;
-    let rest = after(tail, byte)?;
-    Some((number, rest))
+    Some((number, after(tail, byte)?))
 }
 
 // Says whether a zero or a minus could be left out of `bytes`.

@@ -1,24 +1,25 @@
 -- The clauses name the prefix that writes a number, and the byte after it.
-use Rattle.std.proofs.Common.{true, refl, rules}
+use Rattle.std.proofs.Common.{true, refl, sym, ◌∙◌, rules}
 use Rattle.atoi_core.specs.Laws.{looked_for}
 use Rattle.atoi_formats.specs.Formats.{IsNumber}
+use Rattle.atoi_formats.proofs.lemmas.Outcomes.{accepted, refused}
 use Rattle.atoi_formats.proofs.lemmas.Then.{has_prefix, only_prefix}
 use Rattle.atoi_formats.proofs.numbers_then.number_then.Goals as goal
 
-pub returns-in_default-clause-none : goal.returns-in_default-clause-none
+pub returns-in_err-number-clause-none : goal.returns-in_err-number-clause-none
 unfolding IsNumber
-returns-in_default-clause-none g c = λ number bytes rest written parts.
+returns-in_err-number-clause-none g c = rw c.from_residual.ensures (λ number bytes rest written parts.
     let found = has_prefix c.number_then_byte.ensures (looked_for true) c.args.byte c.requires bytes rest written parts in
-    c.in_default.ensures.refused refl number found.0 found.1
+    (refused c.parse_prefix.result (sym c.ok.ensures.value ∙ c.in_err-number.was) (c.parse_prefix.ensures.refused refl)) number found.0 found.1)
 
-pub returns-in_err-rest-clause-none : goal.returns-in_err-rest-clause-none
+pub returns-in_err-after-clause-none : goal.returns-in_err-after-clause-none
 unfolding IsNumber
-returns-in_err-rest-clause-none g c = rw c.from_residual.ensures (λ number bytes rest written parts.
+returns-in_err-after-clause-none g c = rw c.from_residual-in_err-after.ensures (λ number bytes rest written parts.
     let same = only_prefix c.number_then_byte.ensures (looked_for true) c.args.byte
-    c.requires bytes rest written parts c.in-Ok.ensures.prefix in search rules)
+    c.requires bytes rest written parts (accepted _ c.parse_prefix.result (sym c.ok.ensures.value ∙ c.in_ok-number.was) c.parse_prefix.ensures.prefix) in search rules)
 
 pub returns-clause-only : goal.returns-clause-only
 unfolding IsNumber
 returns-clause-only g c = λ number bytes rest written parts.
     let same = only_prefix c.number_then_byte.ensures (looked_for true) c.args.byte
-    c.requires bytes rest written parts c.in-Ok.ensures.prefix in search rules
+    c.requires bytes rest written parts (accepted _ c.parse_prefix.result (sym c.ok.ensures.value ∙ c.in_ok-number.was) c.parse_prefix.ensures.prefix) in search rules
