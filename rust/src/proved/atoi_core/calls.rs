@@ -2,7 +2,7 @@
 //! four *core calls* parse digits without a sign.
 // ghost use Rattle.std.specs.Prelude.{◌≡◌, ◌+◌, ◌<◌, ◌≤◌, true, false, IfOk, length, drop};
 // ghost use Rattle.atoi_core.specs.Answer.{typed_answer, typed_prefix_answer, text_answer, text_prefix_answer, whole_answer, prefix_answer};
-// ghost use Rattle.atoi_core.specs.IntType.{class_of, limit_of};
+// ghost use Rattle.atoi_core.specs.IntType.{class_of, bound_of, limit_of};
 // ghost use Rattle.atoi_core.specs.Loads.{TypedLoads};
 // ghost use Rattle.atoi_core.specs.Magnitude.{IsBound, whole, prefix, whole_magnitude};
 // ghost use Rattle.atoi_core.specs.Reading.{decision, window_of};
@@ -187,13 +187,39 @@ fn whole_with_sign<'a, E: Engine, T: Number>(
     // ensures answer { typed_answer T.number result ≡ whole_answer E.table T.int_type minus skip s.now }
     // ensures loads { TypedLoads E.table T.int_type whole skip s.now steps.old steps.new }
 {
-    let bound = greatest_magnitude::<T>(minus);
-    if s.len() < 16 {
-        let magnitude = whole_short::<E, T>(bound, s, steps)?;
-        return Ok(T::from_parts(minus, magnitude));
-    }
-    let magnitude = whole_long::<E, T>(bound, skip, s, steps)?;
+    let magnitude = whole_by_size::<E, T>(minus, skip, s, steps)?;
     Ok(T::from_parts(minus, magnitude))
+}
+
+// Returns the magnitude, by the parser for the type's size. Of at most 64 bits, one window decides fewer
+// than 16 bytes, and 128 bits need a test less without that.
+#[inline(always)]
+// #[tactic(auto, using(crate::proofs::lemmas::Refusals::narrow_whole_limit))]
+fn whole_by_size<'a, E: Engine, T: Number>(
+    minus: bool,
+    skip: bool,
+    s: &'a [u8],
+    steps: &mut Steps,
+) -> Result<u128, AtoiSimdError<'a>>
+    // requires signed { minus ≡ true → T.SIGNED ≡ true }
+    // ensures answer { answer_of result ≡ whole_magnitude E.table (class_of T.int_type)
+    //     (bound_of T.int_type minus) (limit_of T.int_type) skip s.now }
+    // ensures loads { TypedLoads E.table T.int_type whole skip s.now steps.old steps.new }
+{
+    let bound = greatest_magnitude::<T>(minus);
+    if T::BITS == 128 {
+        return whole_128::<E>(bound, skip, s, steps);
+    }
+    if s.len() < 16 {
+        return whole_short::<E, T>(bound, s, steps);
+    }
+    if T::BITS <= 32 {
+        let number = narrow_whole_windows::<E>(bound as u64, s, steps)?;
+        Ok(u128::from(number))
+    } else {
+        let number = whole_64::<E>(bound as u64, limit_64::<T>(), skip, s, steps)?;
+        Ok(u128::from(number))
+    }
 }
 
 // Returns the magnitude of fewer than 16 bytes, which one window decides: they never have too many
@@ -227,31 +253,6 @@ fn whole_short<'a, E: Engine, T: Number>(
         Err(AtoiSimdError::Invalid64(number, digits, s))
     } else {
         Err(AtoiSimdError::Invalid128(u128::from(number), digits, s))
-    }
-}
-
-// Returns the magnitude, by the parser for the type's size.
-#[inline(always)]
-// #[tactic(auto, using(crate::proofs::lemmas::Refusals::narrow_whole_limit))]
-fn whole_long<'a, E: Engine, T: Number>(
-    bound: u128,
-    skip: bool,
-    s: &'a [u8],
-    steps: &mut Steps,
-) -> Result<u128, AtoiSimdError<'a>>
-    // requires bound { IsBound T.BITS (limit_of T.int_type) bound }
-    // ensures answer { answer_of result ≡ whole_magnitude E.table (class_of T.int_type) bound
-    //     (limit_of T.int_type) skip s.now }
-    // ensures loads { TypedLoads E.table T.int_type whole skip s.now steps.old steps.new }
-{
-    if T::BITS <= 32 {
-        let number = narrow_whole_windows::<E>(bound as u64, s, steps)?;
-        Ok(u128::from(number))
-    } else if T::BITS == 64 {
-        let number = whole_64::<E>(bound as u64, limit_64::<T>(), skip, s, steps)?;
-        Ok(u128::from(number))
-    } else {
-        whole_128::<E>(bound, skip, s, steps)
     }
 }
 
