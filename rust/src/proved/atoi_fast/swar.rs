@@ -84,6 +84,10 @@ impl Engine for Swar {
         s: &'a [u8],
         steps: &mut Steps,
     ) -> Result<(u128, usize), AtoiSimdError<'a>> {
+        if s.len() < 16 {
+            let only = Swar::window(s, steps);
+            return found_or_empty(u128::from(only.number), only.len as usize);
+        }
         let first = Swar::window(s, steps);
         if first.len < 16 {
             return found_or_empty(u128::from(first.number), first.len as usize);

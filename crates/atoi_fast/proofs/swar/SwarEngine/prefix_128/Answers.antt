@@ -1,15 +1,36 @@
 -- A first window without zeros to skip decides, if full with the bytes after it.
-use Rattle.std.proofs.Common.{◌≡◌, ◌⊎◌, ◌≤◌, true, false, inl, inr, refl, ◌∙◌, [], drop, arith, lit<}
+use Rattle.std.proofs.Common.{◌≡◌, ◌⊎◌, ◌<◌, ◌≤◌, true, false, inl, inr, refl, ◌∙◌, [], drop, arith, lit<}
 use Rattle.std.proofs.lemmas.List.{drop_all}
-use Rattle.atoi_core.specs.Digit.{decimal_table}
+use Rattle.std.proofs.lemmas.List.Sums.{prefix_len-le-length}
+use Rattle.atoi_core.specs.Digit.{decimal_table, is_digit}
 use Rattle.atoi_core.proofs.lemmas.Runs.{decimal_below_ten}
-use Rattle.atoi_core.proofs.lemmas.Windows.{Shows, Skipped, Skipped-at_once, Skipped-first, Skipped-full, Skipped-loads, shows, shows_rest}
+use Rattle.atoi_core.proofs.lemmas.Windows.{Shows, Skipped, Skipped-at_once, Skipped-first, Skipped-full, Skipped-loads, Skipped-short, shows, shows_rest}
 use Rattle.atoi_core.proofs.lemmas.LoopAnswers.{answers_short, answers_two}
 use Rattle.atoi_fast.proofs.lemmas.FullWindows.{after_32}
 use Rattle.atoi_fast.proofs.swar.SwarEngine.prefix_128.Goals as goal
-use Rattle.atoi_fast.proofs.swar.SwarEngine.prefix_128.Goals.{After-window-first, Then-first-lt16, After-window-second}
+use Rattle.atoi_fast.proofs.swar.SwarEngine.prefix_128.Goals.{After-window-first, After-window-only, Then-first-lt16, After-window-second}
 
--- What holds if the first window is not full,
+-- What holds after the window of a short slice,
+only : (c : After-window-only)
+    → Skipped decimal_table c.args.skip c.args.s.now 0 c.args.steps.now c.window-only.new.steps c.window-only.result
+only c =
+    Skipped-short decimal_below_ten c.args.skip c.args.s.now c.window-only.ensures.window
+    c.window-only.ensures.one_step (omega (arith, c.if-s-lt16.true))
+
+pub returns-then-s-lt16-clause-answer : goal.returns-then-s-lt16-clause-answer
+returns-then-s-lt16-clause-answer c =
+    let after_skip = only (goal.at.returns-then-s-lt16-clause-answer c).After-window-only in
+    let few : c.window-only.result.len < 16 =
+    omega (arith, c.if-s-lt16.true, after_skip.window.len_is, prefix_len-le-length (is_digit decimal_table) c.args.s.now) in
+    c.found_or_empty.ensures
+    ∙ answers_short _ _ _ {len = c.window-only.result.len} (lit< tt) after_skip
+    few (lit< tt) c.requires.digits c.from.ensures (omega arith)
+
+pub returns-then-s-lt16-clause-loads : goal.returns-then-s-lt16-clause-loads
+returns-then-s-lt16-clause-loads c =
+    Skipped-loads (only (goal.at.returns-then-s-lt16-clause-loads c).After-window-only) 0 (omega arith) (omega arith)
+
+-- if the first window is not full,
 short : (c : Then-first-lt16)
     → Skipped decimal_table c.args.skip c.args.s.now 0 c.args.steps.now c.window-first.new.steps c.window-first.result
 short c =
@@ -19,9 +40,9 @@ short c =
 pub returns-then-first-lt16-clause-answer : goal.returns-then-first-lt16-clause-answer
 returns-then-first-lt16-clause-answer c =
     let after_skip = short (goal.at.returns-then-first-lt16-clause-answer c).Then-first-lt16 in
-    c.found_or_empty.ensures
+    c.found_or_empty-then-first-lt16.ensures
     ∙ answers_short _ _ _ {len = c.window-first.result.len} (lit< tt) after_skip
-    c.if-first-lt16.true (lit< tt) c.requires.digits c.from.ensures (omega arith)
+    c.if-first-lt16.true (lit< tt) c.requires.digits c.from-then-first-lt16.ensures (omega arith)
 
 pub returns-then-first-lt16-clause-loads : goal.returns-then-first-lt16-clause-loads
 returns-then-first-lt16-clause-loads c =
