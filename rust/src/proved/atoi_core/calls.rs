@@ -4,7 +4,7 @@
 // ghost use Rattle.atoi_core.specs.Answer.{typed_answer, typed_prefix_answer, text_answer, text_prefix_answer, whole_answer, prefix_answer};
 // ghost use Rattle.atoi_core.specs.IntType.{class_of, bound_of, limit_of};
 // ghost use Rattle.atoi_core.specs.Loads.{TypedLoads};
-// ghost use Rattle.atoi_core.specs.Magnitude.{IsBound, whole, prefix, whole_magnitude};
+// ghost use Rattle.atoi_core.specs.Magnitude.{IsBound, whole, prefix, whole_magnitude, prefix_magnitude};
 // ghost use Rattle.atoi_core.specs.Reading.{decision, window_of};
 // ghost use Rattle.atoi_core.specs.Refusal.{answer_of};
 // ghost use Rattle.atoi_core.specs.Sign.{sign_of};
@@ -258,7 +258,7 @@ fn whole_short<'a, E: Engine, T: Number>(
 
 // Like `prefix_neg` if `minus` is set, otherwise like `prefix_pos`.
 #[inline(always)]
-// #[tactic(auto, using(crate::proofs::lemmas::Calls::prefix_in_bounds, crate::proofs::lemmas::Refusals::narrow_prefix_limit))]
+// #[tactic(auto, using(crate::proofs::lemmas::Calls::prefix_in_bounds))]
 fn prefix_with_sign<'a, E: Engine, T: Number>(
     minus: bool,
     skip: bool,
@@ -272,15 +272,33 @@ fn prefix_with_sign<'a, E: Engine, T: Number>(
     // ensures loads { TypedLoads E.table T.int_type prefix skip s.now steps.old steps.new }
     // ensures unskipped { T.BITS ≤ 32 → skip ≡ false → steps.new ≤ steps.old + 2 }
 {
+    let (magnitude, len) = prefix_by_size::<E, T>(minus, skip, s, steps)?;
+    Ok((T::from_parts(minus, magnitude), len))
+}
+
+// Returns the magnitude and how many digits there are, by the parser for the type's size.
+#[inline(always)]
+// #[tactic(auto, using(crate::proofs::lemmas::Refusals::narrow_prefix_limit))]
+fn prefix_by_size<'a, E: Engine, T: Number>(
+    minus: bool,
+    skip: bool,
+    s: &'a [u8],
+    steps: &mut Steps,
+) -> Result<(u128, usize), AtoiSimdError<'a>>
+    // requires signed { minus ≡ true → T.SIGNED ≡ true }
+    // ensures answer { answer_of result ≡ prefix_magnitude E.table (class_of T.int_type)
+    //     (bound_of T.int_type minus) (limit_of T.int_type) skip s.now }
+    // ensures loads { TypedLoads E.table T.int_type prefix skip s.now steps.old steps.new }
+    // ensures unskipped { T.BITS ≤ 32 → skip ≡ false → steps.new ≤ steps.old + 2 }
+{
     let bound = greatest_magnitude::<T>(minus);
-    let (magnitude, len) = if T::BITS <= 32 {
+    if T::BITS <= 32 {
         let (number, len) = narrow_prefix::<E>(bound as u64, skip, s, steps)?;
-        (u128::from(number), len)
+        Ok((u128::from(number), len))
     } else if T::BITS == 64 {
         let (number, len) = E::prefix_64(bound as u64, limit_64::<T>(), skip, s, steps)?;
-        (u128::from(number), len)
+        Ok((u128::from(number), len))
     } else {
-        E::prefix_128(bound, skip, s, steps)?
-    };
-    Ok((T::from_parts(minus, magnitude), len))
+        E::prefix_128(bound, skip, s, steps)
+    }
 }
