@@ -25,7 +25,7 @@ has_more c =
     let more = counted_after 4 16 _ _ (λ i. (c.type_inv.s i).fits) c.requires.full c.load_four_from-word.ensures in
     omega (arith, more, ltb-true 0 _ (sym c.starts_with_digit_of_four.ensures ∙ c.if-not-starts_with_digit_of_four.false))
 
--- How many digits follow the first 16, up to 4, and the number of all.
+-- How many digits follow the first 16, at most 4.
 following : (c : After-digits_of_four-more) → let s : List ℕ = c.args.s.now in let more : ℕ = c.digits_of_four-more.result in
     (more ≡ min 4 (run_len decimal_table s - 16))
     × ((len low : ℕ) → len ≤ more → low ≡ low_value (low_bytes len c.load_four_from-word.result)

@@ -10,7 +10,7 @@ use Rattle.atoi_fast.proofs.lemmas.FullWindows.{after_32}
 use Rattle.atoi_fast.proofs.swar.SwarEngine.prefix_128.Goals as goal
 use Rattle.atoi_fast.proofs.swar.SwarEngine.prefix_128.Goals.{After-window-first, After-window-only, Then-first-lt16, After-window-second}
 
--- What holds after the window of a short slice,
+-- After the window of a short slice,
 only : (c : After-window-only)
     → Skipped decimal_table c.args.skip c.args.s.now 0 c.args.steps.now c.window-only.new.steps c.window-only.result
 only c =

@@ -1,4 +1,4 @@
--- Without a lane that is no digit, all sixteen bits of the mask are zeros.
+-- If each lane is a digit, the mask is 0.
 use Rattle.std.proofs.Common.{inl, inr, sym}
 use Rattle.std.proofs.Math.Nat.{eq-zero-or-pos}
 use Rattle.atoi_fast.proofs.vectors.bytes.len_lanes.Goals as goal
