@@ -242,10 +242,18 @@ fn short_window(s: &[u8]) -> Window
     let filled = load_right_aligned(s) + zero_padding(s.len());
     let digits = digits_of(filled);
     if digits == 8 {
-        Window::not_full(s.len() as u32, sum_of(filled.wrapping_sub(ZEROS)))
+        Window {
+            len: s.len() as u32,
+            zeroes: 0,
+            number: sum_of(filled.wrapping_sub(ZEROS)),
+        }
     } else {
         let len = digits - (8 - s.len() as u32);
-        Window::not_full(len, number_in_word(filled, digits))
+        Window {
+            len,
+            zeroes: 0,
+            number: number_in_word(filled, digits),
+        }
     }
 }
 

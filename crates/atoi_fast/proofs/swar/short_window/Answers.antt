@@ -14,7 +14,6 @@ pub returns-then-digits-eq8-clause-of_16 : goal.returns-then-digits-eq8-clause-o
 returns-then-digits-eq8-clause-of_16 c =
     let full : 8 ≡ run_len decimal_table (low_bytes 8 (c.load_right_aligned.result + c.zero_padding.result)) =
     sym c.if-digits-eq8.true ∙ c.digits_of-digits.ensures.len in
-    rw c.not_full.ensures
     (filled_window c.args.s.now c.requires (λ i. (c.type_inv.s i).fits) _ _ 8 _ _
     c.load_right_aligned.ensures c.zero_padding.ensures full (omega arith)
     (c.sum_of.ensures.sum ∙ (lowered_eight _ _ (sym full) refl).1))
@@ -24,7 +23,6 @@ returns-then-digits-eq8-clause-of_8 c = λ fewer. returns-then-digits-eq8-clause
 
 pub returns-else-digits-eq8-clause-of_16 : goal.returns-else-digits-eq8-clause-of_16
 returns-else-digits-eq8-clause-of_16 c =
-    rw c.not_full-else-digits-eq8.ensures
     (filled_window c.args.s.now c.requires (λ i. (c.type_inv.s i).fits) _ _ _ _ _
     c.load_right_aligned.ensures c.zero_padding.ensures c.digits_of-digits.ensures.len refl
     c.number_in_word.ensures.sum)
