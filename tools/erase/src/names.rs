@@ -41,7 +41,7 @@ pub const METHODS: &str = "len is_empty iter first first_chunk last_chunk split_
     count enumerate filter take_while ok unwrap write_str dot4 simd_eq simd_ge simd_le \
     reduce_sum swizzle_dyn_within to_array to_bitmask";
 const OWN_METHODS: &str = "index parts text tick \
-    guessed_number next_number number read_guessed read_part read_plain taken_out";
+    guessed_number next_number number read_guessed read_part read_plain";
 
 // All other small names that Rust has without a declaration: keywords, types and functions.
 const REFUSED: &str = "abstract async await become box do dyn extern final gen macro macro_rules \
@@ -177,8 +177,11 @@ impl<'a> Names<'a> {
         let is_index = self.text(around) == "[" && is_value(around.wrapping_sub(1));
         let has_start = is_value(at.wrapping_sub(1)) || matches!(last, ">" | "}");
         let has_end = next == "(" || is_value(at + 1) && !matches!(next, ")" | "]" | "?");
+        // Of what a reference leads to, Rust copies fields, or refuses to.
+        let is_of_self = next == "*" && self.text(at + 2) == "self" && self.text(at + 3) == "}";
         match has_start {
             _ if is_index => true,
+            false if is_of_self => self.text(around) == "{",
             true => has_end,
             false if has_end => self.text(around) == "{" && self.text(at + 2) == "}",
             false => matches!(next, ")" | "]" | "," | "}"),

@@ -529,6 +529,7 @@ fn what_means_the_same_is_taken() {
         "fn a(b: &[u8]) { for c in 0..9 { match b { [d, ..] => d, [.., d] => d, [d @ ..] => d } } }",
         "fn a(b: u8) -> bool { matches!(b, b'0'..=b'9' | b'+') }",
         "struct A { b: u8, c: u8 } fn a(d: A) -> A { A { b: 1, ..d } }",
+        "struct A { b: u8, c: u8 } impl A { fn a(&self) -> A { A { b: 1, ..*self } } }",
         "struct A { b: u8, c: u8 } fn a(d: A) -> u8 { let A { b, .. } = d; b }",
         "struct A(u8, (u8, u8)); fn a(d: A) -> u8 { d.1.0 + 0xFF_u8 + 1_0 }",
         "enum A { B, C(u8), D { e: u8 } } fn a(f: A) -> A { A::C(1) }",

@@ -40,13 +40,12 @@ pub(crate) fn guess_after<T: Parse>(numbers: &[T], used: usize, rest: &[u8], tri
     let each = digits_and_ends / count;
     let at = sign_len::<T>(rest).saturating_add(each.saturating_sub(2));
     let has_return = trims && matches!(rest.split_at_checked(at), Some((_, [b'\r', ..])));
-    let width = each.saturating_sub(1 + usize::from(has_return));
+    let width = match digits_and_ends % count {
+        0 => each.saturating_sub(1 + usize::from(has_return)),
+        _ => 0,
+    };
     Guess {
-        width: if digits_and_ends % count == 0 {
-            width
-        } else {
-            0
-        },
+        width,
         has_return,
         are_short: used / 11 < count / 4,
         have_minus: minuses > count / 8,

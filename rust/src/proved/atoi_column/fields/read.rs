@@ -12,7 +12,6 @@ use crate::proved::atoi_column::guesses::{
 use crate::proved::atoi_column::laws::fields_are_prefixes;
 use crate::proved::atoi_core::laws::{accepted_texts, prefix_is_whole};
 use crate::proved::atoi_simd::Parse;
-use core::marker::PhantomData;
 
 // How many fields are read before a guess, at least and at most.
 const PART: usize = 4;
@@ -91,21 +90,6 @@ impl<'a, T: Parse> Fields<'a, T> {
         read
     }
 
-    // Returns the same fields, which stay in registers while numbers are written to memory.
-    #[inline(always)]
-    fn taken_out(&self) -> Fields<'a, T>
-        // ensures { result ≡ self.now }
-    {
-        Fields {
-            rest: self.rest,
-            separator: self.separator,
-            trims: self.trims,
-            index: self.index,
-            end: self.end,
-            values: PhantomData,
-        }
-    }
-
     // `read_part` for numbers of any width.
     #[inline(always)]
     fn read_plain(&mut self, values: &mut [T], from: usize, most: usize, guess: Guess) -> usize
@@ -163,7 +147,8 @@ impl<'a, T: Parse> Fields<'a, T> {
     {
         // The compiler knows that this is an end within `values`.
         let end = values.len().min(from + most);
-        let mut fields = self.taken_out();
+        // While numbers are written to memory, these fields stay in registers.
+        let mut fields = Fields { ..*self };
         let mut at = from;
         while at < end {
             match fields.number::<GUESSES>(guess) {
