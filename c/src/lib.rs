@@ -318,7 +318,7 @@ impl Rest {
 }
 
 // How many bytes of numbers are read at once.
-const ROOM: usize = 2048;
+const ROOM: usize = 8192;
 
 impl<T: Parse> CheckedColumn<T> {
     // No field can be separated by a digit or a sign, which is an error of no field.
