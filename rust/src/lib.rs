@@ -128,6 +128,7 @@ pub mod guide {}
 /// assert_eq!(parse::<u64, false, false>(&text), Err(AtoiSimdError::Size(24, &text)));
 /// ```
 ///
+/// [errors]: crate::guide#errors
 /// [flags]: crate::guide#choose-the-flags
 /// [functions]: crate::guide#parse-a-number
 /// [lanes]: crate::guide#lanes
