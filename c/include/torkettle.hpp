@@ -193,15 +193,14 @@ struct item {
 
 namespace detail {
 
-// Returns where the field of this index begins in a text. Looks for it from the field before it, if `last` is that one.
+// Returns where the field of this index begins in a text. Looks for it from the field before it, unless `before` is null.
 // A loop that uses no offset leaves out the call, since the function is pure.
 [[gnu::pure, gnu::noinline]] inline const char *place_of(std::size_t index, std::string_view text, char separator,
-                                                         std::size_t last_index, const char *last) noexcept
+                                                         const char *before) noexcept
 {
-    const bool is_next = last_index + 1 == index;
-    const char *place = is_next ? last : text.data();
+    const char *place = before != nullptr ? before : text.data();
     const char *const end = text.data() + text.size();
-    for (std::size_t fields = is_next ? 1 : index; fields > 0; --fields)
+    for (std::size_t fields = before != nullptr ? 1 : index; fields > 0; --fields)
         place = static_cast<const char *>(std::memchr(place, separator, static_cast<std::size_t>(end - place))) + 1;
     return place;
 }
@@ -216,16 +215,17 @@ template <class T, bool ends>
 class range {
     static_assert(is_integer<T>, "T is an integer type that std::from_chars takes");
 
-    // A field of a block, and where it begins.
+    // A field of a block: where it begins, and the index of the next one.
     struct mark {
         const char *block = nullptr;
         char separator = 0;
-        std::size_t index = 0;
+        std::size_t next = 0;
         const char *place = nullptr;
     };
 
 public:
-    // An input iterator. It reads on in the range that it was made by, and is equal to `end()` when nothing is left.
+    // An input iterator. It reads on in the range that it was made by, and is equal to `end()` when nothing is left. What
+    // a loop calls is inlined, so that its item stays in registers.
     class iterator {
     public:
         using iterator_category = std::input_iterator_tag;
@@ -235,7 +235,7 @@ public:
         using reference = const item<T> &;
 
         iterator() noexcept = default;
-        explicit iterator(range &all) noexcept : items(&all)
+        [[gnu::always_inline]] explicit iterator(range &all) noexcept : items(&all)
         {
             ++*this;
         }
@@ -247,7 +247,7 @@ public:
         {
             return &current;
         }
-        iterator &operator++() noexcept
+        [[gnu::always_inline]] iterator &operator++() noexcept
         {
             if (!items->advance(current, last))
                 items = nullptr;
@@ -299,7 +299,7 @@ public:
         return range(text, '\n', 1);
     }
 
-    iterator begin() noexcept
+    [[gnu::always_inline]] iterator begin() noexcept
     {
         return iterator(*this);
     }
@@ -401,14 +401,14 @@ private:
         return true;
     }
 
-    // Does what `next` does, with a block. `last` is where the field before was, if the same iterator has read it. The
-    // item of a loop stays in registers, because no function that is not inlined gets its address.
+    // Does what `next` does, with a block. `last` is where the field before was, if the same iterator has read it. No
+    // function that is not inlined gets the address of the item.
     [[gnu::always_inline]] bool advance(item<T> &field, mark &last) noexcept
     {
         // Most iterators go on where they were. Their index is in a register, and `used` in memory takes longer.
-        std::size_t index = last.index + 1;
+        std::size_t index = last.next;
         if (__builtin_expect(index != used || index >= filled, 0)) {
-            if (used == filled && (alone > 0 || !read_block())) {
+            if (!has_block()) {
                 item<T> one;
                 if (!read_one(one))
                     return false;
@@ -418,13 +418,19 @@ private:
             index = used;
         }
         const bool is_known = last.block == block.rest && last.separator == block.separator;
-        const std::size_t last_index = is_known ? last.index : index;
-        const char *const place = place_of(index, block_text(), block.separator, last_index, last.place);
-        last = {block.rest, block.separator, index, place};
+        const bool is_next = is_known && last.next == index;
+        const char *const place = place_of(index, block_text(), block.separator, is_next ? last.place : nullptr);
+        last = {block.rest, block.separator, index + 1, place};
         const std::size_t offset = block.next_offset + static_cast<std::size_t>(place - block.rest);
         field = {block_values[index], std::errc(), std::string_view(), block.next_index + index, offset};
         used = index + 1;
         return true;
+    }
+
+    // Returns whether there are numbers in the block, or in the next one.
+    [[gnu::noinline]] bool has_block() noexcept
+    {
+        return used < filled || (alone == 0 && read_block());
     }
 
     [[gnu::noinline]] bool read_one(item<T> &field) noexcept
@@ -434,7 +440,7 @@ private:
     }
 
     // Reads the next numbers, up to an error or the end, and returns whether there are any.
-    [[gnu::noinline]] bool read_block() noexcept
+    bool read_block() noexcept
     {
         block = state;
         used = 0;
@@ -465,7 +471,7 @@ private:
             return state;
         fields left = block;
         left.status = TORKETTLE_OK;
-        left.rest = place_of(used, block_text(), block.separator, used, nullptr);
+        left.rest = place_of(used, block_text(), block.separator, nullptr);
         const auto length = static_cast<std::size_t>(left.rest - block.rest);
         left.rest_length -= length;
         left.next_index += used;
