@@ -30,19 +30,24 @@ pub record ParseExamples : Type 0 where
   -- The value below it is not; its slice has no sign.
   pub below_least : parse_answer i8_type false false (codes "-129") ≡ Err (overflow (codes "129"))
   -- A narrow prefix without skipping has at most 16 digits.
-  pub seventeen_digits_of_u8 : parse_prefix_answer u8_type false false (codes "00000000000000007") ≡ Err (size 17 (codes "00000000000000007"))
+  pub seventeen_digits_of_u8 : parse_prefix_answer u8_type false false (codes "00000000000000007")
+      ≡ Err (size 17 (codes "00000000000000007"))
   -- 16 digits are accepted, whatever byte follows.
   pub sixteen_digits_of_u8 : parse_prefix_answer u8_type false false (codes "0000000000000000x") ≡ Ok (pos 0, 16)
   -- The sign is not one of the 16 digits.
   pub sixteen_digits_of_i32 : parse_prefix_answer i32_type false false (codes "-0000000000000007x") ≡ Ok (negsuc 6, 17)
   -- The slice in the error has no sign.
-  pub seventeen_digits_of_i8 : parse_prefix_answer i8_type false false (codes "-00000000000000000") ≡ Err (size 17 (codes "00000000000000000"))
+  pub seventeen_digits_of_i8 : parse_prefix_answer i8_type false false (codes "-00000000000000000")
+      ≡ Err (size 17 (codes "00000000000000000"))
   -- Digits are counted before the range; `size` counts at most 17.
-  pub size_before_range : parse_prefix_answer u8_type false false (codes "00000000000000255999") ≡ Err (size 17 (codes "00000000000000255999"))
+  pub size_before_range : parse_prefix_answer u8_type false false (codes "00000000000000255999")
+      ≡ Err (size 17 (codes "00000000000000255999"))
   -- Even if the first 16 digits already pass the bound.
-  pub size_of_seventeen_ones : parse_prefix_answer u32_type false false (codes "11111111111111111") ≡ Err (size 17 (codes "11111111111111111"))
+  pub size_of_seventeen_ones : parse_prefix_answer u32_type false false (codes "11111111111111111")
+      ≡ Err (size 17 (codes "11111111111111111"))
   -- 16 ones are few enough, but out of range.
-  pub range_of_sixteen_ones : parse_prefix_answer u32_type false false (codes "1111111111111111") ≡ Err (overflow (codes "1111111111111111"))
+  pub range_of_sixteen_ones : parse_prefix_answer u32_type false false (codes "1111111111111111")
+      ≡ Err (overflow (codes "1111111111111111"))
   -- With skipping, a narrow prefix has any number of digits.
   pub narrow_prefix_skips : parse_prefix_answer u8_type true false (codes "00000000000000007") ≡ Ok (pos 7, 17)
   -- Zeros alone spell zero.
@@ -54,7 +59,8 @@ pub record ParseExamples : Type 0 where
   -- 15 digits do not: 12 zeros are kept.
   pub overflow_keeps_twelve : parse_prefix_answer u8_type true false (codes "000000000000999x") ≡ Err (overflow (codes "000000000000999x"))
   -- Zeros that are not skipped count towards the limit.
-  pub zeros_count_as_digits : parse_answer u64_type false false (codes "000000000000000000000") ≡ Err (size 21 (codes "000000000000000000000"))
+  pub zeros_count_as_digits : parse_answer u64_type false false (codes "000000000000000000000")
+      ≡ Err (size 21 (codes "000000000000000000000"))
   -- Skipped zeros do not count towards the limit.
   pub zeros_skipped : parse_answer u64_type true false (codes "000000000000000000000") ≡ Ok (pos 0)
   -- The largest value of 64 bits is in range.
@@ -64,19 +70,24 @@ pub record ParseExamples : Type 0 where
   -- 20 digits are too many for `i64`, a zero included.
   pub twenty_digits_of_i64 : parse_answer i64_type false false (codes "09223372036854775807") ≡ Err (size 20 (codes "09223372036854775807"))
   -- `size` counts skipped zeros and at most 24 digits after them.
-  pub size_is_capped : parse_prefix_answer u64_type true false (codes "0001111111111111111111111111") ≡ Err (size 27 (codes "1111111111111111111111111"))
+  pub size_is_capped : parse_prefix_answer u64_type true false (codes "0001111111111111111111111111")
+      ≡ Err (size 27 (codes "1111111111111111111111111"))
   -- A negative call's error can hold the magnitude of `T::MIN`.
-  pub magnitude_of_least : whole_answer decimal_table i64_type true false (codes "9223372036854775808x") ≡ Err (invalid64 9223372036854775808 19 (codes "9223372036854775808x"))
+  pub magnitude_of_least : whole_answer decimal_table i64_type true false (codes "9223372036854775808x")
+      ≡ Err (invalid64 9223372036854775808 19 (codes "9223372036854775808x"))
   -- The smallest value of 64 bits is in range.
   pub least_i64 : whole_answer decimal_table i64_type true false (codes "9223372036854775808") ≡ Ok (negsuc 9223372036854775807)
   -- The largest value of 128 bits is in range.
-  pub greatest_u128 : parse_answer u128_type false false (codes "340282366920938463463374607431768211455") ≡ Ok (pos 340282366920938463463374607431768211455)
+  pub greatest_u128 : parse_answer u128_type false false (codes "340282366920938463463374607431768211455")
+      ≡ Ok (pos 340282366920938463463374607431768211455)
   -- The value above it is not.
-  pub above_greatest_u128 : parse_answer u128_type false false (codes "340282366920938463463374607431768211456") ≡ Err (overflow (codes "340282366920938463463374607431768211456"))
+  pub above_greatest_u128 : parse_answer u128_type false false (codes "340282366920938463463374607431768211456")
+      ≡ Err (overflow (codes "340282366920938463463374607431768211456"))
   -- 39 unskipped zeros are few enough for 128 bits.
   pub thirty_nine_zeros : parse_answer u128_type false false (codes "000000000000000000000000000000000000000") ≡ Ok (pos 0)
   -- 41 zeros are too many, and `size` counts at most 40.
-  pub forty_one_zeros : parse_answer u128_type false false (codes "00000000000000000000000000000000000000000") ≡ Err (size 40 (codes "00000000000000000000000000000000000000000"))
+  pub forty_one_zeros : parse_answer u128_type false false (codes "00000000000000000000000000000000000000000")
+      ≡ Err (size 40 (codes "00000000000000000000000000000000000000000"))
   -- The count of a prefix includes a plus that is consumed.
   pub plus_counted : parse_prefix_answer i32_type false true (codes "+12a") ≡ Ok (pos 12, 3)
   -- The count of a prefix also includes a minus.
@@ -90,7 +101,8 @@ pub record ParseExamples : Type 0 where
   -- No minus is accepted for an unsigned type.
   pub no_minus_unsigned : parse_answer u8_type false true (codes "-5") ≡ Err empty
   -- An invalid byte's index counts skipped zeros, which the slice keeps.
-  pub rest_after_zeros : parse_answer u64_type true false (codes "0000000000000000000000007x") ≡ Err (invalid64 7 25 (codes "0000000000000000000000007x"))
+  pub rest_after_zeros : parse_answer u64_type true false (codes "0000000000000000000000007x")
+      ≡ Err (invalid64 7 25 (codes "0000000000000000000000007x"))
   -- 128 bits have a variant of their own for an invalid byte.
   pub wide_error : parse_answer u128_type true false (codes "0000012x") ≡ Err (invalid128 12 7 (codes "0000012x"))
 
@@ -142,9 +154,11 @@ parse_examples = record {
 
 pub record ErrorExamples : Type 0 where
   -- Two spaces before `input:` up to 64 bits.
-  pub text_of_invalid64 : error_text (invalid64 12 2 (codes "12a")) ≡ codes "atoi_simd invalid at index: 2 it must contain only digits, starting with: 12  input: [31, 32, 61]"
+  pub text_of_invalid64 : error_text (invalid64 12 2 (codes "12a"))
+      ≡ codes "atoi_simd invalid at index: 2 it must contain only digits, starting with: 12  input: [31, 32, 61]"
   -- One space before `input:` for 128 bits.
-  pub text_of_invalid128 : error_text (invalid128 12 2 (codes "12a")) ≡ codes "atoi_simd invalid at index: 2 it must contain only digits, starting with: 12 input: [31, 32, 61]"
+  pub text_of_invalid128 : error_text (invalid128 12 2 (codes "12a"))
+      ≡ codes "atoi_simd invalid at index: 2 it must contain only digits, starting with: 12 input: [31, 32, 61]"
   -- The text of `size` shows its number and slice.
   pub text_of_size : error_text (size 27 (codes "11")) ≡ codes "atoi_simd wrong size: 27 input: [31, 31]"
   -- An empty slice is a pair of brackets.

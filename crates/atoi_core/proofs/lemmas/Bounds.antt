@@ -12,7 +12,8 @@ use Rattle.atoi_core.proofs.lemmas.Refusals.{limit_at, significant_len}
 
 -- ---- Limits on digits
 
-pub short_enough : (class : Class) (skip : Bool) (limit count : ℕ) → count ≤ limit → is_above (limit_at class whole skip limit) count ≡ false
+pub short_enough : (class : Class) (skip : Bool) (limit count : ℕ) → count ≤ limit
+    → is_above (limit_at class whole skip limit) count ≡ false
 short_enough class skip limit count h = grind (arith, nat_tests)
 
 pub shorter : (limit : Option ℕ) (count less : ℕ) → less ≤ count → is_above limit count ≡ false → is_above limit less ≡ false

@@ -111,7 +111,8 @@ ok_prefix int form skip s v count h = search (arith, prefix_call-is, map_unless_
 
 module _ (table : Table) (class : Class) (bound limit : ℕ) (skip : Bool) (s : List ℕ) where
   -- `Ok` of a prefix: in range, and within the slice.
-  pub prefix_in_bounds : (number len : ℕ) → Ok (number, len) ≡ prefix_magnitude table class bound limit skip s → (number ≤ bound) × (len ≤ length s)
+  pub prefix_in_bounds : (number len : ℕ) → Ok (number, len) ≡ prefix_magnitude table class bound limit skip s
+      → (number ≤ bound) × (len ≤ length s)
   prefix_in_bounds number len found = search (arith, map_unless_ok, accepted, prefix_len-le-length)
 
   pub whole_in_bounds : (number : ℕ) → Ok number ≡ whole_magnitude table class bound limit skip s → number ≤ bound

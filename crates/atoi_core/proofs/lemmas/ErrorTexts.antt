@@ -13,7 +13,8 @@ use Rattle.std.proofs.lemmas.Str.Ascii.{IsAscii-nil, IsAscii-cons}
 -- ---- Texts of numbers
 
 pub length_one_more : (n : ℕ) → 10 ≤ n → n < 2 ^ 128 → length (decimal (n / 10)) + 1 ≡ length (decimal n)
-length_one_more n low high = rw (decimal_step_wide n low (omega arith)) (omega (arith, length-append (decimal (n / 10)) ((48 + n % 10) ∷ [])))
+length_one_more n low high =
+    rw (decimal_step_wide n low (omega arith)) (omega (arith, length-append (decimal (n / 10)) ((48 + n % 10) ∷ [])))
 
 pub length_of_128_bits : (n : ℕ) → n < 2 ^ 128 → length (decimal n) ≤ 39
 length_of_128_bits n small = length-decimal-le_wide 39 n (omega arith) (omega arith) (omega arith)
@@ -24,7 +25,8 @@ length_of_64_bits n small = length-decimal-le_wide 20 n (omega arith) (omega ari
 pub decimal_is_ascii : (n i : ℕ) → n < 2 ^ 128 → slice_index (decimal n) i < 128
 decimal_is_ascii n i small = IsAscii-decimal_wide n (omega arith) i
 
-pub ruleset of_decimal = (decimal_digit, decimal_step_wide, append_assoc, length_one_more, length_of_64_bits, length_of_128_bits, decimal_is_ascii)
+pub ruleset of_decimal =
+    (decimal_digit, decimal_step_wide, append_assoc, length_one_more, length_of_64_bits, length_of_128_bits, decimal_is_ascii)
 
 -- ---- Hexadecimal texts
 
@@ -50,7 +52,8 @@ IsAscii-hex_text byte small =
       | inl short ↦ rw (hex_one_digit true byte short) (IsAscii-glyph byte [] short IsAscii-nil)
       | inr long ↦
           rw (← hex_of_two [] byte long small)
-          (IsAscii-glyph (byte / 16) (digit_glyph true (byte % 16) ∷ []) (omega arith) (IsAscii-glyph (byte % 16) [] (omega arith) IsAscii-nil))
+          (IsAscii-glyph (byte / 16) (digit_glyph true (byte % 16) ∷ []) (omega arith)
+          (IsAscii-glyph (byte % 16) [] (omega arith) IsAscii-nil))
     ]
 
 -- The bytes after the first, each after a comma and a space.

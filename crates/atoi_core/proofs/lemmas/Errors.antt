@@ -47,7 +47,8 @@ module _ (int : IntType) (form : SignForm) (skip : Bool) (s : List ℕ) (reason 
   suffix_in extent h =
       let g = sign_in int form s in
       let end = refusal-input decimal_table (class_of int) (bound_of int g.minus) (limit_of int) extent skip g.body reason h in
-      let rest : input_of reason ≡ drop (g.taken + end.0) s = end.1 ∙ ap (drop end.0) (sym (drop-taken int form s)) ∙ drop-drop end.0 g.taken s in
+      let rest : input_of reason ≡ drop (g.taken + end.0) s =
+      end.1 ∙ ap (drop end.0) (sym (drop-taken int form s)) ∙ drop-drop end.0 g.taken s in
       (take (g.taken + end.0) s, rw (rest, take-append-drop (g.taken + end.0) s) refl)
 
 pub order_and_suffix : (int : IntType) → OrderAndSuffix int

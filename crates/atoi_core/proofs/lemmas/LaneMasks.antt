@@ -34,12 +34,19 @@ module _ (q : ℕ → Bool) (v : List ℕ) (few : length v ≤ 63) where
       let bit : (i : ℕ) → bit_at mask i ≡ cond (get_or (map q v) i false) 1 0 = λ i. ap (λ m. bit_at m i) is ∙ bit_mask_l (map q v) i in
       let most : trailing_ones w64 mask ≤ length v =
       elim (cases_lt (length v) (trailing_ones w64 mask)) [
-        | inl more ↦ absurd (grind (arith, nat_tests, found.2 (length v) more, bit (length v), get_or_past (map q v) (length v) false (omega (arith, length-map v q))))
+        | inl more ↦ absurd (grind (
+          arith,
+          nat_tests,
+          found.2 (length v) more,
+          bit (length v),
+          get_or_past (map q v) (length v) false (omega (arith, length-map v q)),
+        ))
         | inr few ↦ few
       ] in
       sym (prefix_len_is q v (trailing_ones w64 mask) 0 most
       (λ k lt. sym (get_or-map q v k 0 false (omega (arith, most))) ∙ grind (arith, nat_tests, bit k, found.2 k lt))
-      (λ short. sym (get_or-map q v (trailing_ones w64 mask) 0 false short) ∙ grind (arith, nat_tests, bit (trailing_ones w64 mask), found.1)))
+      (λ short. sym (get_or-map q v (trailing_ones w64 mask) 0 false short)
+      ∙ grind (arith, nat_tests, bit (trailing_ones w64 mask), found.1)))
 
   pub ones-of_lanes : (f : ℕ → ℕ) (z : List ℕ) → Each1 (Fits w8) v → z ≡ map f v → agree_below (λ x. top 7 (f x)) q 256 ≡ true
       → trailing_ones w64 (mask_l (map (top 7) z) % 2 ^ 64) ≡ prefix_len q v

@@ -25,7 +25,8 @@ module _ (n : ℕ) (s : List ℕ) where
   lanes_show : (size : ℕ) → lane_window size (padded_start n s) ≡ lane_window size (take n s)
   lanes_show size = cc (digits_shown, zeros_shown, run_shown)
 
-  pub reading_shown : Reading decimal_table n s (run_len decimal_table (padded_start n s)) (zeros decimal_table (padded_start n s)) (value decimal_table (run decimal_table (padded_start n s)))
+  pub reading_shown : Reading decimal_table n s (run_len decimal_table (padded_start n s))
+      (zeros decimal_table (padded_start n s)) (value decimal_table (run decimal_table (padded_start n s)))
   reading_shown = record { digits_are = digits_shown; leading_are = zeros_shown; number_is = ap (value decimal_table) run_shown }
 
 pub window_of_lanes : (s : List ℕ) → lane_window 16 (padded_start 16 s) ≡ window_of decimal_table 16 s

@@ -67,7 +67,8 @@ word_of_rest n s at enough inside few fits =
     let above : length s - n + missing ≡ at = omega arith in
     ap (λ e. word_of (drop (length s - n) s) / 2 ^ e) bits
     ∙ bytes_above missing (drop (length s - n) s) (λ i. rw get_or-drop (fits (length s - n + i)))
-    ∙ ap word_of (drop-drop missing (length s - n) s ∙ ap (λ k. drop k s) above ∙ sym (take_all n (drop at s) (omega (arith, length-drop at s))))
+    ∙ ap word_of (drop-drop missing (length s - n) s ∙ ap (λ k. drop k s) above
+    ∙ sym (take_all n (drop at s) (omega (arith, length-drop at s))))
 
 pub bytes : (s : List ℕ) → ((i : ℕ) → get_or s i 0 < 256) → Each1 (λ x. x < 256) s
 bytes s fits = Each1-from_get_or (λ x. x < 256) s 0 (λ i _. fits i)
@@ -107,14 +108,16 @@ words_joined s first next enough first_is next_is small small_next =
 -- ---- Digits and zeros of a loaded word
 
 -- The lowest n bytes of the word of `xs`, padded with zeros.
-pub digits-of_bytes : (n m : ℕ) (xs : List ℕ) → Each1 (λ x. x < 256) xs → n ≤ length xs + m → digits_l 256 n (number_l 256 xs) ≡ take n (xs ++ replicate m 0)
+pub digits-of_bytes : (n m : ℕ) (xs : List ℕ) → Each1 (λ x. x < 256) xs → n ≤ length xs + m
+    → digits_l 256 n (number_l 256 xs) ≡ take n (xs ++ replicate m 0)
 digits-of_bytes zero m xs h room = refl
 digits-of_bytes (suc n) zero [] h room = absurd (omega arith)
 digits-of_bytes (suc n) (suc m) [] h room = ap (λ ds. 0 ∷ ds) (digits-of_bytes n m [] tt (omega arith))
 digits-of_bytes (suc n) m (x ∷ xs) h room = search (arith, digits-of_bytes n m xs h.1, h.0)
 
 -- If 0 fails a test, zeros after a list do not change how far its first n elements pass.
-pub prefix_len-padded : (p : ℕ → Bool) → p 0 ≡ false → (n m : ℕ) (s : List ℕ) → prefix_len p (take n (s ++ replicate m 0)) ≡ prefix_len p (take n s)
+pub prefix_len-padded : (p : ℕ → Bool) → p 0 ≡ false → (n m : ℕ) (s : List ℕ)
+    → prefix_len p (take n (s ++ replicate m 0)) ≡ prefix_len p (take n s)
 prefix_len-padded p none zero m s = refl
 prefix_len-padded p none (suc n) zero [] = refl
 prefix_len-padded p none (suc n) (suc m) [] = rw none
@@ -145,14 +148,16 @@ module _ (width : ℕ) (s : List ℕ) (fits : (i : ℕ) → get_or s i 0 < 256) 
   loaded_first : (n : ℕ) → n ≤ width → n ≤ length s → low_bytes n word ≡ take n s
   unfolding low_bytes word_of
   loaded_first n few enough =
-      ap (digits_l 256 n) is ∙ digits-of_bytes n 0 (take width s) (Each1-chunk _ 0 width s (bytes s fits)) (omega (arith, length-take width s))
+      ap (digits_l 256 n) is
+      ∙ digits-of_bytes n 0 (take width s) (Each1-chunk _ 0 width s (bytes s fits)) (omega (arith, length-take width s))
       ∙ ap (take n) (append-nil (take width s)) ∙ take-take n width s few
 
   pub loaded_bytes : width ≤ length s → low_bytes width word ≡ take width s
   loaded_bytes enough = loaded_first width (omega arith) enough
 
   -- The weighted sum of leading digits is their value.
-  pub loaded_part : (len : ℕ) → len ≤ run_len decimal_table (low_bytes width word) → low_value (low_bytes len word) ≡ value decimal_table (take len s)
+  pub loaded_part : (len : ℕ) → len ≤ run_len decimal_table (low_bytes width word)
+      → low_value (low_bytes len word) ≡ value decimal_table (take len s)
   loaded_part len within = search (arith, loaded_run, prefix_len-take, loaded_first, low_value_is, prefix_len-le-length)
 
 pub fits_after : (n : ℕ) (s : List ℕ) → ((i : ℕ) → get_or s i 0 < 256) → (i : ℕ) → get_or (drop n s) i 0 < 256

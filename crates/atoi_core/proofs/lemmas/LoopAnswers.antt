@@ -31,8 +31,9 @@ pub answers_empty : {table : Table} (class : Class) (bound limit : ℕ) {skip : 
 answers_empty {table} class bound limit {skip} {s} after_skip none = search (arith, refused_empty)
 
 -- A last window that is not full holds the rest of the run, if there is any.
-pub answers_short : {table : Table} (class : Class) (bound limit : ℕ) {skip : Bool} {s : List ℕ} {at before now : ℕ} {w : Window} {number len : ℕ} →
-    limit < cap class → Skipped table skip s at before now w → w.len < 16 → 16 < limit → HasDigits limit bound → number ≡ w.number → len ≡ at + w.len →
+pub answers_short : {table : Table} (class : Class) (bound limit : ℕ) {skip : Bool} {s : List ℕ} {at before now : ℕ}
+    {w : Window} {number len : ℕ} → limit < cap class → Skipped table skip s at before now w → w.len < 16 → 16 < limit →
+    HasDigits limit bound → number ≡ w.number → len ≡ at + w.len →
     (if len == 0 then Err empty else Ok (number, len)) ≡ prefix_magnitude table class bound limit skip s
 answers_short class bound limit less after_skip few long digits number_is len_is =
     let seen = after_skip.window in
@@ -40,8 +41,9 @@ answers_short class bound limit less after_skip few long digits number_is len_is
     grind (arith, decides)
 
 -- So do a full window and one that is not: `Ok` for 128 bits.
-pub answers_two : {table : Table} → IsBelowTen table → (bound : ℕ) {skip : Bool} {s : List ℕ} {at before now : ℕ} {first second : Window} {number len : ℕ} →
-    Skipped table skip s at before now first → 16 ≤ first.len → Shows table 16 (drop 16 (drop at s)) second → second.len < 16 → HasDigits 39 bound →
+pub answers_two : {table : Table} → IsBelowTen table → (bound : ℕ) {skip : Bool} {s : List ℕ} {at before now : ℕ}
+    {first second : Window} {number len : ℕ} → Skipped table skip s at before now first → 16 ≤ first.len →
+    Shows table 16 (drop 16 (drop at s)) second → second.len < 16 → HasDigits 39 bound →
     number ≡ first.number * 10 ^ second.len + second.number → len ≡ at + (16 + second.len) →
     Ok (number, len) ≡ prefix_magnitude table wide128 bound 39 skip s
 answers_two ten bound {at = at} {second = second} after_skip full following few digits number_is len_is =
@@ -53,7 +55,8 @@ answers_two ten bound {at = at} {second = second} after_skip full following few 
 pub answers_64 : {table : Table} (bound limit : ℕ) {skip : Bool} {s : List ℕ} {at before now : ℕ} {first_window back : Window} →
     limit < 24 → Skipped table skip s at before now first_window → 16 ≤ first_window.len → Shows table 8 (drop 16 (drop at s)) back →
     let number = first_window.number * 10 ^ back.len + back.number in
-    (at + (16 + back.len) ≤ length s) × (answer_by_digits wide64 bound limit at (16 + back.len) number s ≡ prefix_magnitude table wide64 bound limit skip s)
+    (at + (16 + back.len) ≤ length s)
+    × (answer_by_digits wide64 bound limit at (16 + back.len) number s ≡ prefix_magnitude table wide64 bound limit skip s)
 answers_64 {table} bound limit {skip} {s} {at} less after_skip full following =
     let both = Shows-join after_skip.window full following in (
       omega (arith, after_skip.within, within both, length-drop at s),
@@ -61,8 +64,9 @@ answers_64 {table} bound limit {skip} {s} {at} less after_skip full following =
     )
 
 -- For 128 bits, two full windows and 8 bytes decide.
-pub answers_128 : {table : Table} → IsBelowTen table → (bound : ℕ) {skip : Bool} {s : List ℕ} {at before now high : ℕ} {first_window middle back : Window} →
-    Skipped table skip s at before now first_window → 16 ≤ first_window.len → Shows table 16 (drop 16 (drop at s)) middle → 16 ≤ middle.len →
+pub answers_128 : {table : Table} → IsBelowTen table → (bound : ℕ) {skip : Bool} {s : List ℕ} {at before now high : ℕ}
+    {first_window middle back : Window} → Skipped table skip s at before now first_window → 16 ≤ first_window.len →
+    Shows table 16 (drop 16 (drop at s)) middle → 16 ≤ middle.len →
     Shows table 8 (drop 32 (drop at s)) back → high ≡ first_window.number * 10 ^ middle.len + middle.number →
     let number = high * 10 ^ back.len + back.number in
     (number < 10 ^ (32 + back.len)) × (at + (32 + back.len) ≤ length s)
@@ -87,7 +91,8 @@ whole_from_prefix invalid s (Ok found) = if found.1 == length s then Ok found.0 
 last_reason : (invalid : ℕ → ℕ → List ℕ → Refusal) (s : List ℕ) (a b c : Bool) (none long above : Refusal) (v n : ℕ) →
     unless_refused (if a then Some none else (if b then Some long else (if c then Some above
     else (if not (n == length s) then Some (invalid v n s) else None)))) v
-    ≡ whole_from_prefix invalid s (unless_refused (if a then Some none else (if b then Some long else (if c then Some above else None))) (v, n))
+    ≡ whole_from_prefix invalid s
+    (unless_refused (if a then Some none else (if b then Some long else (if c then Some above else None))) (v, n))
 last_reason invalid s a b c none long above v n = grind (arith, nat_tests)
 
 pub whole_is_64 : (table : Table) (bound limit : ℕ) (skip : Bool) (s : List ℕ)
@@ -131,7 +136,12 @@ module _ {table : Table} {skip : Bool} {s : List ℕ} {at before now : ℕ} {w :
   number_most : w.number ≤ value table (run table s)
   number_most =
       let seen = after_skip.window in
-      omega (arith, after_skip.value_is, seen.number_is, value-take-le table (drop at s) w.len (run_len table (drop at s)) (omega (arith, seen.len_is)))
+      omega (
+        arith,
+        after_skip.value_is,
+        seen.number_is,
+        value-take-le table (drop at s) w.len (run_len table (drop at s)) (omega (arith, seen.len_is)),
+      )
 
   -- If its number fits in 32 bits, the last window ends the run and has its value.
   rest_is : w.number ≤ 4294967295 → (run_len table s ≡ at + w.len) × (value table (run table s) ≡ w.number)
@@ -141,7 +151,8 @@ module _ {table : Table} {skip : Bool} {s : List ℕ} {at before now : ℕ} {w :
 
   -- With a digit, the last number decides between `Overflow` and `Ok`.
   pub narrow_after_skip : (bound limit : ℕ) → bound ≤ 4294967295 → 0 < at + w.len →
-      (if nat_lt bound w.number then Err (overflow (drop at s)) else Ok (w.number, at + w.len)) ≡ prefix_magnitude table narrow bound limit skip s
+      (if nat_lt bound w.number then Err (overflow (drop at s)) else Ok (w.number, at + w.len))
+      ≡ prefix_magnitude table narrow bound limit skip s
   narrow_after_skip bound limit high some =
       let digits : 0 < run_len table s = omega (arith, after_skip.run_is, after_skip.window.len_is) in
       let short = not_too_long table skip limit s few in
@@ -207,7 +218,8 @@ module _ (table : Table) (bound limit : ℕ) (skip : Bool) (s : List ℕ) where
 
 -- The last window decides the answer to a narrow whole slice.
 pub narrow_decides : {table : Table} {s : List ℕ} {at before now : ℕ} {w : Window} {len : ℕ} → Skipped table true s at before now w →
-    len ≡ at + w.len → (bound : ℕ) → bound ≤ 4294967295 → decision narrow bound len w.number s ≡ whole_magnitude table narrow bound 0 false s
+    len ≡ at + w.len → (bound : ℕ) → bound ≤ 4294967295 →
+    decision narrow bound len w.number s ≡ whole_magnitude table narrow bound 0 false s
 narrow_decides {table} {s} {w = w} {len} after_skip len_is bound high =
     let few : true ≡ false → run_len table s ≤ 16 = λ no. absurd (cc no) in
     elim (cases_lt bound w.number) [
@@ -226,7 +238,8 @@ narrow_decides {table} {s} {w = w} {len} after_skip len_is bound high =
 -- ---- Whole slices of fewer than 16 bytes
 
 -- Only two of the tests are left.
-two_tests : (a d : Bool) (p t : Refusal) (v : ℕ) → (if a then Err p else (if d then Ok v else Err t)) ≡ unless_refused (if a then Some p else (if not d then Some t else None)) v
+two_tests : (a d : Bool) (p t : Refusal) (v : ℕ)
+    → (if a then Err p else (if d then Ok v else Err t)) ≡ unless_refused (if a then Some p else (if not d then Some t else None)) v
 two_tests a d p t v = grind (arith, nat_tests)
 
 module _ (table : Table) (ten : IsBelowTen table) (int : IntType) (s : List ℕ) (short : length s < 16) where
@@ -259,6 +272,7 @@ module _ (table : Table) (ten : IsBelowTen table) (int : IntType) (s : List ℕ)
       let limit = limit_of int in
       let enough = short_enough class skip limit (significant_len table skip s) (omega (arith, limit-least int, few)) in
       elim (bound-least int sized minus) [
-        | inl narrow_is ↦ rw (all, narrow_is) (narrow_whole_is table bound limit skip s (run_len table s) (value table (run table s)) refl refl)
+        | inl narrow_is ↦
+            rw (all, narrow_is) (narrow_whole_is table bound limit skip s (run_len table s) (value table (run table s)) refl refl)
         | inr fits ↦ rw (all, refusal-is table class bound limit whole skip s, enough, in_range bound fits) (two_tests _ _ _ _ _)
       ]

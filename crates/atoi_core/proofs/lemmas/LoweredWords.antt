@@ -41,7 +41,8 @@ marks_in k word = bit_and (bit_or ((word + repeated 70 k) % 2 ^ (k * 8)) ((word 
 
 pub marks_counted : (k word : ℕ) → count_trailing_zeros (k * 8) (marks_in k word) / 8 ≡ run_len decimal_table (low_bytes k word)
 marks_counted =
-    let marks = both bit_and and_shr and_mod (both bit_or or_shr or_mod (cut (added 70 (lit< tt))) (cut lowered)) (constant 128 (lit< tt)) in
+    let marks =
+    both bit_and and_shr and_mod (both bit_or or_shr or_mod (cut (added 70 (lit< tt))) (cut lowered)) (constant 128 (lit< tt)) in
     counted marks (is_digit decimal_table) refl (λ b h e. e)
 
 pub marks_of_8 : (word : ℕ) → count_trailing_zeros 64 (marks_in 8 word) / 8 ≡ run_len decimal_table (low_bytes 8 word)
@@ -66,10 +67,18 @@ length-digits base (suc k) word = cc (length-digits base k (word / base))
 pub low_value_masked : (k word : ℕ) → low_value (digits_l 256 k (bit_and word (repeated 15 k))) ≡ low_value (digits_l 256 k word)
 low_value_masked zero word = refl
 low_value_masked (suc k) word =
-    let block = rw (shr_split word 8) at (and_block 8 (word / 256) (repeated 15 k) (word % 256) 15 (mod-lt word (zero-lt-suc 255)) (lit< tt)) in
+    let block =
+    rw (shr_split word 8) at (and_block 8 (word / 256) (repeated 15 k) (word % 256) 15 (mod-lt word (zero-lt-suc 255)) (lit< tt)) in
     let low : bit_and word (repeated 15 (suc k)) % 256 % 16 ≡ word % 256 % 16 = omega (arith, block, and_mask (word % 256) 4) in
-    let rest : bit_and word (repeated 15 (suc k)) / 256 ≡ bit_and (word / 256) (repeated 15 k) = omega (arith, block, and_mask (word % 256) 4) in
-    cc (low, rest, length-digits 256 k (word / 256), length-digits 256 k (bit_and (word / 256) (repeated 15 k)), low_value_masked k (word / 256))
+    let rest : bit_and word (repeated 15 (suc k)) / 256 ≡ bit_and (word / 256) (repeated 15 k) =
+    omega (arith, block, and_mask (word % 256) 4) in
+    cc (
+      low,
+      rest,
+      length-digits 256 k (word / 256),
+      length-digits 256 k (bit_and (word / 256) (repeated 15 k)),
+      low_value_masked k (word / 256),
+    )
 
 -- A cut after a shift by z bits is one before it.
 pub shift_cut : (a j z : ℕ) → a * 2 ^ z % 2 ^ (j + z) ≡ a % 2 ^ j * 2 ^ z
@@ -96,7 +105,8 @@ lowered_digits (suc n) (suc k) word digits =
     let block = and_block 8 (word / 256 % 2 ^ (k * 8)) (repeated 15 k) byte 15 (mod-lt word (zero-lt-suc 255)) (lit< tt) in
     rw (suc-mul k 8)
     (mod-pow-add (word + without_48 (suc n)) (k * 8) 8
-    ∙ ap₂ (λ rest low. rest * 256 + low) (ap (λ x. x % 2 ^ (k * 8)) (lowered.rest n word passes.0) ∙ lowered_digits n k (word / 256) passes.1)
+    ∙ ap₂ (λ rest low. rest * 256 + low)
+    (ap (λ x. x % 2 ^ (k * 8)) (lowered.rest n word passes.0) ∙ lowered_digits n k (word / 256) passes.1)
     (lowered.low n word ∙ sym (lower_half byte passes.0))
     ∙ sym block ∙ ap (λ x. bit_and x (repeated 15 (suc k))) (sym (mod-pow-add word (k * 8) 8)))
 
@@ -105,10 +115,12 @@ shifted_halves : (z k word : ℕ) → bit_and word (repeated 15 k) * 2 ^ (z * 8)
 shifted_halves zero k word = cc (zero-add k, mul-one word, mul-one (bit_and word (repeated 15 k)))
 shifted_halves (suc z) k word =
     let next : word * (256 * 2 ^ (z * 8)) ≡ word * 2 ^ (z * 8) * 256 + 0 = omega arith in
-    rw (suc-add z k, byte_more, next) (omega (arith, shifted_halves z k word, and_block 8 (word * 2 ^ (z * 8)) (repeated 15 (z + k)) 0 15 (lit< tt) (lit< tt)))
+    rw (suc-add z k, byte_more, next)
+    (omega (arith, shifted_halves z k word, and_block 8 (word * 2 ^ (z * 8)) (repeated 15 (z + k)) 0 15 (lit< tt) (lit< tt)))
 
 -- Masked bytes are below 16, and keep the sum.
-pub masked : (size x ones : ℕ) → ones ≡ bit_and x (repeated 15 size) → (bit_and ones (repeated 15 size) ≡ ones) × (low_value (low_bytes size ones) ≡ low_value (low_bytes size x))
+pub masked : (size x ones : ℕ) → ones ≡ bit_and x (repeated 15 size)
+    → (bit_and ones (repeated 15 size) ≡ ones) × (low_value (low_bytes size ones) ≡ low_value (low_bytes size x))
 unfolding low_bytes
 masked size x ones is = (
   cc (is, and_assoc (repeated 15 size) x (repeated 15 size), and_self (repeated 15 size)),
@@ -116,8 +128,8 @@ masked size x ones is = (
 )
 
 -- So are digits minus 48 that are shifted to the top of `size` bytes.
-pub lowered_bytes : (width size len word k ones : ℕ) → size ≤ width → len ≤ size → k ≡ (size - len) * 8 → len ≤ run_len decimal_table (low_bytes width word)
-    → ones ≡ (word + without_48 width) % 2 ^ (width * 8) * 2 ^ k % 2 ^ (size * 8)
+pub lowered_bytes : (width size len word k ones : ℕ) → size ≤ width → len ≤ size → k ≡ (size - len) * 8
+    → len ≤ run_len decimal_table (low_bytes width word) → ones ≡ (word + without_48 width) % 2 ^ (width * 8) * 2 ^ k % 2 ^ (size * 8)
     → (bit_and ones (repeated 15 size) ≡ ones) × (low_value (low_bytes size ones) ≡ low_value (low_bytes len word))
 unfolding low_bytes
 lowered_bytes width size len word k ones small few k_is digits is =

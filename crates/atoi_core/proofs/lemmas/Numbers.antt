@@ -36,11 +36,13 @@ number_then_byte int sized =
         λ h. search (arith, take-append-drop),
       );
       cut = λ form s number other byte rest count not h found.
-          let parts = laws.cut form s h.bytes (byte ∷ rest) number other count h.parts h.written (no_digit (byte ∷ rest) 0 (λ more. not)) found in
+          let parts = laws.cut form s h.bytes (byte ∷ rest) number other count h.parts h.written
+          (no_digit (byte ∷ rest) 0 (λ more. not)) found in
           (parts.0, parts.1.1);
       only = λ form s number other byte rest more not h k.
           let found = laws.of_parts form s k.bytes (byte ∷ more) other k.parts k.written (no_digit (byte ∷ more) 0 (λ all. not)) in
-          let same = laws.cut form s h.bytes (byte ∷ rest) number other (length k.bytes) h.parts h.written (no_digit (byte ∷ rest) 0 (λ more. not)) found in
+          let same = laws.cut form s h.bytes (byte ∷ rest) number other (length k.bytes) h.parts h.written
+          (no_digit (byte ∷ rest) 0 (λ more. not)) found in
           let both : byte ∷ rest ≡ byte ∷ more = sym same.1.1 ∙ front_rest s k.bytes (byte ∷ more) k.parts in (same.0, cc);
     }
 
@@ -69,14 +71,17 @@ pub none_or_too_large : (int : IntType) → IsSized int → NoneOrTooLarge int
 none_or_too_large int sized = record {
   none = λ form skip s reason h.
       let g = sign_in int form s in
-      let refused = sym (refusal-is decimal_table (class_of int) (bound_of int g.minus) (limit_of int) prefix skip g.body) ∙ prefix_refused int form skip s reason h in
+      let refused = sym (refusal-is decimal_table (class_of int) (bound_of int g.minus) (limit_of int) prefix skip g.body)
+      ∙ prefix_refused int form skip s reason h in
       grind (arith, nat_tests, refused);
   too_large = λ form s reason h some.
       let g = sign_in int form s in
       let count = run_len decimal_table g.body in
       let digits = run decimal_table g.body in
-      let all = to_std digits (digits_all decimal_table digits (run_len-run decimal_table g.body ∙ sym (length-run decimal_table g.body))) in
-      let refused = sym (refusal-is decimal_table (class_of int) (bound_of int g.minus) (limit_of int) prefix true g.body) ∙ prefix_refused int form true s reason h in
+      let all = to_std digits (digits_all decimal_table digits
+      (run_len-run decimal_table g.body ∙ sym (length-run decimal_table g.body))) in
+      let refused = sym (refusal-is decimal_table (class_of int) (bound_of int g.minus) (limit_of int) prefix true g.body)
+      ∙ prefix_refused int form true s reason h in
       let above : bound_of int g.minus < value decimal_table digits =
       grind (arith, nat_tests, refused, long_is_above int sized g.minus g.body)
       in
@@ -88,6 +93,7 @@ none_or_too_large int sized = record {
       };
   begins = λ s. (run_of_begins s, begins_of_run s);
   one_split = λ digits other rest more same all all_other ends ends_other.
-      let front : digits ≡ other = sym (run_before digits rest all ends) ∙ ap (run decimal_table) same ∙ run_before other more all_other ends_other in
+      let front : digits ≡ other =
+      sym (run_before digits rest all ends) ∙ ap (run decimal_table) same ∙ run_before other more all_other ends_other in
       (front, append_cancel_left other rest more (rw front at same));
 }

@@ -63,7 +63,8 @@ prefix_of_cut int = record {
       rw (found.count_is, add_comm n g.taken, take-add g.taken n s, drop-taken int form s) refl
       in
       let again : sign_in int form (take count s) ≡ record g { body = run decimal_table g.body } =
-      ap (sign_in int form) cut ∙ sign_again int form s (run decimal_table g.body) (rw (run_len-run decimal_table g.body) found.is_prefix.some)
+      ap (sign_in int form) cut
+      ∙ sign_again int form s (run decimal_table g.body) (rw (run_len-run decimal_table g.body) found.is_prefix.some)
       in (
         omega (arith, found.count_is, found.is_prefix.some),
         omega (arith, found.count_is),
@@ -79,7 +80,8 @@ stops : (rest : List ℕ) → ¬ BeginsWithDigit rest → run_len decimal_table 
 stops rest ends = grind (arith, cases_Bool, digit_in_range)
 
 -- If the byte at `count` is no digit, the bytes from there begin with none.
-pub no_digit : (s : List ℕ) (count : ℕ) → (count < length s → IsFalse (is_digit decimal_table (get_or s count 0))) → ¬ BeginsWithDigit (drop count s)
+pub no_digit : (s : List ℕ) (count : ℕ)
+    → (count < length s → IsFalse (is_digit decimal_table (get_or s count 0))) → ¬ BeginsWithDigit (drop count s)
 no_digit [] zero h = λ digit. digit
 no_digit [] (suc count) h = λ digit. digit
 no_digit (byte ∷ bytes) zero h = λ digit. absurd (cc (h (omega arith), ap is_some (digit_is byte digit.0 digit.1)))
@@ -109,7 +111,8 @@ prefix_written int form skip s number count h =
       written = whole_written int form skip (take count s) number ((prefix_is_whole int).whole form skip (take count s) number to_end);
       some = omega (arith, cut.0);
       within = cut.1;
-      ends = no_digit s count (λ more. elim (prefix_stops_at_rest int form skip s number count h) [ inl all ↦ absurd (omega arith) | inr end ↦ end.1 ]);
+      ends = no_digit s count
+          (λ more. elim (prefix_stops_at_rest int form skip s number count h) [ inl all ↦ absurd (omega arith) | inr end ↦ end.1 ]);
     }
 
 prefix_accepted : (int : IntType) → IsSized int → (form : SignForm) (s : List ℕ) (number : ℤ) (count : ℕ)
@@ -122,7 +125,8 @@ prefix_accepted int sized (looked_for takes_plus) s number count h =
     let text = h.written in
     let rest = drop count s in
     let parts : s ≡ sign_bytes text.sign ++ (text.digits ++ rest) =
-    sym (take-append-drop count s) ∙ ap (λ prefix_bytes. prefix_bytes ++ rest) text.parts ∙ append_assoc (sign_bytes text.sign) text.digits rest
+    sym (take-append-drop count s) ∙ ap (λ prefix_bytes. prefix_bytes ++ rest) text.parts
+    ∙ append_assoc (sign_bytes text.sign) text.digits rest
     in
     let some : 0 < run_len decimal_table (text.digits ++ rest) =
     omega (arith, run_len_before text.digits rest text.written.numeral.1 h.ends, text.written.numeral.0)
@@ -134,10 +138,12 @@ prefix_accepted int sized (looked_for takes_plus) s number count h =
     omega (arith, length-take-le count s h.within, simp length-append at (ap length text.parts))
     in
     ok_prefix int (looked_for takes_plus) true s number count
-    (rw sign_is (rw len at (prefix_found int sized (is_minus text.sign) (length (sign_bytes text.sign)) text.digits rest number text.written h.ends)))
+    (rw sign_is (rw len at (prefix_found int sized (is_minus text.sign) (length (sign_bytes text.sign))
+    text.digits rest number text.written h.ends)))
 
 -- Bytes that write a number are not empty.
-some : (int : IntType) (form : SignForm) (prefix_bytes : List ℕ) (number : ℤ) → Writes int form prefix_bytes number → 0 < length prefix_bytes
+some : (int : IntType) (form : SignForm) (prefix_bytes : List ℕ) (number : ℤ)
+    → Writes int form prefix_bytes number → 0 < length prefix_bytes
 some int (looked_for takes_plus) prefix_bytes number h = omega (arith, ap length h.parts, length-append {A = ℕ}, h.written.numeral.0)
 some int (given is_negative) prefix_bytes number h = h.numeral.0
 
@@ -150,7 +156,8 @@ prefixes_and_rests int sized = record {
   of_parts = λ form s prefix_bytes rest number parts written ends. search (arith, some, take-append_seam, length-append, front_rest);
   only = λ form s number other count len h g. search (arith, prefix_accepted, same_answer);
   cut = λ form s prefix_bytes rest number other count parts written ends found.
-      let front : PrefixWrites (Writes int form) s number (length prefix_bytes) = search (arith, some, take-append_seam, length-append, front_rest) in
+      let front : PrefixWrites (Writes int form) s number (length prefix_bytes) =
+      search (arith, some, take-append_seam, length-append, front_rest) in
       let same : (number ≡ other) × (length prefix_bytes ≡ count) = search (arith, prefix_accepted, same_answer) in
       (same.0, (rw (← same.1, parts, take-append_seam prefix_bytes rest) refl, rw (← same.1) (front_rest s prefix_bytes rest parts)));
 }
@@ -197,7 +204,8 @@ module _ {T : Type 0} (int : IntType) (sized : IsSized int) (number : T → ℤ)
       on_err : (form : SignForm) (s : List ℕ) (result : Result T AtoiSimdError) → typed_answer number result ≡ whole_call int form skip s
           → IsTrue skip → OnErr result ((any : ℤ) → ¬ Writes int form s any)
       on_err form s (Ok value) is on = tt
-      on_err form s (Err error) is on = λ any h. let found : whole_call int form skip s ≡ Ok any = rw on ((accepted_numbers int sized).accepted form s any h) in absurd (cc)
+      on_err form s (Err error) is on = λ any h.
+          let found : whole_call int form skip s ≡ Ok any = rw on ((accepted_numbers int sized).accepted form s any h) in absurd (cc)
 
   pub prefix_results : PrefixResults int number skip
   prefix_results = record {
@@ -207,12 +215,14 @@ module _ {T : Type 0} (int : IntType) (sized : IsSized int) (number : T → ℤ)
     no_digits = λ is_negative. on_err (given is_negative);
   }
     where
-      if_ok : (form : SignForm) (s : List ℕ) (result : Result (T × ℕ) AtoiSimdError) → typed_prefix_answer number result ≡ prefix_call int form skip s
+      if_ok : (form : SignForm) (s : List ℕ) (result : Result (T × ℕ) AtoiSimdError)
+          → typed_prefix_answer number result ≡ prefix_call int form skip s
           → IfOk result (λ found. PrefixWrites (Writes int form) s (number found.0) found.1)
       if_ok form s (Ok found) is = prefix_written int form skip s (number found.0) found.1 (sym is)
       if_ok form s (Err error) is = tt
 
-      on_err : (form : SignForm) (s : List ℕ) (result : Result (T × ℕ) AtoiSimdError) → typed_prefix_answer number result ≡ prefix_call int form skip s
+      on_err : (form : SignForm) (s : List ℕ) (result : Result (T × ℕ) AtoiSimdError)
+          → typed_prefix_answer number result ≡ prefix_call int form skip s
           → IsTrue skip → OnErr result ((any : ℤ) (count : ℕ) → ¬ PrefixWrites (Writes int form) s any count)
       on_err form s (Ok found) is on = tt
       on_err form s (Err error) is on = λ any count h.

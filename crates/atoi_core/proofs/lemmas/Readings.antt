@@ -38,7 +38,8 @@ pub join_readings : {table : Table} {count more : ℕ} {s : List ℕ} {leading h
 join_readings {table} {count} {more} {s} {leading} {digits = digits} first_window back =
     let a = uncut_of first_window in
     let b = uncut_of back in
-    let rest : run_len table s ≡ count + run_len table (drop count s) = prefix_len-drop (is_digit table) count s (omega (arith, a.digits_are)) in
+    let rest : run_len table s ≡ count + run_len table (drop count s) =
+    prefix_len-drop (is_digit table) count s (omega (arith, a.digits_are)) in
     let within : count + digits ≤ length s = omega (arith, a.digits_are, b.digits_are, prefix_len-le-length (is_digit table) s) in
     let leading_is = prefix_len-drop (is_zero table) count s in
     reading_of (search (arith, leading_both, value-take-add, leading_is))
@@ -80,7 +81,8 @@ module _ {table : Table} (class : Class) (bound limit : ℕ) (less : limit < cap
       → Reading table count (drop offset s) digits leading number
       → (digits < count) ⊎ (cap class ≤ significant_digits skip digits leading)
       → prefix_magnitude table class bound limit skip s
-      ≡ answer_by_digits class bound limit (offset + (digits - significant_digits skip digits leading)) (significant_digits skip digits leading) number s
+      ≡ answer_by_digits class bound limit (offset + (digits - significant_digits skip digits leading))
+      (significant_digits skip digits leading) number s
   decided {skip} {s} {offset} {count} {digits} {leading} {number} skipped reading enough =
       let body : List ℕ = drop offset s in
       let run_is : run_len table s ≡ offset + run_len table body =
@@ -101,7 +103,8 @@ module _ {table : Table} (class : Class) (bound limit : ℕ) (less : limit < cap
       elim enough [
         | inl ends ↦
             let all : run_len table body ≡ digits = omega (arith, uncut.digits_are) in
-            let number_is : value table (run table s) ≡ number = cc (value-drop_zeros table offset s skipped.zeros_only, all, uncut.number_is) in
+            let number_is : value table (run table s) ≡ number =
+            cc (value-drop_zeros table offset s skipped.zeros_only, all, uncut.number_is) in
             rw (← number_is) (by_all_digits table class bound limit skip s front significant less skipped_are (omega arith))
         | inr many ↦
             by_all_digits table class bound limit skip s front (run_len table s - front) less skipped_are (omega (arith, uncut.digits_are))
@@ -109,9 +112,11 @@ module _ {table : Table} (class : Class) (bound limit : ℕ) (less : limit < cap
       ]
 
   -- Fewer digits than the limit spell a number within the bound.
-  pub short_below : HasDigits limit bound → {skip : Bool} {s : List ℕ} {offset count digits leading number : ℕ} → IsSkipped table skip s offset
+  pub short_below : HasDigits limit bound → {skip : Bool} {s : List ℕ} {offset count digits leading number : ℕ}
+      → IsSkipped table skip s offset
       → Reading table count (drop offset s) digits leading number → digits < count → digits < limit → number < 10 ^ digits
-      → (number ≤ bound) × (prefix_magnitude table class bound limit skip s ≡ cond (eqb (offset + digits) 0) (Err empty) (Ok (number, offset + digits)))
+      → (number ≤ bound)
+      × (prefix_magnitude table class bound limit skip s ≡ cond (eqb (offset + digits) 0) (Err empty) (Ok (number, offset + digits)))
   short_below bounds {skip} {s} {offset} {digits = digits} {leading} {number} skipped reading ends few small =
       let significant : ℕ = significant_digits skip digits leading in
       let most : significant ≤ digits = counting_most skip digits leading in
@@ -135,5 +140,7 @@ module _ {table : Table} (class : Class) (bound limit : ℕ) (less : limit < cap
 pub short : {table : Table} → IsBelowTen table → (class : Class) (bound limit : ℕ) → limit < cap class → HasDigits limit bound
     → {skip : Bool} {s : List ℕ} {offset count digits leading number : ℕ} → IsSkipped table skip s offset
     → Reading table count (drop offset s) digits leading number → digits < count → digits < limit
-    → (number ≤ bound) × (prefix_magnitude table class bound limit skip s ≡ cond (eqb (offset + digits) 0) (Err empty) (Ok (number, offset + digits)))
-short ten class bound limit less bounds skipped reading ends few = short_below class bound limit less bounds skipped reading ends few (below reading ten)
+    → (number ≤ bound)
+    × (prefix_magnitude table class bound limit skip s ≡ cond (eqb (offset + digits) 0) (Err empty) (Ok (number, offset + digits)))
+short ten class bound limit less bounds skipped reading ends few =
+    short_below class bound limit less bounds skipped reading ends few (below reading ten)

@@ -70,7 +70,8 @@ module _ (table : Table) (class : Class) (bound limit : ℕ) (extent : Extent) (
   rule = rule_of class extent skip limit (run_len table body) (skipped_zeros table skip body)
 
   abbrev pub too_long : Refusal
-  too_long = size (skipped_zeros table skip body + min (significant_len table skip body) rule.cap) (drop (skipped_zeros table skip body) body)
+  too_long = size (skipped_zeros table skip body + min (significant_len table skip body) rule.cap)
+      (drop (skipped_zeros table skip body) body)
 
   abbrev pub over : Refusal
   over = overflow (drop rule.dropped body)
@@ -99,7 +100,12 @@ module _ (table : Table) (class : Class) (bound limit : ℕ) (extent : Extent) (
   pub accepted : refusal table class bound limit extent skip body ≡ None → IsAccepted table class bound limit extent skip body
   accepted h =
       let tests = first_none is_empty is_long is_over is_followed empty too_long over followed (sym refusal-is ∙ h) in
-      record { some = omega (arith, eqb-false (run_len table body) 0 tests.0); short = tests.1; in_range = ltb-false _ _ tests.2; ends = tests.3 }
+      record {
+        some = omega (arith, eqb-false (run_len table body) 0 tests.0);
+        short = tests.1;
+        in_range = ltb-false _ _ tests.2;
+        ends = tests.3;
+      }
 
   pub refusal-input : (reason : Refusal) → refusal table class bound limit extent skip body ≡ Some reason
       → (n : ℕ) × (input_of reason ≡ drop n body)

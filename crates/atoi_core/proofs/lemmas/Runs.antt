@@ -48,7 +48,8 @@ value-zeros table zero s = λ _. refl
 value-zeros table (suc n) [] = λ h. absurd (omega arith)
 value-zeros table (suc n) (b ∷ bs) = grind (arith, nat_tests, value_of_zero, value-zeros table n bs)
 
-pub value-drop_zeros : (table : Table) (n : ℕ) (s : List ℕ) → n ≤ zeros table s → value table (run table s) ≡ value table (run table (drop n s))
+pub value-drop_zeros : (table : Table) (n : ℕ) (s : List ℕ) → n ≤ zeros table s
+    → value table (run table s) ≡ value table (run table (drop n s))
 value-drop_zeros table n s h = search (arith, prefix_len-drop, zeros-le, prefix_len-le-length, value-take-add, value-zeros)
 
 -- n + 1 digits without a leading zero spell at least 10^n.
@@ -57,7 +58,8 @@ value-least table n [] = λ h z. absurd (omega arith)
 value-least table n (b ∷ bs) = λ h z.
     let some : 1 ≤ digit_value table b = grind (arith, nat_tests) in
     let few : n ≤ run_len table bs = grind (arith, nat_tests) in
-    let least : 1 * 10 ^ length (take n bs) ≤ digit_value table b * 10 ^ length (take n bs) = mul-le-mul_right (10 ^ length (take n bs)) some in
+    let least : 1 * 10 ^ length (take n bs) ≤ digit_value table b * 10 ^ length (take n bs) =
+    mul-le-mul_right (10 ^ length (take n bs)) some in
     omega (arith, ap (λ (m : ℕ). 10 ^ m) (length-take-le n bs (omega (arith, prefix_len-le-length (is_digit table) bs))))
 
 -- ---- Runs that are cut or joined

@@ -21,8 +21,8 @@ same_outcome : (minus other_minus : Bool) (r q : Option Refusal) (x y : ℕ) →
 same_outcome minus other_minus r q x y h e = grind arith
 
 -- The same of prefix answers whose counts differ by `more`.
-same_prefix_outcome : (more taken other_taken : ℕ) (minus other_minus : Bool) (r q : Option Refusal) (x y : ℕ × ℕ) → option_map rank r ≡ option_map rank q
-    → with_sign minus x.0 ≡ with_sign other_minus y.0 → x.1 + taken + more ≡ y.1 + other_taken
+same_prefix_outcome : (more taken other_taken : ℕ) (minus other_minus : Bool) (r q : Option Refusal) (x y : ℕ × ℕ)
+    → option_map rank r ≡ option_map rank q → with_sign minus x.0 ≡ with_sign other_minus y.0 → x.1 + taken + more ≡ y.1 + other_taken
     → HaveSameOutcome (with_more more (with_more taken (map_answer (counted_number minus) (unless_refused r x))))
     (with_more other_taken (map_answer (counted_number other_minus) (unless_refused q y)))
 same_prefix_outcome more taken other_taken minus other_minus r q x y h e c = grind arith
@@ -45,7 +45,8 @@ record IsAlike (int : IntType) (skip : Bool) (extent : Extent) (g h : Sign) : Ty
   is_empty : eqb (run_len decimal_table g.body) 0 ≡ eqb (run_len decimal_table h.body) 0
   counts : significant_len decimal_table skip g.body ≡ significant_len decimal_table skip h.body
   number : number_at g ≡ number_at h
-  followed : leaves_rest extent (run_len decimal_table g.body) (length g.body) ≡ leaves_rest extent (run_len decimal_table h.body) (length h.body)
+  followed : leaves_rest extent (run_len decimal_table g.body) (length g.body)
+      ≡ leaves_rest extent (run_len decimal_table h.body) (length h.body)
 
 -- If the four tests agree, the refusals have the same rank.
 same_reason : (int : IntType) (skip : Bool) (extent : Extent) (g h : Sign) → IsAlike int skip extent g h
@@ -57,7 +58,8 @@ rest_changes_nothing int form skip s t same =
     let g = sign_in int form s in
     let h = sign_in int form t in
     let len : len_at g ≡ len_at h = rw (← length-run decimal_table g.body, same.run, length-run decimal_table h.body) refl in
-    let leading : zeros decimal_table g.body ≡ zeros decimal_table h.body = rw (← zeros-run decimal_table g.body, same.run, zeros-run decimal_table h.body) refl in
+    let leading : zeros decimal_table g.body ≡ zeros decimal_table h.body =
+    rw (← zeros-run decimal_table g.body, same.run, zeros-run decimal_table h.body) refl in
     let number : number_at g ≡ number_at h = ap (value decimal_table) same.run in
     let alike : IsAlike int skip prefix g h =
     record {
@@ -67,9 +69,14 @@ rest_changes_nothing int form skip s t same =
       number = number;
       followed = refl;
     } in
-    rw (prefix_call-is int form skip s, prefix_call-is int form skip t, ← with_more-zero (with_more g.taken (prefix_answer decimal_table int g.minus skip g.body)))
+    rw (
+      prefix_call-is int form skip s,
+      prefix_call-is int form skip t,
+      ← with_more-zero (with_more g.taken (prefix_answer decimal_table int g.minus skip g.body)),
+    )
     (same_prefix_outcome 0 g.taken h.taken g.minus h.minus (reason_at int skip prefix g) (reason_at int skip prefix h)
-    (number_at g, len_at g) (number_at h, len_at h) (same_reason int skip prefix g h alike) (λ i. with_sign (same.minus i) (number i)) (omega (arith, same.taken)))
+    (number_at g, len_at g) (number_at h, len_at h) (same_reason int skip prefix g h alike)
+    (λ i. with_sign (same.minus i) (number i)) (omega (arith, same.taken)))
 
 -- ---- Added leading zeros
 
@@ -85,7 +92,8 @@ take-padded : (count n : ℕ) (body : List ℕ) → take (count + n) (padded cou
 take-padded count n body = search (arith, length-replicate, take-add, take_at, drop_at)
 
 -- The padded run has the same value.
-value-padded : (count : ℕ) (body : List ℕ) → value decimal_table (run decimal_table body) ≡ value decimal_table (run decimal_table (padded count body))
+value-padded : (count : ℕ) (body : List ℕ)
+    → value decimal_table (run decimal_table body) ≡ value decimal_table (run decimal_table (padded count body))
 value-padded count body = search (arith, value-replicate, take-padded, prefix_len-replicate_append)
 
 -- Another byte follows the digits in both bodies or in neither.

@@ -34,7 +34,8 @@ same_dropped : (class : Class) (extent : Extent) (limit digits skipped : ℕ) �
     → (rule_of class extent true limit digits skipped).dropped ≡ (rule_of class extent false limit digits 0).dropped
 same_dropped class extent limit digits skipped is le few = grind (arith, nat_tests)
 
-module _ (int : IntType) (sized : IsSized int) (minus : Bool) (extent : Extent) (body : List ℕ) (few : run_len decimal_table body < 16) where
+module _ (int : IntType) (sized : IsSized int) (minus : Bool) (extent : Extent) (body : List ℕ)
+    (few : run_len decimal_table body < 16) where
   -- Only a narrow type can be too small for so few digits.
   is_narrow : bound_of int minus < value decimal_table (run decimal_table body) → class_of int ≡ narrow
   is_narrow above = search (arith, bound-least, pow-le-pow_right, value-below, decimal_below_ten, length-run)

@@ -39,7 +39,8 @@ digit_value_is byte lo hi = rw (digit_is byte lo hi) refl
 
 -- The value of decimal digits is the one that std defines.
 pub own : IsNumeralModel (AllDigits 10) (value decimal_table)
-own = numerals_by_weight (AllDigits 10) tells_digits (value decimal_table) (record { empty = refl; more = λ c cs h. rw (digit_value_is c h.0 h.1) refl })
+own = numerals_by_weight (AllDigits 10) tells_digits (value decimal_table)
+    (record { empty = refl; more = λ c cs h. rw (digit_value_is c h.0 h.1) refl })
 
 -- If all bytes are std's digits, the run is the slice.
 pub run_of_digits : (ds : List ℕ) → AllDigits 10 ds → run_len decimal_table ds ≡ length ds
@@ -84,7 +85,8 @@ negative_in_range true greatest n h = let within = rw add-one at h in (refl, leb
 pub text_of_value : (int : IntType) → IsSized int → TextOfValue int
 text_of_value int sized = record { parsed = parsed }
   where
-    parsed : (skip takes_plus : Bool) (x : ℤ) → least_of int ≤ℤ x → x ≤ℤ pos int.greatest → parse_answer int skip takes_plus (signed_decimal x) ≡ Ok x
+    parsed : (skip takes_plus : Bool) (x : ℤ) → least_of int ≤ℤ x → x ≤ℤ pos int.greatest
+        → parse_answer int skip takes_plus (signed_decimal x) ≡ Ok x
     parsed skip takes_plus (pos n) low high =
         let small = lt_of_le_of_lt (leb→le n int.greatest high.le) (bound_below-64 int sized false) in
         let numeral = decimal_is_IsNumeral_wide n small in
@@ -92,7 +94,8 @@ text_of_value int sized = record { parsed = parsed }
         (magnitude_text int sized false skip n (leb→le n int.greatest high.le))
     parsed skip takes_plus (negsuc n) low high =
         let within = negative_in_range int.signed int.greatest n low in
-        rw (sign_of_minus int.signed takes_plus (decimal (suc n)) within.0) (magnitude_text int sized true skip (suc n) (omega (arith, within.1)))
+        rw (sign_of_minus int.signed takes_plus (decimal (suc n)) within.0)
+        (magnitude_text int sized true skip (suc n) (omega (arith, within.1)))
 
 -- ---- Decimal digits are std's
 
@@ -105,7 +108,8 @@ to_std (byte ∷ bytes) h =
 -- ---- What a whole parse accepts
 
 -- Digits alone write a number that is not negative.
-no_mark : (int : IntType) (takes_plus : Bool) (s : List ℕ) (number : ℤ) → DigitsWrite int false s number → TextWrites int takes_plus s number
+no_mark : (int : IntType) (takes_plus : Bool) (s : List ℕ) (number : ℤ)
+    → DigitsWrite int false s number → TextWrites int takes_plus s number
 no_mark int takes_plus s number h =
     record { sign = no_sign; digits = s; parts = refl; signed = λ e. absurd (cc e); plus_taken = λ e. absurd (cc e); written = h }
 
@@ -118,7 +122,8 @@ minus_mark int takes_plus digits number signed h =
 -- `sign_of` consumes exactly an allowed sign before a digit.
 pub sign_of_text : (signed takes_plus : Bool) (mark : SignMark) (digits : List ℕ) → (is_minus mark ≡ true → signed ≡ true)
     → (is_plus mark ≡ true → takes_plus ≡ true) → 0 < run_len decimal_table digits
-    → sign_of signed takes_plus (sign_bytes mark ++ digits) ≡ record { minus = is_minus mark; taken = length (sign_bytes mark); body = digits }
+    → sign_of signed takes_plus (sign_bytes mark ++ digits)
+    ≡ record { minus = is_minus mark; taken = length (sign_bytes mark); body = digits }
 sign_of_text signed takes_plus mark digits h p some = grind (arith, nat_tests, sign_of_digits signed takes_plus digits some)
 
 -- A body accepted as a whole is digits that write its number.
@@ -151,8 +156,10 @@ whole_written int (looked_for takes_plus) skip (byte ∷ bytes) number h =
           (elim (cases_Bool (int.signed && eqb byte minus_sign)) [
             | inl e ↦
                 let both = and_parts int.signed (eqb byte minus_sign) e in
-                rw (eqb-true byte minus_sign both.1) (minus_mark int takes_plus bytes number both.0 (digits_written int true skip bytes number (rw (no_plus, e) at h)))
-            | inr no_minus ↦ no_mark int takes_plus (byte ∷ bytes) number (digits_written int false skip (byte ∷ bytes) number (rw (no_plus, no_minus) at h))
+                rw (eqb-true byte minus_sign both.1)
+                (minus_mark int takes_plus bytes number both.0 (digits_written int true skip bytes number (rw (no_plus, e) at h)))
+            | inr no_minus ↦ no_mark int takes_plus (byte ∷ bytes) number
+                (digits_written int false skip (byte ∷ bytes) number (rw (no_plus, no_minus) at h))
           ])
     ]
 whole_written int (given is_negative) skip s number h = digits_written int is_negative skip s number h
@@ -160,7 +167,8 @@ whole_written int (given is_negative) skip s number h = digits_written int is_ne
 -- ---- Texts without needless zeros
 
 -- Unsigned bytes that write a number begin with a digit.
-begins : (int : IntType) (is_negative : Bool) (digits : List ℕ) (number : ℤ) → DigitsWrite int is_negative digits number → BeginsWithDigit digits
+begins : (int : IntType) (is_negative : Bool) (digits : List ℕ) (number : ℤ)
+    → DigitsWrite int is_negative digits number → BeginsWithDigit digits
 begins int is_negative digits number h = grind (arith, digit_from_value)
 
 decimal_writes : (int : IntType) → IsSized int → (is_negative : Bool) (n : ℕ) → n ≤ bound_of int is_negative
@@ -221,11 +229,13 @@ with_sign-injective is_negative m n h = grind arith
 -- So are those that write a number of magnitude n.
 decimal_only : (int : IntType) → IsSized int → (is_negative : Bool) (digits : List ℕ) (n : ℕ)
     → DigitsWrite int is_negative digits (with_sign is_negative n) → IsFalse (has_needless_zero digits) → digits ≡ decimal n
-decimal_only int sized is_negative digits n h shortest = search (arith, decimal_of_digits, lt_of_le_of_lt, bound_below-64, with_sign-injective)
+decimal_only int sized is_negative digits n h shortest =
+    search (arith, decimal_of_digits, lt_of_le_of_lt, bound_below-64, with_sign-injective)
 
 signed_writes : (int : IntType) → IsSized int → (takes_plus : Bool) (x : ℤ) → least_of int ≤ℤ x → x ≤ℤ pos int.greatest
     → TextWrites int takes_plus (signed_decimal x) x
-signed_writes int sized takes_plus (pos n) low high = no_mark int takes_plus (decimal n) (pos n) (decimal_writes int sized false n (leb→le n int.greatest high.le))
+signed_writes int sized takes_plus (pos n) low high =
+    no_mark int takes_plus (decimal n) (pos n) (decimal_writes int sized false n (leb→le n int.greatest high.le))
 signed_writes int sized takes_plus (negsuc n) low high =
     let within = negative_in_range int.signed int.greatest n low in
     minus_mark int takes_plus (decimal (suc n)) (negsuc n) within.0 (decimal_writes int sized true (suc n) (omega (arith, within.1)))
@@ -240,7 +250,8 @@ signed_only : (int : IntType) → IsSized int → (s : List ℕ) (x : ℤ) (text
 signed_only int sized s x text shortest some =
     let n : ℕ = digits_value 10 text.digits in
     let digits : text.digits ≡ decimal n =
-    decimal_of_digits text.digits text.written.numeral shortest (lt_of_le_of_lt text.written.in_range (bound_below-64 int sized (is_minus text.sign))) in
+    decimal_of_digits text.digits text.written.numeral shortest
+    (lt_of_le_of_lt text.written.in_range (bound_below-64 int sized (is_minus text.sign))) in
     text.parts ∙ ap (λ digits. sign_bytes text.sign ++ digits) digits ∙ by_sign text.sign n some text.written.value_is text.plus_taken
   where
     by_sign : (sign : SignMark) (n : ℕ) → (is_minus sign ≡ true → x ≢ pos 0) → x ≡ with_sign (is_minus sign) n

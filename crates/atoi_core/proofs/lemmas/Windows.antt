@@ -26,14 +26,16 @@ pub record Shows (table : Table) (c : ℕ) (s : List ℕ) (w : Window) : Type 0 
   pub zeroes_of : w.len ≡ c → w.zeroes ≡ min c (zeros table s)
 
 -- Only a full window reports zeros.
-zeros_cases : (n c z k : ℕ) → z ≡ min c k → (cond (n == c) z 0 ≤ k) × (0 < cond (n == c) z 0 → n ≡ c) × (n ≡ c → cond (n == c) z 0 ≡ min c k)
+zeros_cases : (n c z k : ℕ) → z ≡ min c k
+    → (cond (n == c) z 0 ≤ k) × (0 < cond (n == c) z 0 → n ≡ c) × (n ≡ c → cond (n == c) z 0 ≡ min c k)
 zeros_cases n c z k e = grind (arith, nat_tests)
 
 -- The leading zeros of two readings in a row.
 abbrev pub zeros_both : (c leading others : ℕ) → ℕ
 zeros_both c leading others = cond (eqb leading c) (c + others) leading
 
-Shows-full : {table : Table} {c : ℕ} {s : List ℕ} {w : Window} → Shows table c s w → c ≤ w.len → Reading table c s c (zeros table (take c s)) w.number
+Shows-full : {table : Table} {c : ℕ} {s : List ℕ} {w : Window} → Shows table c s w → c ≤ w.len
+    → Reading table c s c (zeros table (take c s)) w.number
 Shows-full seen more = search (arith)
 
 pub Shows-join : {table : Table} {d : ℕ} {s : List ℕ} {first_window back : Window} → Shows table 16 s first_window → 16 ≤ first_window.len
@@ -42,7 +44,8 @@ pub Shows-join : {table : Table} {d : ℕ} {s : List ℕ} {first_window back : W
     (first_window.number * 10 ^ back.len + back.number)
 Shows-join first full second = join_readings (Shows-full first full) second.reading
 
-pub Shows-join_two : {table : Table} {s : List ℕ} {first_window middle back : Window} → Shows table 16 s first_window → 16 ≤ first_window.len
+pub Shows-join_two : {table : Table} {s : List ℕ} {first_window middle back : Window}
+    → Shows table 16 s first_window → 16 ≤ first_window.len
     → Shows table 16 (drop 16 s) middle → 16 ≤ middle.len → Shows table 8 (drop 32 s) back
     → let others = zeros_both 16 (zeros table (take 16 s)) (zeros table (take 16 (drop 16 s))) in
     Reading table 40 s (32 + back.len) (zeros_both 32 others (zeros table (take 8 (drop 32 s))))
@@ -50,8 +53,8 @@ pub Shows-join_two : {table : Table} {s : List ℕ} {first_window middle back : 
 Shows-join_two first full second more third = join_readings (join_readings (Shows-full first full) (Shows-full second more)) third.reading
 
 -- Two full windows are 32 digits.
-pub two_full : {table : Table} (s : List ℕ) {first second : Window} → Shows table 16 s first → 16 ≤ first.len → Shows table 16 (drop 16 s) second
-    → 16 ≤ second.len → 32 ≤ run_len table s
+pub two_full : {table : Table} (s : List ℕ) {first second : Window} → Shows table 16 s first → 16 ≤ first.len
+    → Shows table 16 (drop 16 s) second → 16 ≤ second.len → 32 ≤ run_len table s
 two_full {table} s seen full next more = omega (arith, prefix_len-drop (is_digit table) 16 s (omega (arith, seen.len_is)), next.len_is)
 
 module _ {table : Table} (ten : IsBelowTen table) where
@@ -113,18 +116,21 @@ pub record Skipped (table : Table) (skip : Bool) (s : List ℕ) (at before now :
   pub offset_is : skip ≡ true → (at ≡ 16 * (zeros table s / 16)) ⊎ ((at ≡ zeros table s) × (zeros table s / 16 < run_len table s / 16))
 
 -- A full last window has 16 bytes.
-pub Skipped-full : {table : Table} {skip : Bool} {s : List ℕ} {at before now : ℕ} {w : Window} → Skipped table skip s at before now w → 16 ≤ w.len
-    → at + 16 ≤ length s
-Skipped-full {table} {s = s} after_skip full = omega (arith, after_skip.window.len_is, after_skip.run_is, prefix_len-le-length (is_digit table) s)
+pub Skipped-full : {table : Table} {skip : Bool} {s : List ℕ} {at before now : ℕ} {w : Window}
+    → Skipped table skip s at before now w → 16 ≤ w.len → at + 16 ≤ length s
+Skipped-full {table} {s = s} after_skip full =
+    omega (arith, after_skip.window.len_is, after_skip.run_is, prefix_len-le-length (is_digit table) s)
 
 -- After the loop, `more` windows are loaded.
 pub Skipped-loads : {table : Table} {skip : Bool} {s : List ℕ} {at before now last most : ℕ} {w : Window} →
-    Skipped table skip s at before now w → (more : ℕ) → last ≡ now + more → zeros table s / 16 + 2 + more ≤ most → LoadsWithin most table skip s before last
+    Skipped table skip s at before now w → (more : ℕ) → last ≡ now + more → zeros table s / 16 + 2 + more ≤ most →
+    LoadsWithin most table skip s before last
 Skipped-loads after_skip more counted bounded = search (arith, after_skip.least)
 
 -- A narrow prefix: one window, and a second to count unskipped digits.
 pub Skipped-one : {table : Table} (skip : Bool) {s : List ℕ} {at before now last : ℕ} {w : Window} → Skipped table skip s at before now w →
-    now ≡ before + 1 → last ≡ now + (if skip || nat_lt (run_len table s) 16 then 0 else 1) → LoadsWithin (most_loads table narrow s) table skip s before last
+    now ≡ before + 1 → last ≡ now + (if skip || nat_lt (run_len table s) 16 then 0 else 1) →
+    LoadsWithin (most_loads table narrow s) table skip s before last
 Skipped-one true after_skip one counted = search (arith, after_skip.least)
 Skipped-one false after_skip one counted = grind (arith, nat_tests)
 
@@ -137,7 +143,8 @@ module _ {table : Table} (ten : IsBelowTen table) where
       let zeros_only = so_far.skipped.zeros_only in
       let seen : Shows table 16 (drop at s) w = shows_rest ten 16 s at e in
       let zeros_are : zeros table s ≡ at + zeros table (drop at s) = prefix_len-drop (is_zero table) at s zeros_only in
-      let run_is : run_len table s ≡ at + run_len table (drop at s) = prefix_len-drop (is_digit table) at s (omega (arith, zeros_only, zeros-le table s)) in
+      let run_is : run_len table s ≡ at + run_len table (drop at s) =
+      prefix_len-drop (is_digit table) at s (omega (arith, zeros_only, zeros-le table s)) in
       let reported : w.zeroes ≡ min 16 (zeros table s - at) = omega (arith, seen.full some) in
       let full : at + 16 ≤ run_len table s = omega (arith, seen.full some) in
       let cases = cases_lt w.zeroes 16 in
@@ -175,7 +182,8 @@ module _ {table : Table} (ten : IsBelowTen table) where
       Skipping-next (Skipping-none table true s n) (ap (window_of table 16) (sym (take_rest s 0))) refl refl (omega arith) (omega arith)
 
   pub Skipped-at_once : (skip : Bool) (s : List ℕ) {before next : ℕ} {w : Window} →
-      w ≡ window_of table 16 s → next ≡ before + 1 → (skip ≡ false) ⊎ ((skip ≡ true) × (w.zeroes ≡ 0)) → Skipped table skip s 0 before next w
+      w ≡ window_of table 16 s → next ≡ before + 1 → (skip ≡ false) ⊎ ((skip ≡ true) × (w.zeroes ≡ 0)) →
+      Skipped table skip s 0 before next w
   Skipped-at_once skip s {before} e one stops =
       Skipped-end (Skipping-none table skip s before) (e ∙ ap (window_of table 16) (sym (take_rest s 0))) (omega (arith, one)) stops
 

@@ -92,7 +92,8 @@ module _ (h t : ℕ) (room : (2 ^ h - 1) * (1 + t) < 2 ^ (h + h)) where
   two_digits : (f g : ℕ) → f < 2 ^ h → g < 2 ^ h → g + f * t < 2 ^ (h + h)
   two_digits f g f_below g_below = search (arith, mul-le-mul_right)
 
-  spread_masked : (m word : ℕ) → spelled (h + h) (t * t) m (spread (2 ^ (h + h)) t (bit_and word (masks h (twice m)))) ≡ spelled h t (twice m) word
+  spread_masked : (m word : ℕ) → spelled (h + h) (t * t) m (spread (2 ^ (h + h)) t (bit_and word (masks h (twice m))))
+      ≡ spelled h t (twice m) word
   spread_masked zero word = refl
   spread_masked (suc m) word =
       let b = 2 ^ (h + h) in
@@ -103,7 +104,8 @@ module _ (h t : ℕ) (room : (2 ^ h - 1) * (1 + t) < 2 ^ (h + h)) where
       let g_below : g < 2 ^ h = mod-lt (word / b) (pow_pos h) in
       let lower : g + f * t < b = two_digits f g (mod-lt word (pow_pos h)) g_below in
       let fits : f < b = omega (arith, half_below h) in
-      let whole : bit_and word (masks h (twice (suc m))) ≡ (u * b + g) * b + f = cc (mask_step h (suc (twice m)) word, mask_step h (twice m) (word / b)) in
+      let whole : bit_and word (masks h (twice (suc m))) ≡ (u * b + g) * b + f =
+      cc (mask_step h (suc (twice m)) word, mask_step h (twice m) (word / b)) in
       let above = spread b t u * b + (u % b + g * t) in
       let sums = spread b t (bit_and word (masks h (twice (suc m)))) in
       let is : sums ≡ above * b + (g + f * t) = rw whole (spread_pair b t u f g fits) in
@@ -175,7 +177,8 @@ sum_8 val len most = one_field 100000000 32 _ (omega arith) ∙ round 16 10000 (
 
 -- Four rounds compute the weighted sum of at most 16 bytes.
 pub sum_16 : (val len : ℕ) → len ≤ 16
-    → rounded 32 100000000 1 (rounded 16 10000 2 (rounded 8 100 4 (rounded 4 10 8 (val * 2 ^ (128 - 8 * len) % 2 ^ 128)))) ≡ low_value (low_bytes len val)
+    → rounded 32 100000000 1 (rounded 16 10000 2 (rounded 8 100 4 (rounded 4 10 8 (val * 2 ^ (128 - 8 * len) % 2 ^ 128))))
+    ≡ low_value (low_bytes len val)
 sum_16 val len most =
     one_field 10000000000000000 64 _ (omega arith)
     ∙ round 32 100000000 (lit< tt) 1 _

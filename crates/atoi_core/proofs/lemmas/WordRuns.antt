@@ -111,7 +111,8 @@ zeros_counted = counted (both bit_xor xor_shr xor_mod unchanged (constant 48 (li
 pub zeros_of_8 : (word : ℕ) → count_trailing_zeros 64 (bit_xor word 0x3030_3030_3030_3030) / 8 ≡ zeros decimal_table (low_bytes 8 word)
 zeros_of_8 = zeros_counted 8
 
-pub zeros_of_16 : (word : ℕ) → count_trailing_zeros 128 (bit_xor word 0x3030_3030_3030_3030_3030_3030_3030_3030) / 8 ≡ zeros decimal_table (low_bytes 16 word)
+pub zeros_of_16 : (word : ℕ) → count_trailing_zeros 128 (bit_xor word 0x3030_3030_3030_3030_3030_3030_3030_3030) / 8
+    ≡ zeros decimal_table (low_bytes 16 word)
 zeros_of_16 = zeros_counted 16
 
 -- In `check_len_8`, the mask comes before the shift.
@@ -122,4 +123,5 @@ pub digits_of_8 : (val : ℕ)
 digits_of_8 val =
     let halves = both bit_and and_shr and_mod unchanged (constant 240 (lit< tt)) in
     let marks = both bit_xor xor_shr xor_mod (both bit_or or_shr or_mod (upper (cut (added 6 (lit< tt)))) halves) (constant 51 (lit< tt)) in
-    rw (and_shr ((val + 0x0606_0606_0606_0606) % 2 ^ 64) 0xF0F0_F0F0_F0F0_F0F0 4) (counted marks (is_digit decimal_table) refl (λ b h e. e) 8 val)
+    rw (and_shr ((val + 0x0606_0606_0606_0606) % 2 ^ 64) 0xF0F0_F0F0_F0F0_F0F0 4)
+    (counted marks (is_digit decimal_table) refl (λ b h e. e) 8 val)

@@ -47,7 +47,8 @@ module _ (s : List ℕ) (fits : (i : ℕ) → get_or s i 0 < 256) (first : ℕ) 
   pub window_short : (len number : ℕ) → len ≡ run_len decimal_table (low_bytes 8 first) → len < 8 → number ≡ low_value (low_bytes len first)
       → ◌≡◌ {A = Window} (record { len = len; zeroes = 0; number = number }) (window_of decimal_table 16 s)
   window_short len number len_is short number_is =
-      window_ended s len number (omega (arith, first_run)) (omega (arith, first_run)) (number_is ∙ loaded_part 8 s fits first first_is len (omega arith))
+      window_ended s len number (omega (arith, first_run)) (omega (arith, first_run))
+      (number_is ∙ loaded_part 8 s fits first first_is len (omega arith))
 
   pub enough_bytes : 8 ≤ run_len decimal_table (low_bytes 8 first) → 8 ≤ length s
   enough_bytes full = omega (arith, first_run, prefix_len-le-length (is_digit decimal_table) s)
@@ -61,14 +62,17 @@ module _ (s : List ℕ) (fits : (i : ℕ) → get_or s i 0 < 256) (first : ℕ) 
       more_is ∙ loaded_run 8 (drop 8 s) (fits_after 8 s fits) next next_is ∙ prefix_len-take (is_digit decimal_table) 8 (drop 8 s),
     )
 
-    two_words : (leading number : ℕ) → leading ≡ (if more == 8 then zeros decimal_table (take 16 s) else 0) → number ≡ value decimal_table (take (8 + more) s)
+    two_words : (leading number : ℕ) → leading ≡ (if more == 8 then zeros decimal_table (take 16 s) else 0)
+        → number ≡ value decimal_table (take (8 + more) s)
         → ◌≡◌ {A = Window} (record { len = 8 + more; zeroes = leading; number = number }) (window_of decimal_table 16 s)
     two_words leading number leading_is number_is =
         let same_test : (more == 8) ≡ (8 + more == 16) = grind (arith, nat_tests) in
-        window_from 16 s (8 + more) leading number (omega (arith, run_is, prefix_len-take (is_digit decimal_table) 16 s)) (rw (← same_test) leading_is) number_is
+        window_from 16 s (8 + more) leading number (omega (arith, run_is, prefix_len-take (is_digit decimal_table) 16 s))
+        (rw (← same_test) leading_is) number_is
 
     -- The window of 16 follows from both words,
-    pub window_joined : (leading high low : ℕ) → leading ≡ (if more == 8 then zeros decimal_table (low_bytes 8 first ++ low_bytes 8 next) else 0)
+    pub window_joined : (leading high low : ℕ)
+        → leading ≡ (if more == 8 then zeros decimal_table (low_bytes 8 first ++ low_bytes 8 next) else 0)
         → high ≡ low_value (low_bytes 8 first) → low ≡ low_value (low_bytes more next)
         → ◌≡◌ {A = Window} (record { len = 8 + more; zeroes = leading; number = high * 10 ^ more + low }) (window_of decimal_table 16 s)
     window_joined leading high low leading_is high_is low_is =
@@ -83,7 +87,12 @@ module _ (s : List ℕ) (fits : (i : ℕ) → get_or s i 0 < 256) (first : ℕ) 
         let leading_zeros : leading ≡ (if more == 8 then zeros decimal_table (take 16 s) else 0) = grind (arith, nat_tests, zeros_are) in
         let parts = value-take-add decimal_table 8 more s (omega (arith, run_is)) in
         two_words leading (high * 10 ^ more + low) leading_zeros
-        (rw (high_is, low_is, loaded_part 8 s fits first first_is 8 full, loaded_part 8 (drop 8 s) (fits_after 8 s fits) next next_is more (omega arith)) (sym parts))
+        (rw (
+          high_is,
+          low_is,
+          loaded_part 8 s fits first first_is 8 full,
+          loaded_part 8 (drop 8 s) (fits_after 8 s fits) next next_is more (omega arith),
+        ) (sym parts))
 
     -- or from the word of all sixteen bytes.
     pub window_of_16 : first < 2 ^ 64 → next < 2 ^ 64 → (leading number : ℕ) → let both = bit_or (next * 2 ^ 64 % 2 ^ 128) first in
@@ -94,4 +103,5 @@ module _ (s : List ℕ) (fits : (i : ℕ) → get_or s i 0 < 256) (first : ℕ) 
         let is : both ≡ word_of (take 16 s) = words_joined s first next (enough_bytes full) first_is next_is small small_next in
         let run : 8 + more ≤ run_len decimal_table (low_bytes 16 both) =
         omega (arith, run_is, loaded_run 16 s fits both is, prefix_len-take (is_digit decimal_table) 16 s) in
-        two_words leading number (rw (loaded_zeros 16 s fits both is) at leading_is) (number_is ∙ loaded_part 16 s fits both is (8 + more) run)
+        two_words leading number (rw (loaded_zeros 16 s fits both is) at leading_is)
+        (number_is ∙ loaded_part 16 s fits both is (8 + more) run)

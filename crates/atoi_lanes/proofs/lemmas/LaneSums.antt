@@ -72,5 +72,6 @@ lanes_sum v n long few digits =
     let count : length (take n v) ≤ 16 = omega (arith, length-take-le n v (omega arith)) in
     let power : 10 ^ length (take n v) ≤ 10 ^ 16 = pow-le-pow_right (omega arith) count in
     ap₂ (λ xs ys. fold_l (λ s x. (s + x) % 2 ^ 64) 0 (zip2 (λ x y. (x * y) % 2 ^ 64) xs ys)) lanes (row n few)
-    ∙ no_wrap (2 ^ 64) 0 (map above_zero v) (place_values n ++ replicate (16 - n) 0) (omega (arith, exact, value-below decimal_table decimal_below_ten (take n v), power))
+    ∙ no_wrap (2 ^ 64) 0 (map above_zero v) (place_values n ++ replicate (16 - n) 0)
+    (omega (arith, exact, value-below decimal_table decimal_below_ten (take n v), power))
     ∙ zero-add _ ∙ exact

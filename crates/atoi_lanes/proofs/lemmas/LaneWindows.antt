@@ -22,7 +22,8 @@ module _ (n : ℕ) (s : List ℕ) where
 
   pub padded_fits : ((i : ℕ) → Fits w8 (get_or s i 0)) → Each1 (Fits w8) (padded_start n s)
   padded_fits fits =
-      Each1-chunk (Fits w8) 0 n _ (each-append s (replicate n 0) (Each1-from_get_or (Fits w8) s 0 (λ i _. fits i)) (Each1-replicate (Fits w8) n 0 (record { fits = lit< tt })))
+      Each1-chunk (Fits w8) 0 n _ (each-append s (replicate n 0)
+      (Each1-from_get_or (Fits w8) s 0 (λ i _. fits i)) (Each1-replicate (Fits w8) n 0 (record { fits = lit< tt })))
 
 -- The lanes that `extract` takes of 32.
 module _ (v : List ℕ) (long : length v ≡ 32) where
@@ -38,10 +39,14 @@ module _ (v : List ℕ) (long : length v ≡ 32) where
 module _ (n : ℕ) (v : List ℕ) (digits : n ≤ run_len decimal_table v) where
   pub halves_run : (n - (n - 16) ≤ run_len decimal_table (take 16 v)) × (n - 16 ≤ run_len decimal_table (drop 16 v))
   halves_run =
-      let first : n - (n - 16) ≤ run_len decimal_table (take 16 v) = omega (arith, prefix_len-take (is_digit decimal_table) 16 v) in
-      (first, elim (cases_lt n 16) [ inl few ↦ omega arith | inr many ↦ omega (arith, prefix_len-drop (is_digit decimal_table) 16 v (omega arith)) ])
+      let first : n - (n - 16) ≤ run_len decimal_table (take 16 v) = omega (arith, prefix_len-take (is_digit decimal_table) 16 v) in (
+        first,
+        elim (cases_lt n 16)
+            [ inl few ↦ omega arith | inr many ↦ omega (arith, prefix_len-drop (is_digit decimal_table) 16 v (omega arith)) ],
+      )
 
-  pub halves_value : value decimal_table (take (n - (n - 16)) (take 16 v)) * 10 ^ (n - 16) + value decimal_table (take (n - 16) (drop 16 v)) ≡ value decimal_table (take n v)
+  pub halves_value : value decimal_table (take (n - (n - 16)) (take 16 v)) * 10 ^ (n - 16)
+      + value decimal_table (take (n - 16) (drop 16 v)) ≡ value decimal_table (take n v)
   halves_value =
       let room : n ≤ length v = omega (arith, prefix_len-le-length (is_digit decimal_table) v) in
       elim (cases_lt n 16) [
@@ -52,5 +57,6 @@ module _ (n : ℕ) (v : List ℕ) (digits : n ≤ run_len decimal_table v) where
         | inr many ↦
             let first : n - (n - 16) ≡ 16 = omega arith in
             let both : 16 + (n - 16) ≡ n = omega arith in
-            rw (first, take-take 16 16 v (omega arith)) (sym (value-take-add decimal_table 16 (n - 16) v (omega arith)) ∙ ap (λ k. value decimal_table (take k v)) both)
+            rw (first, take-take 16 16 v (omega arith)) (sym (value-take-add decimal_table 16 (n - 16) v (omega arith))
+            ∙ ap (λ k. value decimal_table (take k v)) both)
       ]

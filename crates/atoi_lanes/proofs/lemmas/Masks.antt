@@ -16,7 +16,8 @@ equal a b = cond (eqb a b) 255 0
 
 -- Digits are counted by two comparisons, zeros by one.
 module _ (n : ℕ) (v : List ℕ) (few : n ≤ 63) (long : length v ≡ n) (fits : Each1 (Fits w8) v) where
-  pub digits_counted : trailing_ones w64 (mask_l (map (top 7) (zip2 bit_and (zip2 at_most (replicate n 48) v) (zip2 at_most v (replicate n 57)))) % 2 ^ 64)
+  pub digits_counted : trailing_ones w64 (mask_l (map (top 7)
+      (zip2 bit_and (zip2 at_most (replicate n 48) v) (zip2 at_most v (replicate n 57)))) % 2 ^ 64)
       ≡ run_len decimal_table v
   digits_counted =
       ones-of_lanes (is_digit decimal_table) v (omega (arith, long)) _ _ fits

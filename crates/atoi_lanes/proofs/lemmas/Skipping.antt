@@ -56,7 +56,8 @@ module _ {skip : Bool} {s : List ℕ} {at : ℕ} {w : Window32} (skipping : Skip
     Skipping-reached = record {
       skipped = skipping.skipped;
       reading = skipping.reading;
-      within = omega (arith, skipping.skipped.zeros_only, prefix_len-le-length (is_zero decimal_table) s, within skipping.reading, length-drop at s);
+      within = omega
+          (arith, skipping.skipped.zeros_only, prefix_len-le-length (is_zero decimal_table) s, within skipping.reading, length-drop at s);
       ends = λ on full. ends on (omega (arith, digits_left, full));
     }
 

@@ -7,7 +7,8 @@ use Rattle.atoi_core.proofs.calls.whole_short.Goals as goal
 pub returns-then-not-is_empty-clause-answer : goal.returns-then-not-is_empty-clause-answer
 returns-then-not-is_empty-clause-answer g c =
     let digits = c.requires.bound.digits (omega arith) in
-    let in_range = short_in_range g.E.Engine.table g.met.E.Engine.below_ten g.T.Number.int_type c.args.s.now c.requires.short c.args.bound digits in
+    let in_range = short_in_range g.E.Engine.table g.met.E.Engine.below_ten g.T.Number.int_type
+    c.args.s.now c.requires.short c.args.bound digits in
     rw in_range (grind (arith, nat_tests))
 
 pub returns-then-BITS-eq64-clause-answer : goal.returns-then-BITS-eq64-clause-answer

@@ -18,14 +18,17 @@ returns-then-window-eq0-clause-answer g c =
 
 -- The first window has all digits, or a second one is loaded and has none.
 second : (g : _) (c : After-answer_at g) →
-    (c.else-window-eq16.steps ≡ c.window-window.new.steps + (if c.args.skip || nat_lt (run_len g.E.Engine.table c.args.s.now) 16 then 0 else 1))
+    (c.else-window-eq16.steps
+    ≡ c.window-window.new.steps + (if c.args.skip || nat_lt (run_len g.E.Engine.table c.args.s.now) 16 then 0 else 1))
     × (c.args.skip ≡ false → run_len g.E.Engine.table c.args.s.now ≤ 16)
 second g c =
     let seen : c.window-window.result.len ≡ min 16 (run_len g.E.Engine.table c.args.s.now) =
     ap (λ (w : Window). w.len) c.window-window.ensures.window ∙ prefix_len-take (is_digit g.E.Engine.table) 16 c.args.s.now in
     elim c.else-window-eq16.branch [
-      | else-window-eq16-via-then-window-eq16+else-is_too_long w ↦
-          (grind (arith, nat_tests, w.steps-is, w.is_too_long.ensures.loads, w.if-window-eq16.true), λ off. grind (arith, nat_tests, w.if-is_too_long.ensures.answer, off))
+      | else-window-eq16-via-then-window-eq16+else-is_too_long w ↦ (
+        grind (arith, nat_tests, w.steps-is, w.is_too_long.ensures.loads, w.if-window-eq16.true),
+        λ off. grind (arith, nat_tests, w.if-is_too_long.ensures.answer, off),
+      )
       | else-window-eq16-via-else-window-eq16 w ↦
           (grind (arith, nat_tests, w.steps-is, w.if-window-eq16.false), λ _. grind (arith, nat_tests, w.if-window-eq16.false))
     ]

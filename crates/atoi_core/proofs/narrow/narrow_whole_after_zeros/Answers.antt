@@ -8,4 +8,5 @@ pub returns-clause-answer : goal.returns-clause-answer
 returns-clause-answer g c =
     let e = c.window_after_zeros-at.ensures in
     c.narrow_answer.ensures
-    ∙ narrow_decides (Skipped-after_zeros g.met.E.Engine.below_ten c.args.s.now c.args.steps.now e.offset e.window e.no_zeros e.loads) (omega arith) c.args.bound c.requires.high
+    ∙ narrow_decides (Skipped-after_zeros g.met.E.Engine.below_ten c.args.s.now c.args.steps.now e.offset e.window e.no_zeros e.loads)
+    (omega arith) c.args.bound c.requires.high

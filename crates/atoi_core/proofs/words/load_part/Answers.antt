@@ -11,7 +11,8 @@ returns-in-Some-Some c =
     let first = c.in-Some-Some.ensures.cases in
     let last = c.in-Some-Some.ensures'.cases in
     halves_joined s c.from-low.result c.from.result last.0 c.requires (λ i. (c.type_inv.s i).fits)
-    (c.from-low.ensures ∙ c.from_le_bytes.ensures ∙ ap (from_le_bytes w32) first.same ∙ word_from_four (take 4 s) (omega (arith, length-take 4 s)))
+    (c.from-low.ensures ∙ c.from_le_bytes.ensures ∙ ap (from_le_bytes w32) first.same
+    ∙ word_from_four (take 4 s) (omega (arith, length-take 4 s)))
     (c.from.ensures ∙ c.from_le_bytes-in-Some-Some.ensures ∙ ap (from_le_bytes w32) last.1.same
     ∙ word_from_four (drop (length s - 4) s) (omega (arith, length-drop (length s - 4) s)))
     (omega (arith, c.from-low.ensures, c.from_le_bytes.type_inv)) (omega (arith, c.from.ensures, c.from_le_bytes-in-Some-Some.type_inv))

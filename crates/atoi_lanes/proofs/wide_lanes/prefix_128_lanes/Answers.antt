@@ -11,7 +11,8 @@ returns-then-high-lt32-clause-answer c =
     let reached = c.skip_by_32-at.ensures.reached in
     let few = c.if-high-lt32.true in
     c.found_or_empty.ensures
-    ∙ sym (short decimal_below_ten wide128 c.args.bound 39 (lit< tt) c.requires.digits reached.skipped reached.reading few (omega (arith, few))).1
+    ∙ sym (short decimal_below_ten wide128 c.args.bound 39 (lit< tt) c.requires.digits
+    reached.skipped reached.reading few (omega (arith, few))).1
 
 pub answer_128-requires : goal.answer_128-requires
 answer_128-requires c =

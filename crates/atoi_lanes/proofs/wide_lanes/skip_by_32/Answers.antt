@@ -17,7 +17,8 @@ pub loop-window-preserved : goal.loop-window-preserved
 loop-window-preserved c =
     let next = c.window_32-window-in-loop-window in
     let so_far = c.loop-window.invariant in
-    let after = Skipping-next so_far.1 next.result c.loop-window-test.true c.if-window-eq32.true c.if-window-gt0.true next.ensures.reading in
+    let after = Skipping-next so_far.1 next.result c.loop-window-test.true
+    c.if-window-eq32.true c.if-window-gt0.true next.ensures.reading in
     (omega (arith, after.0, next.ensures.one_step, so_far.0), after.1)
 
 pub returns-else-window-gt0-clause-reached : goal.returns-else-window-gt0-clause-reached
@@ -33,4 +34,5 @@ pub returns-else-window-eq32-clause-offset : goal.returns-else-window-eq32-claus
 returns-else-window-eq32-clause-offset c = Skipping-offset c.loop-window.invariant.1 (λ _ full. absurd (c.if-window-eq32.false full))
 
 pub returns-after-loop-window-clause-reached : goal.returns-after-loop-window-clause-reached
-returns-after-loop-window-clause-reached c = Skipping-reached c.loop-window.invariant.1 (λ on. absurd (false≢true (sym c.loop-window-test.false ∙ on)))
+returns-after-loop-window-clause-reached c =
+    Skipping-reached c.loop-window.invariant.1 (λ on. absurd (false≢true (sym c.loop-window-test.false ∙ on)))

@@ -24,7 +24,8 @@ counted c =
     let padded = c.first_bytes-lanes.ensures in
     let long : length v ≡ 32 = ap length padded ∙ length_padded 32 c.args.s.now in
     let fits : Each1 (Fits w8) v = subst (Each1 (Fits w8)) (sym padded) (padded_fits 32 c.args.s.now c.type_inv.s) in
-    let len : c.trailing_ones-len.result ≡ run_len decimal_table v = c.trailing_ones-len.ensures ∙ digits_counted 32 v (omega arith) long fits in
+    let len : c.trailing_ones-len.result ≡ run_len decimal_table v =
+    c.trailing_ones-len.ensures ∙ digits_counted 32 v (omega arith) long fits in
     record {
       long = long;
       fits = fits;
@@ -36,7 +37,8 @@ counted c =
 pub sum_lanes-high-requires-clause-digits : goal.sum_lanes-high-requires-clause-digits
 sum_lanes-high-requires-clause-digits c =
     let known = counted c in
-    subst (λ half. c.trailing_ones-len.result - c.saturating_sub-more.result ≤ run_len decimal_table half) (sym (first_half c.first_bytes-lanes.result known.long))
+    subst (λ half. c.trailing_ones-len.result - c.saturating_sub-more.result ≤ run_len decimal_table half)
+    (sym (first_half c.first_bytes-lanes.result known.long))
     (omega (arith, known.more_is, (halves_run c.trailing_ones-len.result c.first_bytes-lanes.result (omega (arith, known.len_is))).0))
 
 pub sum_lanes-low-requires-clause-within : goal.sum_lanes-low-requires-clause-within
@@ -67,7 +69,8 @@ returns-clause-reading c =
     let low = c.sum_lanes-low.ensures ∙ ap (λ half. value decimal_table (take more half)) (second_half v known.long) in
     record {
       digits_are = known.len_is ∙ ap (run_len decimal_table) padded ∙ shown.digits_are;
-      leading_are = c.trailing_ones.ensures ∙ zeros_counted 32 v (omega arith) known.long known.fits ∙ ap (zeros decimal_table) padded ∙ shown.leading_are;
+      leading_are = c.trailing_ones.ensures ∙ zeros_counted 32 v (omega arith) known.long known.fits
+          ∙ ap (zeros decimal_table) padded ∙ shown.leading_are;
       number_is = c.append_digits.ensures ∙ ap₂ (λ a b. a * 10 ^ more + b) high low
           ∙ ap (λ m. value decimal_table (take (len - m) (take 16 v)) * 10 ^ m + value decimal_table (take m (drop 16 v))) known.more_is
           ∙ halves_value len v (omega (arith, known.len_is))

@@ -15,7 +15,8 @@ loop-first-init g c =
 
 pub slice_bounds-window-start : goal.slice_bounds-window-start
 slice_bounds-window-start g c =
-    (Skipping-next g.met.Self.Engine.below_ten c.loop-first.invariant.0 c.loop-first.invariant.1 refl c.loop-first-test.true c.if-first-gt0.true refl).within
+    (Skipping-next g.met.Self.Engine.below_ten c.loop-first.invariant.0 c.loop-first.invariant.1 refl
+    c.loop-first-test.true c.if-first-gt0.true refl).within
 
 pub slice_bounds-window-count : goal.slice_bounds-window-count
 slice_bounds-window-count g c = slice_bounds-window-start g c
@@ -31,8 +32,8 @@ loop-first-preserved g c = (
 ended : (g : _) (c : Left-loop-first g)
     → Skipped g.Self.Engine.table c.args.skip c.args.s.now c.loop-first.skipped c.args.steps.now c.loop-first.steps c.loop-first.first
 ended g c =
-    Skipped-end g.met.Self.Engine.below_ten c.loop-first.invariant.0 c.loop-first.invariant.1 (omega (arith, c.window-first.ensures.one_step))
-    (elim c.loop-first-test.branch [
+    Skipped-end g.met.Self.Engine.below_ten c.loop-first.invariant.0 c.loop-first.invariant.1
+    (omega (arith, c.window-first.ensures.one_step)) (elim c.loop-first-test.branch [
       | then-loop-first-test+else-first-gt0 w ↦ inr (w.loop-first-test.true, omega (arith, w.if-first-gt0.false))
       | else-loop-first-test w ↦ inl w.loop-first-test.false
     ])
@@ -52,10 +53,12 @@ slice_bounds-window-start-2 g c = Skipped-full (ended g (goal.at.slice_bounds-wi
 pub slice_bounds-window-count-2 : goal.slice_bounds-window-count-2
 slice_bounds-window-count-2 g c = slice_bounds-window-start-2 g c
 
-second : (g : _) (c : After-window-second g) → Shows g.Self.Engine.table 16 (drop 16 (drop c.loop-first.skipped c.args.s.now)) c.window-second.result
+second : (g : _) (c : After-window-second g)
+    → Shows g.Self.Engine.table 16 (drop 16 (drop c.loop-first.skipped c.args.s.now)) c.window-second.result
 second g c = shows_following g.met.Self.Engine.below_ten 16 16 c.args.s.now c.loop-first.skipped c.window-second.ensures.window
 
-third : (g : _) (c : After-window_8-third g) → Shows g.Self.Engine.table 8 (drop 32 (drop c.loop-first.skipped c.args.s.now)) c.window_8-third.result
+third : (g : _) (c : After-window_8-third g)
+    → Shows g.Self.Engine.table 8 (drop 32 (drop c.loop-first.skipped c.args.s.now)) c.window_8-third.result
 third g c = shows_following g.met.Self.Engine.below_ten 8 32 c.args.s.now c.loop-first.skipped c.window_8-third.ensures.window
 
 pub append_digits-high-requires : goal.append_digits-high-requires
@@ -69,13 +72,15 @@ returns-then-second-lt16-clause-answer g c =
 
 pub returns-then-second-lt16-clause-loads : goal.returns-then-second-lt16-clause-loads
 returns-then-second-lt16-clause-loads g c =
-    Skipped-loads (ended g (goal.at.returns-then-second-lt16-clause-loads g c).Left-loop-first) 1 (omega (arith, c.window-second.ensures.one_step)) (omega arith)
+    Skipped-loads (ended g (goal.at.returns-then-second-lt16-clause-loads g c).Left-loop-first) 1
+    (omega (arith, c.window-second.ensures.one_step)) (omega arith)
 
 pub slice_bounds-window_8-start : goal.slice_bounds-window_8-start
 slice_bounds-window_8-start g c =
     let at = goal.at.slice_bounds-window_8-start g c in
     let after_skip = ended g at.Left-loop-first in
-    let full = two_full (drop c.loop-first.skipped c.args.s.now) after_skip.window c.if-first-lt16.false (second g at.After-window-second) c.if-second-lt16.false in
+    let full = two_full (drop c.loop-first.skipped c.args.s.now) after_skip.window c.if-first-lt16.false
+    (second g at.After-window-second) c.if-second-lt16.false in
     omega (arith, full, after_skip.run_is, prefix_len-le-length (is_digit g.Self.Engine.table) c.args.s.now)
 
 pub slice_bounds-window_8-count : goal.slice_bounds-window_8-count

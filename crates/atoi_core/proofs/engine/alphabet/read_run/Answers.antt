@@ -10,7 +10,8 @@ digit_of g c = sym c.digit_value.ensures ∙ c.in-Some.is
 small_of : (g : _) (c : goal.In-Some g) → c.loop-len.number * 10 + c.in-Some.digit_value < 10 ^ (c.loop-len.len + 1)
 small_of g c =
     digit_joins c.loop-len.len c.loop-len.number c.in-Some.digit_value c.loop-len.invariant.small
-    (digit_is_below_ten g.A.Alphabet.table g.met.A.Alphabet.below_ten (get_or c.args.s.now c.loop-len.len 0) c.in-Some.digit_value (digit_of g c))
+    (digit_is_below_ten g.A.Alphabet.table g.met.A.Alphabet.below_ten
+    (get_or c.args.s.now c.loop-len.len 0) c.in-Some.digit_value (digit_of g c))
 
 fits_of : (g : _) (c : goal.In-Some g) → c.loop-len.number * 10 + c.in-Some.digit_value < 2 ^ 64
 fits_of g c = sixteen_digits (c.loop-len.len + 1) _ (omega arith) (small_of g c)

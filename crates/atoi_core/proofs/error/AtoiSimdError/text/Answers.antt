@@ -11,7 +11,8 @@ returns-in-Size-clause-ascii c =
     rw c.in-Size.is (search (rules, IsAscii-append, IsAscii-literal, number, c.put_input.ensures.ascii))
 
 pub returns-in-Overflow-clause-ascii : goal.returns-in-Overflow-clause-ascii
-returns-in-Overflow-clause-ascii c = rw c.in-Overflow.is (search (rules, IsAscii-append, IsAscii-literal, c.put_input-in-Overflow.ensures.ascii))
+returns-in-Overflow-clause-ascii c =
+    rw c.in-Overflow.is (search (rules, IsAscii-append, IsAscii-literal, c.put_input-in-Overflow.ensures.ascii))
 
 pub returns-in-Invalid64-clause-ascii : goal.returns-in-Invalid64-clause-ascii
 returns-in-Invalid64-clause-ascii c =

@@ -11,14 +11,17 @@ fewer bound high more low power digits below is few = (rw is (below_bound 39 bou
 
 pub overflow_mul-result : goal.overflow_mul-result
 overflow_mul-result c =
-    omega (arith, (fewer _ _ _ _ _ c.requires.digits c.requires.below (c.from-power.ensures ∙ c.power_of_ten.ensures.power) c.if-more-lt7.true).0)
+    omega
+    (arith, (fewer _ _ _ _ _ c.requires.digits c.requires.below (c.from-power.ensures ∙ c.power_of_ten.ensures.power) c.if-more-lt7.true).0)
 
 pub overflow_add-result : goal.overflow_add-result
 overflow_add-result c =
-    let less = fewer _ _ _ _ _ c.requires.digits c.requires.below (c.from-power.ensures ∙ c.power_of_ten.ensures.power) c.if-more-lt7.true in
+    let less =
+    fewer _ _ _ _ _ c.requires.digits c.requires.below (c.from-power.ensures ∙ c.power_of_ten.ensures.power) c.if-more-lt7.true in
     omega (arith, less.0, c.from.ensures)
 
 pub returns-then-more-lt7 : goal.returns-then-more-lt7
 returns-then-more-lt7 c =
-    let less = fewer _ _ _ _ _ c.requires.digits c.requires.below (c.from-power.ensures ∙ c.power_of_ten.ensures.power) c.if-more-lt7.true in
+    let less =
+    fewer _ _ _ _ _ c.requires.digits c.requires.below (c.from-power.ensures ∙ c.power_of_ten.ensures.power) c.if-more-lt7.true in
     grind (arith, nat_tests, less)

@@ -10,5 +10,6 @@ use Rattle.atoi_core.proofs.words.WordsEngine.window_8.Goals as goal
 pub returns-clause-window : goal.returns-clause-window
 returns-clause-window c =
     let len = c.check_len_8-len.result in
-    let leading : c.if-len-eq8.result ≡ (if len == 8 then zeros decimal_table (low_bytes 8 c.load_8-word.result) else 0) = grind (arith, nat_tests, c.if-len-eq8.branch) in
+    let leading : c.if-len-eq8.result ≡ (if len == 8 then zeros decimal_table (low_bytes 8 c.load_8-word.result) else 0) =
+    grind (arith, nat_tests, c.if-len-eq8.branch) in
     search (rules, loaded_window c.args.s.now (λ i. (c.type_inv.s i).fits))
