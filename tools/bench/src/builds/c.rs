@@ -1,5 +1,5 @@
 //! The C library and `std::from_chars`, called from one C++ program, and its columns from C, read by
-//! calls of `_read` and by calls of `_next`. The same program reads slices and texts of real numbers. The library
+//! calls of `_read` and by calls of `_next`. The same program reads slices and texts of real lists. The library
 //! may be compared with that of another package in place of `std::from_chars`.
 
 use super::place::{ASSEMBLED_WITHIN_32_BYTES, WITHIN_32_BYTES, placed};
@@ -51,9 +51,9 @@ const CUTS: [Cut; 3] = [Cut::Column, Cut::Lines, Cut::Columns(1)];
 pub struct OfC {
     /// The C library and what it is compared with.
     pub calls: Compared,
-    /// What parses slices of a text of real numbers: ours, and then what it is compared with.
+    /// What parses slices of the text of a real list: ours, and then what it is compared with.
     pub slices: Compared,
-    /// What reads a text of real numbers: four ways of ours, and then what they are compared with.
+    /// What reads the text of a real list: four ways of ours, and then what they are compared with.
     pub texts: Compared,
     /// What reads many numbers a call: four ways of ours, and then what they are compared with.
     pub reads: Compared,

@@ -31,7 +31,7 @@ pub struct Inlined {
     pub with_errors: Compared,
     /// What reads formats.
     pub formats: Compared,
-    /// What reads a text of real numbers: four ways of ours, and then what they are compared with.
+    /// What reads the text of a real list: four ways of ours, and then what they are compared with.
     pub texts: Compared,
     /// What reads many numbers a call, and what that is compared with.
     pub reads: Compared,
@@ -287,7 +287,7 @@ impl Part {
         Ok(columns.chain(reads.iter().map(|shape| (shape.cut, shape.integer))).collect())
     }
 
-    // Whether a text of real numbers is read by it. Ours and another package have parts of their own for that.
+    // Whether the text of a real list is read by it. Ours and another package have parts of their own for that.
     fn reads_texts(&self) -> bool {
         match self.use_of {
             Use::Texts => true,
