@@ -118,6 +118,8 @@ static uint64_t sum_by_read(const char *text, size_t length)
         for (size_t at = 0; at < count; at++)
             sum += values[at];
     } while (count == 256);
+    if (column.status != TORKETTLE_OK)
+        printf("no number in field %zu, at byte %zu\n", column.index, column.offset);
 
     return sum;
 }
