@@ -47,8 +47,8 @@
 //!
 //! 1. The proof checker of Rattle. It is not public, so you cannot repeat the proofs.
 //! 2. Our definitions of the correct results, which the [`specification`] explains.
-//! 3. The Rust code in `rust/src`, which you can compare with the Rattle sources in the repository, rustc,
-//!    and Rust's `core`, which must do what Rattle's `std` specifies.
+//! 3. The Rust code in `rust/src`, of which you can compare `rust/src/proved` with the Rattle sources in
+//!    the repository, rustc, and Rust's `core`, which must do what Rattle's `std` specifies.
 //!
 //! Tests compare the results of this crate with the specification, with `str::parse`, with `atoi_simd`,
 //! and with the build of Rattle's own compiler.
@@ -128,7 +128,6 @@ pub mod guide {}
 /// assert_eq!(parse::<u64, false, false>(&text), Err(AtoiSimdError::Size(24, &text)));
 /// ```
 ///
-/// [errors]: crate::guide#errors
 /// [flags]: crate::guide#choose-the-flags
 /// [functions]: crate::guide#parse-a-number
 /// [lanes]: crate::guide#lanes
