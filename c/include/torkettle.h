@@ -7,7 +7,7 @@
  * A text consists of the `length` bytes at `text`. It needs no terminator, and no other byte is read. If `length` is 0,
  * the text is empty, and `text` may be NULL.
  *
- * The functions that are inline read a number of one digit themselves, without a call of the library.
+ * The functions that are inline read some numbers of up to 15 digits themselves, without a call of the library.
  *
  * No function allocates memory or keeps state. You may call each of them from any thread and from a signal handler.
  * The time that a call takes is at most proportional to `length`.
