@@ -365,8 +365,8 @@ private:
     // So many items are read alone before the first block, and after an error, since a short block is slower.
     static constexpr std::size_t first_alone = 4;
     static constexpr std::size_t alone_after_error = 16;
-    static constexpr std::size_t first_room = 32;
-    static constexpr std::size_t last_room = 2048 / sizeof(T);
+    static constexpr std::size_t first_room = 64;
+    static constexpr std::size_t last_room = 8192 / sizeof(T);
 
     range(std::string_view text, char separator, char is_lines) noexcept
         : state{TORKETTLE_OK, 0, 0, nullptr, 0, 0, 0, text.data(), 0, separator, is_lines}
@@ -381,23 +381,24 @@ private:
         return {std::nullopt, code, std::string_view(state.text, state.length), state.index, state.offset};
     }
 
-    item<T> refused() noexcept
+    [[gnu::noinline, gnu::cold]] item<T> refused() noexcept
     {
         if (ends)
             state.rest_length = 0;
         return error();
     }
 
-    bool read_alone(item<T> &field) noexcept
+    [[gnu::always_inline]] bool read_alone(item<T> &field) noexcept
     {
         const std::size_t offset = state.next_offset;
         const auto found = functions::next(state);
-        if (found.length == 0)
-            return false;
-        if (found.length == 1)
-            field = {static_cast<T>(found.value), std::errc(), std::string_view(), state.next_index - 1, offset};
-        else
+        if (__builtin_expect(found.length != 1, 0)) {
+            if (found.length == 0)
+                return false;
             field = refused();
+            return true;
+        }
+        field = {static_cast<T>(found.value), std::errc(), std::string_view(), state.next_index - 1, offset};
         return true;
     }
 
@@ -408,35 +409,30 @@ private:
         // Most iterators go on where they were. Their index is in a register, and `used` in memory takes longer.
         std::size_t index = last.next;
         if (__builtin_expect(index != used || index >= filled, 0)) {
-            if (!has_block()) {
-                item<T> one;
-                if (!read_one(one))
-                    return false;
-                field = one;
-                return true;
-            }
+            if (!has_block())
+                return read_alone(field);
             index = used;
         }
-        const bool is_known = last.block == block.rest && last.separator == block.separator;
-        const bool is_next = is_known && last.next == index;
+        const bool is_next = last.block == block.rest && last.separator == block.separator && last.next == index;
         const char *const place = place_of(index, block_text(), block.separator, is_next ? last.place : nullptr);
-        last = {block.rest, block.separator, index + 1, place};
         const std::size_t offset = block.next_offset + static_cast<std::size_t>(place - block.rest);
         field = {block_values[index], std::errc(), std::string_view(), block.next_index + index, offset};
-        used = index + 1;
+        ++index;
+        used = index;
+        last = {block.rest, block.separator, index, place};
         return true;
     }
 
-    // Returns whether there are numbers in the block, or in the next one.
+    // Returns whether there are numbers in the block or, unless the next item is read alone, in the next block.
     [[gnu::noinline]] bool has_block() noexcept
     {
-        return used < filled || (alone == 0 && read_block());
-    }
-
-    [[gnu::noinline]] bool read_one(item<T> &field) noexcept
-    {
-        alone -= alone > 0;
-        return read_alone(field);
+        if (used < filled)
+            return true;
+        if (alone > 0) {
+            --alone;
+            return false;
+        }
+        return state.rest_length > 0 && read_block();
     }
 
     // Reads the next numbers, up to an error or the end, and returns whether there are any.
@@ -445,7 +441,7 @@ private:
         block = state;
         used = 0;
         filled = functions::read(state, block_values, room);
-        room = room < last_room ? 2 * room : last_room;
+        room = 4 * room < last_room ? 4 * room : last_room;
         if (state.status != TORKETTLE_OK) {
             // `read_alone` reads the error again.
             state.status = TORKETTLE_OK;
