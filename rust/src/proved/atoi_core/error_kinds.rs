@@ -34,7 +34,7 @@ impl AtoiSimdError<'_> {
     }
 
     /// Returns the kind of the error that `str::parse` returns for the same text. `text` is the slice that
-    /// `parse::<T, true, true>` got, with its sign. See the [guide](crate::guide#recipes).
+    /// `parse::<T, true, true>` got, with its sign. See the [guide](crate::guide#errors).
     ///
     /// **Proved:** the result is [as specified](crate::specification#errors-refusalantt-errortextantt-errorkindsantt).
     ///
