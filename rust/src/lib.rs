@@ -111,7 +111,6 @@ pub use proved::atoi_simd::{
 /// [trust]: crate#what-is-proved-and-what-you-trust
 /// [commands]: https://docs.rs/crate/torkettle/latest/source/docs/CONTRIBUTING.md
 /// [readme]: https://docs.rs/crate/torkettle/latest
-/// [differences]: https://docs.rs/crate/torkettle/latest/source/docs/DIFFERENCES.md
 /// [log]: https://docs.rs/crate/torkettle/latest/source/rust/examples/log.rs
 /// [threads]: https://docs.rs/crate/torkettle/latest/source/rust/examples/threads.rs
 ///
