@@ -32,15 +32,37 @@ pub(crate) fn answer_after_16<'a>(
 {
     steps.tick();
     if s.len() <= limit as usize {
-        if s.len() == 16 {
-            // With `s.len()`, LLVM drops the caller's test.
-            return Ok((high, s.len()));
-        }
-        if let Some(low) = last_four(s) {
-            return answer_to_end(bound, limit, high, u64::from(low), s);
-        }
+        answer_near_end(bound, limit, high, s)
+    } else {
+        answer_by_word(bound, limit, high, s)
     }
-    answer_by_word(bound, limit, high, s)
+}
+
+// `answer_after_16` for a slice of at most `limit` bytes, which are mostly digits.
+#[inline(always)]
+fn answer_near_end<'a>(
+    bound: u64,
+    limit: u32,
+    high: u64,
+    s: &'a [u8],
+) -> Result<(u64, usize), AtoiSimdError<'a>>
+    // requires bound { IsBound64 limit bound }
+    // requires few { length s.now ≤ limit }
+    // requires full { 16 ≤ run_len decimal_table s.now }
+    // requires number { high ≡ value decimal_table (take 16 s.now) }
+    // ensures { answer_of result ≡ prefix_magnitude decimal_table wide64 bound limit false s.now }
+{
+    if s.len() == 16 {
+        // With `s.len()`, LLVM drops the caller's test.
+        return Ok((high, s.len()));
+    }
+    match last_four(s) {
+        Some(low) => {
+            let number = append_digits(high, s.len() as u32 - 16, u64::from(low));
+            answer_to_end(bound, number, s)
+        }
+        None => answer_by_word(bound, limit, high, s),
+    }
 }
 
 // Returns the number that the bytes after the first 16 spell, if the last four are digits.
@@ -60,29 +82,10 @@ pub(crate) fn answer_after_16<'a>(
     Some(value_after(word, 20 - s.len()))
 }
 
-// `answer_after_16` for digits alone, of which those after the first 16 spell `low`.
-#[inline] fn answer_to_end<'a>(
-    bound: u64,
-    limit: u32,
-    high: u64,
-    low: u64,
-    s: &'a [u8],
-) -> Result<(u64, usize), AtoiSimdError<'a>>
-    // requires bound { IsBound64 limit bound }
-    // requires some { 16 < length s.now }
-    // requires few { length s.now ≤ limit }
-    // requires whole { run_len decimal_table s.now ≡ length s.now }
-    // requires high { high ≡ value decimal_table (take 16 s.now) }
-    // requires low { low ≡ value decimal_table (drop 16 s.now) }
-    // ensures { answer_of result ≡ prefix_magnitude decimal_table wide64 bound limit false s.now }
+#[inline] fn answer_to_end(bound: u64, number: u128, s: &[u8]) -> Result<(u64, usize), AtoiSimdError<'_>>
+    // ensures { answer_of result ≡ (if nat_lt bound number then Err (overflow s.now)
+    //     else Ok (number, length s.now)) }
 {
-    let more = s.len() as u32 - 16;
-    // At most 19 digits fit in 64 bits.
-    let number = if limit < 20 {
-        u128::from(high * power_of_ten(more) + low)
-    } else {
-        append_digits(high, more, low)
-    };
     if number > u128::from(bound) {
         Err(AtoiSimdError::Overflow(s))
     } else {
