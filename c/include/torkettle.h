@@ -404,6 +404,7 @@ static inline size_t torkettle_rest_length(size_t length, char separator) TORKET
         size_t rest_length;                                                                                            \
         char separator;                                                                                                \
         char is_lines;                                                                                                 \
+        char values_are_set;                                                                                           \
     } torkettle_column_##name;                                                                                         \
                                                                                                                        \
     typedef struct torkettle_fields_##name {                                                                           \
@@ -418,6 +419,7 @@ static inline size_t torkettle_rest_length(size_t length, char separator) TORKET
         size_t rest_length;                                                                                            \
         char separator;                                                                                                \
         char is_lines;                                                                                                 \
+        char values_are_set;                                                                                           \
     } torkettle_fields_##name;                                                                                         \
                                                                                                                        \
     torkettle_found_##name torkettle_whole_##name(const char *text, size_t length) TORKETTLE_SYMBOL_(whole_##name);    \
@@ -538,7 +540,7 @@ static inline size_t torkettle_rest_length(size_t length, char separator) TORKET
         fields->rest = text;                                                                                           \
         fields->rest_length = torkettle_rest_length(length, separator);                                                \
         fields->separator = separator;                                                                                 \
-        fields->is_lines = 0;                                                                                          \
+        fields->is_lines = fields->values_are_set = 0;                                                                 \
     }                                                                                                                  \
                                                                                                                        \
     static inline void torkettle_fields_##name##_init_lines(torkettle_fields_##name *fields, const char *text,         \

@@ -369,7 +369,7 @@ private:
     static constexpr std::size_t last_room = 8192 / sizeof(T);
 
     range(std::string_view text, char separator, char is_lines) noexcept
-        : state{TORKETTLE_OK, 0, 0, nullptr, 0, 0, 0, text.data(), 0, separator, is_lines}
+        : state{TORKETTLE_OK, 0, 0, nullptr, 0, 0, 0, text.data(), 0, separator, is_lines, 0}
     {
         state.rest_length = torkettle_rest_length(text.size(), separator);
     }
@@ -438,9 +438,15 @@ private:
     // Reads the next numbers, up to an error or the end, and returns whether there are any.
     bool read_block() noexcept
     {
+        if (set < room) {
+            std::memset(block_values + set, 0, (room - set) * sizeof(T));
+            set = room;
+        }
         block = state;
         used = 0;
+        state.values_are_set = 1;
         filled = functions::read(state, block_values, room);
+        state.values_are_set = 0;
         room = 4 * room < last_room ? 4 * room : last_room;
         if (state.status != TORKETTLE_OK) {
             // `read_alone` reads the error again.
@@ -496,6 +502,8 @@ private:
     T block_values[last_room];
     std::size_t used = 0;
     std::size_t filled = 0;
+    // How many numbers of the array have been set.
+    std::size_t set = 0;
     // How many items are read alone before the next block, and how many numbers that has.
     std::size_t alone = first_alone;
     std::size_t room = first_room;

@@ -148,6 +148,7 @@ macro_rules! rest {
             field!($name, $type, rest.rest_length, "size_t"),
             field!($name, $type, rest.separator, "char"),
             field!($name, $type, rest.is_lines, "char"),
+            field!($name, $type, rest.values_are_set, "char"),
         ]
     };
 }

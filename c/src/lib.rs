@@ -65,6 +65,8 @@ pub struct Rest {
     rest_length: usize,
     separator: c_char,
     is_lines: c_char,
+    // Whether the array that is read into has `count` numbers, all set. The ranges of C++ have one.
+    values_are_set: c_char,
 }
 
 /// `torkettle_column_i64`, and so on.
@@ -251,6 +253,7 @@ impl Rest {
             rest_length: length,
             separator,
             is_lines: 0,
+            values_are_set: 0,
         }
     }
 
@@ -282,12 +285,10 @@ impl Rest {
     /// Writes the next numbers to `values`, at most `count`, and returns how many they are. Stops before
     /// a bad field.
     ///
-    /// The array of C may be uninitialized, and have room for fewer than `count`, so no slice may cover it.
-    /// The numbers are read into an array on the stack, of which as much is set to 0 as is used, and copied.
-    ///
     /// # Safety
     ///
-    /// As for `fields`, `T` is an integer type, and `values` has room for as many numbers as are written.
+    /// As for `fields`, `T` is an integer type, and `values` has room for as many numbers as are written
+    /// or, if `values_are_set`, has `count`, all set.
     #[inline(always)]
     unsafe fn read<T: Parse, const LINES: bool>(
         &mut self,
@@ -295,6 +296,29 @@ impl Rest {
         count: usize,
     ) -> usize {
         let Some(mut fields) = (unsafe { self.fields::<T, LINES>() }) else { return 0 };
+        let read = if LINES && self.values_are_set != 0 {
+            fields.read(unsafe { from_raw_parts_mut(values.0, count) })
+        } else {
+            unsafe { self.read_and_copy(&mut fields, values, count) }
+        };
+        self.go_on_after(&fields);
+        read
+    }
+
+    /// The array of C may be uninitialized, and have room for fewer than `count`, so no slice may cover it.
+    /// The numbers are read into an array on the stack, of which as much is set to 0 as is used, and copied.
+    ///
+    /// # Safety
+    ///
+    /// `fields` are of this text, `T` is an integer type, and `values` has room for as many numbers as are
+    /// written.
+    #[inline(always)]
+    unsafe fn read_and_copy<T: Parse>(
+        &self,
+        fields: &mut Fields<'_, T>,
+        values: Values<T>,
+        count: usize,
+    ) -> usize {
         let mut room = [MaybeUninit::<u128>::uninit(); ROOM / size_of::<u128>()];
         // A number is at least one digit, and all but the last have a separator.
         let most = count.min(self.rest_length / 2 + 1).min(ROOM / size_of::<T>());
@@ -312,7 +336,6 @@ impl Rest {
                 break;
             }
         }
-        self.go_on_after(&fields);
         read
     }
 }
