@@ -1,25 +1,15 @@
 //! How many digits and zeros a word begins with, and the number that they spell: the kernels of
 //! `atoi_core::words` with fewer instructions.
-ghost use Rattle.std.specs.Prelude.{◌≡◌, ◌-◌, ◌<◌, ◌≤◌, ◌++◌, nat_lt, drop, replicate};
+ghost use Rattle.std.specs.Prelude.{◌≡◌, ◌<◌, ◌≤◌, ◌++◌, nat_lt, drop};
 ghost use Rattle.atoi_core.specs.Digit.{decimal_table};
 ghost use Rattle.atoi_core.specs.Run.{run_len, zeros};
-ghost use Rattle.atoi_core.specs.Words.{low_bytes, low_value, word_of};
-ghost use Rattle.std.specs.Int.Bits.{bit_and};
+ghost use Rattle.atoi_core.specs.Words.{low_bytes, low_value};
+ghost use Rattle.std.specs.Int.Bits.{bit_and, bit_xor};
 
 /// Eight zeros, each the byte 48.
 pub(crate) const ZEROS: u64 = 0x3030_3030_3030_3030;
 
-const FOUR_ZEROS: u32 = 0x3030_3030;
-
-/// Returns the word of `8 - len` zeros, which fills a short slice to eight bytes.
-#[tactic(auto, using(crate::proofs::lemmas::WordWindows::zeros_shifted, crate::proofs::lemmas::WordWindows::zeros_left_out))]
-pub(crate) fn zero_padding(len: usize) -> u64
-    requires some { 0 < len }
-    requires few { len ≤ 8 }
-    ensures { result ≡ word_of (replicate (8 - len) 48) }
-{
-    ZEROS - (ZEROS << (64 - 8 * len))
-}
+pub(crate) const FOUR_ZEROS: u32 = 0x3030_3030;
 
 // A byte is no digit if adding 70 or subtracting 48 sets its top bit. A carry or a borrow changes only
 // bytes above the first that is no digit.
@@ -32,6 +22,20 @@ pub(crate) fn digits_of(word: u64) -> u32
     let above = word.wrapping_add(0x4646_4646_4646_4646);
     let below = word.wrapping_sub(ZEROS);
     let marks = (above | below) & 0x8080_8080_8080_8080;
+    if marks == 0 {
+        8
+    } else {
+        marks.trailing_zeros() / 8
+    }
+}
+
+/// `digits_of` for a word xor `ZEROS`. Here, a byte is no digit if adding 118 sets its top bit.
+#[tactic(auto, using(crate::proofs::lemmas::WordRuns::flipped_marks, crate::proofs::lemmas::WordRuns::none_flipped))]
+pub(crate) fn digits_of_flipped(flipped: u64) -> u32
+    ensures len { result ≡ run_len decimal_table (low_bytes 8 (bit_xor flipped 0x3030_3030_3030_3030)) }
+    ensures most { result ≤ 8 }
+{
+    let marks = (flipped.wrapping_add(0x7676_7676_7676_7676) | flipped) & 0x8080_8080_8080_8080;
     if marks == 0 {
         8
     } else {

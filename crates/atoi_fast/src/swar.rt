@@ -10,10 +10,10 @@ ghost use Rattle.std.proofs.lemmas.Bool.Decides.{nat_tests};
 
 use crate::after_16::answer_after_16;
 use crate::digits::{
-    ZEROS, digits_of, number_in_word, sum_of, value_below_8, value_of, zero_padding, zeroes_of,
-    zeroes_of_two,
+    ZEROS, digits_of, digits_of_flipped, number_in_word, sum_of, value_below_8, value_of,
+    zeroes_of, zeroes_of_two,
 };
-use crate::loads::{load_full, load_last, load_right_aligned};
+use crate::loads::{load_flipped, load_full, load_last};
 use crate::one_byte::window_of_one;
 use atoi_core::powers::{append_digits, power_of_ten};
 use atoi_core::wide_answer::{answer_64, answer_128, found_or_empty};
@@ -230,7 +230,7 @@ fn long_window(s: &[u8]) -> Window
 // The window of at most 8 bytes. Fills a slice to eight bytes with zeros before it. Only one byte, the
 // most frequent length, or none has a branch.
 #[inline(always)]
-#[tactic(auto, using(crate::proofs::lemmas::WordWindows::filled_fits, crate::proofs::lemmas::WordWindows::filled_digits))]
+#[tactic(auto, using(crate::proofs::lemmas::WordWindows::filled_digits, crate::proofs::lemmas::WordRuns::flipped_back))]
 fn short_window(s: &[u8]) -> Window
     requires { length s.now ≤ 8 }
     ensures of_16 { result ≡ window_of decimal_table 16 s.now }
@@ -239,20 +239,19 @@ fn short_window(s: &[u8]) -> Window
     if s.len() <= 1 {
         return window_of_one(s);
     }
-    let filled = load_right_aligned(s) + zero_padding(s.len());
-    let digits = digits_of(filled);
+    let flipped = load_flipped(s);
+    let digits = digits_of_flipped(flipped);
     if digits == 8 {
         Window {
             len: s.len() as u32,
             zeroes: 0,
-            number: sum_of(filled.wrapping_sub(ZEROS)),
+            number: sum_of(flipped),
         }
     } else {
-        let len = digits - (8 - s.len() as u32);
         Window {
-            len,
+            len: digits - (8 - s.len() as u32),
             zeroes: 0,
-            number: number_in_word(filled, digits),
+            number: number_in_word(flipped ^ ZEROS, digits),
         }
     }
 }
@@ -267,7 +266,7 @@ fn medium_window(s: &[u8]) -> Window
     let first = load_full(s);
     let len = digits_of(first);
     if len != 8 {
-        return Window::not_full(len, number_in_word(first, len));
+        return Window::not_full(len, value_below_8(first, len));
     }
     let last = load_last(s);
     let more = digits_of(last);

@@ -1,19 +1,19 @@
 -- Words that hold the bytes of a slice.
-use Rattle.std.proofs.Common.{◌≡◌, ℕ, zero, suc, ◌+◌, ◌-◌, ◌*◌, ◌/◌, ◌%◌, ◌^◌, ◌<◌, ◌≤◌, List, [], ◌∷◌, length, refl, sym, ◌∙◌, arith, inl, inr, mod-lt, ◌==◌, drop, ap, ◌++◌, take, replicate, get_or, if◌then◌else◌}
-use Rattle.std.proofs.Math.Nat.{div-div-eq-div-mul, mod-le}
-use Rattle.std.proofs.lemmas.Nat.{pow_pos, pow-add, mod-pow-add, and_mask, shr_split, div-mul-add, and_assoc, or_block, shl_whole, and_comm}
-use Rattle.std.specs.Int.Bits.{bit_and, bit_or, and_self, or_add_and, or_zero_r}
+use Rattle.std.proofs.Common.{◌≡◌, ℕ, zero, suc, Bool, true, lit<, ap₂, ◌+◌, ◌-◌, ◌*◌, ◌/◌, ◌%◌, ◌^◌, ◌<◌, ◌≤◌, List, [], ◌∷◌, length, refl, sym, ◌∙◌, arith, inl, inr, mod-lt, ◌==◌, drop, ap, ◌++◌, take, replicate, get_or, if◌then◌else◌}
+use Rattle.std.proofs.Math.Nat.{div-div-eq-div-mul, mul-div_cancel, suc-add, zero-add, add-zero}
+use Rattle.std.proofs.lemmas.Nat.{pow_pos, pow-add, mod-pow-add, and_mask, shr_split, div-mul-add, mod-mul-add, and_assoc, or_block, xor_block, xor_shr, xor_mod, shl_whole, and_comm, mul-mod_second}
+use Rattle.std.specs.Int.Bits.{bit_and, bit_or, bit_xor, and_self, or_add_and, or_zero_r, or_shifted_r, xor_lt, xor_self}
 use Rattle.std.specs.Simd.Lanes.{digits_l}
 use Rattle.atoi_core.specs.Words.{low_bytes, word_of}
 use Rattle.atoi_core.specs.Digit.{decimal_table, is_zero}
 use Rattle.atoi_core.specs.Run.{zeros}
-use Rattle.atoi_core.proofs.lemmas.WordFields.{byte_more}
+use Rattle.atoi_core.proofs.lemmas.WordFields.{byte_more, repeated}
 use Rattle.atoi_core.proofs.lemmas.LoweredWords.{shift_cut}
-use Rattle.std.proofs.lemmas.List.{take_all, drop_all, drop_more, length-drop, get_or_past}
+use Rattle.std.proofs.lemmas.List.{take_all, drop_all, drop_more, drop-drop, length-drop, get_or_past}
 use Rattle.std.specs.Int.{from_le_bytes, w16, w64}
-use Rattle.std.proofs.lemmas.Bool.{cases_lt}
+use Rattle.std.proofs.lemmas.Bool.{cases_lt, agree_below_at, eqb-true}
 use Rattle.std.proofs.lemmas.List.Folds.{prefix_len-append}
-use Rattle.atoi_core.proofs.lemmas.LoadedWords.{word_from_eight, bytes_above, word_of_rest, word_start}
+use Rattle.atoi_core.proofs.lemmas.LoadedWords.{word_from_eight, bytes_above, fits_after, word_of_rest, word_start}
 
 -- ---- Loading a word from a slice
 
@@ -56,70 +56,157 @@ last_bytes s last at enough inside few fits is =
 pub word_after_all : (s : List ℕ) (at : ℕ) → length s ≤ at → 0 ≡ word_of (take 8 (drop at s))
 word_after_all s at all = word_of_none (take 8 (drop at s)) (ap (λ l. length (take 8 l)) (drop_all at s all))
 
--- m bytes of 0 shift a word left.
-pub word_shifted : (m : ℕ) (s : List ℕ) → word_of (replicate m 0 ++ s) ≡ word_of s * 2 ^ (m * 8)
-unfolding word_of
-word_shifted zero s = omega arith
-word_shifted (suc m) s =
-    let rest = word_shifted m s in
-    rw byte_more (omega arith)
-
--- A shift right gives the word of the slice back.
-pub shifted_back : (s : List ℕ) → length s ≤ 8 → word_of (replicate (8 - length s) 0 ++ s) / 2 ^ (64 - 8 * length s) ≡ word_of s
-shifted_back s few = search (arith, word_shifted, div-mul-add, pow_pos)
-
 -- ---- A slice of at most eight bytes, joined from overlapping parts
 
--- The word whose highest bytes are the slice.
-abbrev pub high_word : List ℕ → ℕ
-high_word s = word_of (replicate (8 - length s) 0 ++ s)
+pub shifted_by : (front factor k : ℕ) → factor ≡ 2 ^ k % 2 ^ 64 → front * factor % 2 ^ 64 ≡ front * 2 ^ k % 2 ^ 64
+shifted_by front factor k is = ap (λ f. front * f % 2 ^ 64) is ∙ mul-mod_second front (2 ^ k) (2 ^ 64)
+
+-- In the highest bytes of a word, the j lowest and the k highest of n bytes join.
+module _ (n y : ℕ) (few : n ≤ 8) (fits : y < 2 ^ (n * 8)) where
+  pub parts_joined : (j k front back : ℕ) → j ≤ n → k ≤ n → n ≤ j + k → front ≡ y % 2 ^ (j * 8)
+      → back ≡ y / 2 ^ ((n - k) * 8) * 2 ^ ((8 - k) * 8) → bit_or (front * 2 ^ (64 - 8 * n) % 2 ^ 64) back ≡ y * 2 ^ ((8 - n) * 8)
+  parts_joined j k front back front_in back_in meet front_is back_is =
+      let z = (8 - n) * 8 in
+      let whole = y * 2 ^ z in
+      let shift : 64 - 8 * n ≡ z = omega arith in
+      let below : front < 2 ^ (j * 8) = omega (arith, mod-lt y (pow_pos (j * 8))) in
+      let low : front * 2 ^ (64 - 8 * n) % 2 ^ 64 ≡ whole % 2 ^ (j * 8 + z) =
+      ap (λ e. front * 2 ^ e % 2 ^ 64) shift ∙ shl_whole front (j * 8) z 64 below (omega arith)
+      ∙ ap (λ x. x * 2 ^ z) front_is ∙ sym (shift_cut y (j * 8) z) in
+      let split : 2 ^ ((8 - k) * 8) ≡ 2 ^ z * 2 ^ ((n - k) * 8) = ap (λ e. 2 ^ e) (omega arith) ∙ pow-add 2 z ((n - k) * 8) in
+      let top : whole / 2 ^ ((8 - k) * 8) ≡ y / 2 ^ ((n - k) * 8) =
+      ap (λ p. whole / p) split ∙ sym (div-div-eq-div-mul whole (2 ^ z) (2 ^ ((n - k) * 8)))
+      ∙ ap (λ x. x / 2 ^ ((n - k) * 8)) (mul-div_cancel y (pow_pos z)) in
+      overlap whole _ _ (j * 8 + z) ((8 - k) * 8) low (back_is ∙ ap (λ x. x * 2 ^ ((8 - k) * 8)) (sym top)) (omega arith)
+
+pub word_filled : (m : ℕ) (s : List ℕ) → word_of (replicate m 48 ++ s) ≡ word_of s * 2 ^ (m * 8) + repeated 48 m
+unfolding word_of
+word_filled zero s = omega arith
+word_filled (suc m) s =
+    let rest = word_filled m s in
+    rw byte_more (omega arith)
+
+zeros_fit : (m : ℕ) → repeated 48 m < 2 ^ (m * 8)
+zeros_fit zero = omega arith
+zeros_fit (suc m) =
+    let rest = zeros_fit m in
+    rw byte_more (omega arith)
+
+zeros_joined : (m n : ℕ) → repeated 48 (m + n) ≡ repeated 48 n * 2 ^ (m * 8) + repeated 48 m
+zeros_joined zero n = rw zero-add (omega arith)
+zeros_joined (suc m) n =
+    let rest = zeros_joined m n in
+    rw (suc-add, byte_more) (omega arith)
+
+zeros_above : (m n : ℕ) → repeated 48 (m + n) / 2 ^ (m * 8) ≡ repeated 48 n
+zeros_above m n = rw zeros_joined (div-mul-add (repeated 48 n) (2 ^ (m * 8)) (repeated 48 m) (zeros_fit m))
+
+zeros_below : (m n : ℕ) → repeated 48 (m + n) % 2 ^ (m * 8) ≡ repeated 48 m
+zeros_below m n = rw zeros_joined (mod-mul-add (repeated 48 n) (2 ^ (m * 8)) (repeated 48 m) (zeros_fit m))
+
+abbrev flipped : List ℕ → ℕ
+flipped s = bit_xor (word_of s) (repeated 48 (length s))
+
+-- Of fewer than four bytes, each is flipped.
+one_flipped : (b : ℕ) → b < 256 → bit_xor (bit_or b 0x3030_3000) 0x3030_3030 ≡ bit_xor b 48
+one_flipped b small =
+    let same : ℕ → Bool = λ n. bit_xor (bit_or n 0x3030_3000) 0x3030_3030 == bit_xor n 48 in
+    eqb-true _ _ (agree_below_at same (λ _. true) 256 b refl small)
+
+two_flipped : (two : ℕ) → two < 2 ^ 16 → bit_xor (bit_or 0x3030 (two * 2 ^ 16 % 2 ^ 32)) 0x3030_3030 ≡ bit_xor two 0x3030 * 2 ^ 16
+two_flipped two small =
+    let shifted : two * 2 ^ 16 % 2 ^ 32 ≡ two * 2 ^ 16 = omega arith in
+    ap (λ x. bit_xor (bit_or 0x3030 x) 0x3030_3030) shifted ∙ ap (λ x. bit_xor x 0x3030_3030) (or_shifted_r two 16 0x3030 (lit< tt))
+    ∙ xor_block 16 two 0x3030 0x3030 0x3030 (lit< tt) (lit< tt) ∙ omega arith
 
 module _ (s : List ℕ) (few : length s ≤ 8) (fits : (i : ℕ) → get_or s i 0 < 256) where
-  high_fits : high_word s % 2 ^ 64 ≡ high_word s
-  high_fits =
+  word_fits : word_of s < 2 ^ (length s * 8)
+  word_fits =
       let all = word_start (length s) s fits ∙ ap word_of (take_all (length s) s (omega arith)) in
-      let below : word_of s < 2 ^ (length s * 8) = omega (arith, mod-lt (word_of s) (pow_pos (length s * 8))) in
-      rw word_shifted (shl_whole (word_of s) (length s * 8) ((8 - length s) * 8) 64 below (omega arith))
+      omega (arith, mod-lt (word_of s) (pow_pos (length s * 8)))
 
-  -- The bytes from j on are its highest.
-  high_rest : (j k x : ℕ) → x ≡ word_of (drop j s) → 8 - length s + j ≡ k → x ≡ high_word s / 2 ^ (k * 8)
-  high_rest j k x is place =
-      let up : 2 ^ (64 - 8 * length s) * 2 ^ (j * 8) ≡ 2 ^ (k * 8) =
-      sym (pow-add 2 (64 - 8 * length s) (j * 8)) ∙ ap (λ e. 2 ^ e) (omega arith) in
-      is ∙ sym (bytes_above j s fits) ∙ ap (λ w. w / 2 ^ (j * 8)) (sym (shifted_back s few))
-      ∙ div-div-eq-div-mul (high_word s) (2 ^ (64 - 8 * length s)) (2 ^ (j * 8)) ∙ ap (λ p. high_word s / p) up
+  flipped_fits : flipped s < 2 ^ (length s * 8)
+  flipped_fits = xor_lt (length s * 8) (word_of s) (repeated 48 (length s)) word_fits (zeros_fit (length s))
 
-  -- A front and a back that overlap or meet join to the word.
-  parts_joined : (j k front back : ℕ) → front ≡ word_of (take j s) → back * 2 ^ 32 % 2 ^ 64 ≡ high_word s / 2 ^ (k * 8) * 2 ^ (k * 8)
-      → k * 8 ≤ j * 8 + (8 - length s) * 8 → bit_or (front * 2 ^ (64 - 8 * length s) % 2 ^ 64) (back * 2 ^ 32 % 2 ^ 64) ≡ high_word s
-  parts_joined j k front back front_is back_is =
-      overlap (high_word s) _ _ (j * 8 + (8 - length s) * 8) (k * 8)
-      (search (arith, mod-le, word_shifted, shift_cut, word_start, high_fits)) back_is
+  flipped_first : (j : ℕ) → j ≤ length s → bit_xor (word_of (take j s)) (repeated 48 j) ≡ flipped s % 2 ^ (j * 8)
+  flipped_first j inside =
+      let zeros = zeros_below j (length s - j) in
+      let all : j + (length s - j) ≡ length s = omega arith in
+      sym (xor_mod (word_of s) (repeated 48 (length s)) (j * 8) ∙ ap₂ bit_xor (word_start j s fits) (rw all at zeros))
 
-  -- The first byte overlaps the first four, and the last two the last four; fewer bytes have no fours.
-  pub high_joined : (two first last : ℕ) → 0 < length s → (2 ≤ length s → two ≡ word_of (drop (length s - 2) s)) → (length s < 2 → two ≡ 0)
-      → (4 ≤ length s → first ≡ word_of (take 4 s)) → (length s < 4 → first ≡ 0)
-      → (4 ≤ length s → last ≡ word_of (drop (length s - 4) s)) → (length s < 4 → last ≡ 0)
-      → bit_or (bit_or (get_or s 0 0) first * 2 ^ (64 - 8 * length s) % 2 ^ 64)
-      (bit_or last (two * 2 ^ 16 % 2 ^ 32) * 2 ^ 32 % 2 ^ 64) ≡ high_word s
+  flipped_last : (k : ℕ) → k ≤ length s
+      → bit_xor (word_of (drop (length s - k) s)) (repeated 48 k) ≡ flipped s / 2 ^ ((length s - k) * 8)
+  flipped_last k inside =
+      let zeros = zeros_above (length s - k) k in
+      let all : length s - k + k ≡ length s = omega arith in
+      sym (xor_shr (word_of s) (repeated 48 (length s)) ((length s - k) * 8)
+      ∙ ap₂ bit_xor (bytes_above (length s - k) s fits) (rw all at zeros))
+
+  -- The zeros before the slice are 0 then.
+  flipped_filled : bit_xor (word_of (replicate (8 - length s) 48 ++ s)) (repeated 48 8) ≡ flipped s * 2 ^ ((8 - length s) * 8)
+  flipped_filled =
+      let m = 8 - length s in
+      let zeros = zeros_joined m (length s) in
+      let all : m + length s ≡ 8 = omega arith in
+      let block = xor_block (m * 8) (word_of s) (repeated 48 (length s)) (repeated 48 m) (repeated 48 m) (zeros_fit m) (zeros_fit m) in
+      ap₂ bit_xor (word_filled m s) (rw all at zeros) ∙ block
+      ∙ ap (λ r. flipped s * 2 ^ (m * 8) + r) (xor_self (repeated 48 m)) ∙ add-zero (flipped s * 2 ^ (m * 8))
+
+  first_byte : 0 < length s → get_or s 0 0 ≡ word_of (take 1 s)
   unfolding word_of
-  high_joined two first last some two_is no_two first_is no_first last_is no_last =
-      let start : get_or s 0 0 ≡ word_of (take 1 s) = search (arith, drop_more) in
-      let end : 2 ≤ length s → two ≡ high_word s / 2 ^ (6 * 8) = λ h. high_rest (length s - 2) 6 two (two_is h) (omega arith) in
+  first_byte some = search (arith, drop_more)
+
+  first_of_four : (first : ℕ) → 4 ≤ length s → first ≡ word_of (take 4 s) → bit_or (get_or s 0 0) first ≡ first
+  first_of_four first four first_is =
+      let start = first_byte (omega arith) in
+      let low : get_or s 0 0 ≡ first % 2 ^ 8 = omega (arith, start, first_is, word_start 1 s fits, word_start 4 s fits) in
+      ap (λ x. bit_or x first) low ∙ with_low_bits first 8
+
+  last_fits : (k : ℕ) → k ≤ length s → word_of (drop (length s - k) s) < 2 ^ (k * 8)
+  last_fits k inside =
+      let end = drop (length s - k) s in
+      let whole = word_start k end (fits_after (length s - k) s fits) ∙ ap word_of (take_all k end (omega (arith, length-drop (length s - k) s))) in
+      omega (arith, mod-lt (word_of end) (pow_pos (k * 8)))
+
+  last_of_four : (last two : ℕ) → 4 ≤ length s → last ≡ word_of (drop (length s - 4) s) → two ≡ word_of (drop (length s - 2) s)
+      → bit_or last (two * 2 ^ 16 % 2 ^ 32) ≡ last
+  last_of_four last two four last_is two_is =
+      let small : last < 2 ^ 32 = rw last_is (last_fits 4 four) in
+      let place : length s - 4 + 2 ≡ length s - 2 = omega arith in
+      let end : two ≡ last / 2 ^ 16 =
+      two_is ∙ sym (ap (λ w. w / 2 ^ 16) last_is ∙ bytes_above 2 (drop (length s - 4) s) (fits_after (length s - 4) s fits)
+      ∙ ap word_of (drop-drop 2 (length s - 4) s ∙ ap (λ k. drop k s) place)) in
+      overlap last last _ 32 16 (omega arith) (omega arith) (omega arith)
+
+  -- The first four bytes and the last four, or the first byte and the last two.
+  pub flipped_joined : (first last two : ℕ) → 2 ≤ length s
+      → (4 ≤ length s → first ≡ word_of (take 4 s)) → (length s < 4 → first ≡ 0x3030_3000)
+      → (4 ≤ length s → last ≡ word_of (drop (length s - 4) s)) → (length s < 4 → last ≡ 0x3030)
+      → two ≡ word_of (drop (length s - 2) s)
+      → bit_or (bit_xor (bit_or (get_or s 0 0) first) 0x3030_3030 * 2 ^ (64 - 8 * length s) % 2 ^ 64)
+      (bit_xor (bit_or last (two * 2 ^ 16 % 2 ^ 32)) 0x3030_3030 * 2 ^ 32 % 2 ^ 64)
+      ≡ bit_xor (word_of (replicate (8 - length s) 48 ++ s)) 0x3030_3030_3030_3030
+  flipped_joined first last two some first_is no_first last_is no_last two_is =
       elim (cases_lt (length s) 4) [
         | inr four ↦
-            (let top : last ≡ high_word s / 2 ^ (4 * 8) = high_rest (length s - 4) 4 last (last_is four) (omega arith) in
-            let low : get_or s 0 0 ≡ first % 2 ^ 8 = omega (arith, start, first_is four, word_start 1 s fits, word_start 4 s fits) in
-            let front : bit_or (get_or s 0 0) first ≡ first = ap (λ x. bit_or x first) low ∙ with_low_bits first 8 in
-            let back : bit_or last (two * 2 ^ 16 % 2 ^ 32) ≡ last =
-            overlap last last _ 32 16 (omega (arith, top, high_fits)) (omega (arith, top, end (omega arith), high_fits)) (omega arith) in
-            rw (front, back) (parts_joined 4 4 first last (first_is four) (omega (arith, top, high_fits)) (omega arith)))
+            (let front =
+            ap (λ x. bit_xor x (repeated 48 4)) (first_of_four first four (first_is four) ∙ first_is four) ∙ flipped_first 4 four in
+            let back =
+            ap (λ x. bit_xor x (repeated 48 4)) (last_of_four last two four (last_is four) two_is ∙ last_is four) ∙ flipped_last 4 four in
+            let top = xor_lt 32 (word_of (drop (length s - 4) s)) (repeated 48 4) (last_fits 4 four) (lit< tt) in
+            let end = flipped_last 4 four in
+            parts_joined (length s) (flipped s) few flipped_fits 4 4 _ _ four four (omega arith) front
+            (ap (λ x. x * 2 ^ 32 % 2 ^ 64) back ∙ omega arith) ∙ sym flipped_filled)
         | inl short ↦
-            (rw (no_first short, no_last short, or_zero_r)
-            (elim (cases_lt (length s) 2) [
-              | inl one ↦ rw (no_two one) (parts_joined 1 8 (get_or s 0 0) 0 start (omega (arith, high_fits)) (omega arith))
-              | inr more ↦ parts_joined 1 6 (get_or s 0 0) (two * 2 ^ 16 % 2 ^ 32) start (omega (arith, end more, high_fits)) (omega arith)
-            ]))
+            (let front =
+            ap (λ f. bit_xor (bit_or (get_or s 0 0) f) 0x3030_3030) (no_first short) ∙ one_flipped (get_or s 0 0) (fits 0)
+            ∙ ap (λ x. bit_xor x 48) (first_byte (omega arith)) ∙ flipped_first 1 (omega arith) in
+            let small : two < 2 ^ 16 = rw two_is (last_fits 2 some) in
+            let back = ap (λ l. bit_xor (bit_or l (two * 2 ^ 16 % 2 ^ 32)) 0x3030_3030) (no_last short) ∙ two_flipped two small in
+            let end = ap (λ x. bit_xor x 0x3030) two_is ∙ flipped_last 2 some in
+            let top = xor_lt 16 two 0x3030 small (lit< tt) in
+            parts_joined (length s) (flipped s) few flipped_fits 1 2 _ _ (omega arith) some (omega arith) front
+            (ap (λ x. x * 2 ^ 32 % 2 ^ 64) back ∙ omega arith) ∙ sym flipped_filled)
       ]
 
 -- Zeros of a second word follow only a word of zeros.

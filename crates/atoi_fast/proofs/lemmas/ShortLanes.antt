@@ -1,6 +1,6 @@
 -- The digits of a word in half a vector.
 use Rattle.std.proofs.Common.{◌≡◌, ℕ, zero, suc, ◌+◌, ◌-◌, ◌*◌, ◌/◌, ◌%◌, ◌^◌, ◌<◌, ◌≤◌, List, [], ◌∷◌, ◌++◌, length, take, replicate, refl, subst, sym, ap, ap₂, ◌∙◌, arith, lit<, mod-lt, zero-lt-suc}
-use Rattle.std.specs.Int.Bits.{bit_and}
+use Rattle.std.specs.Int.Bits.{bit_and, bit_xor}
 use Rattle.std.proofs.lemmas.List.{take_all, take_at}
 use Rattle.std.proofs.lemmas.Nat.{and_block, and_mask, shr_split}
 use Rattle.std.proofs.lemmas.Simd.{Each1-replicate, Each1-weaker}
@@ -13,6 +13,7 @@ use Rattle.atoi_fast.specs.Vectors.{itself}
 use Rattle.atoi_fast.proofs.lemmas.DigitLanes.{each-append}
 use Rattle.atoi_fast.proofs.lemmas.JoinedDigits.{number-digits}
 use Rattle.atoi_fast.proofs.lemmas.LaneWindows.{lanes-of_bytes}
+use Rattle.atoi_fast.proofs.lemmas.WordRuns.{flipped_lowered}
 use lib.Lanes.{Each1, digits_l}
 
 -- Masked bytes are below 16.
@@ -49,3 +50,12 @@ half_value len word ones v few digits ones_is lanes =
       subst (Each1 (λ x. x < 16)) (sym in_lanes)
           (each-append (λ x. x < 16) bytes (replicate 8 0) below (Each1-replicate (λ x. x < 16) 8 0 (lit< tt))),
     )
+
+-- Eight digits xor zeros need no shift.
+pub flipped_half : (word : ℕ) (v : List ℕ) → word < 2 ^ 64 → run_len decimal_table (low_bytes 8 (bit_xor word (repeated 48 8))) ≡ 8
+    → v ≡ digits_l 256 16 word
+    → (value itself (take 8 v) ≡ low_value (low_bytes 8 (bit_xor word (repeated 48 8)))) × Each1 (λ x. x < 16) v
+flipped_half word v fits full lanes =
+    let lower = (bit_xor word (repeated 48 8) + 0xCFCF_CFCF_CFCF_CFD0) % 2 ^ 64 in
+    let same : word ≡ lower = flipped_lowered word fits full in
+    half_value 8 (bit_xor word (repeated 48 8)) word v (omega arith) (omega arith) (same ∙ omega arith) lanes

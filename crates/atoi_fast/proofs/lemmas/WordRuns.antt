@@ -1,17 +1,18 @@
 -- How many digits and zeros a word begins with, and their sum.
 use Rattle.std.proofs.Common.{◌≡◌, ℕ, zero, suc, ◌+◌, ◌-◌, ◌*◌, ◌/◌, ◌%◌, ◌^◌, ◌<◌, ◌≤◌, refl, sym, ◌∙◌, arith, lit<, mod-lt, nat_lt, drop, ap}
 use Rattle.std.proofs.Math.Nat.{div-div-eq-div-mul, suc-add, zero-add, mod-eq_of_lt, div-one, div-mul-le_self}
-use Rattle.std.proofs.lemmas.Nat.{pow_pos, and_mask, and_block, shr_split, and_shr}
-use Rattle.std.specs.Int.Bits.{bit_and, and_zero_l}
+use Rattle.std.proofs.lemmas.Nat.{pow_pos, and_mask, and_block, shr_split, and_shr, and_mod, or_shr, or_mod, xor_shr, xor_mod, and_assoc}
+use Rattle.std.specs.Int.Bits.{bit_and, bit_or, bit_xor, and_zero_l, and_zero_r, xor_assoc, xor_self, xor_zero_r, xor_lt, xor_disjoint}
 use Rattle.std.specs.Simd.Lanes.{digits_l}
 use Rattle.atoi_core.specs.Words.{low_bytes, low_value}
 use Rattle.std.specs.Int.Count.{count_trailing_zeros, trailing_of_zero}
+use Rattle.std.proofs.lemmas.Bool.{agree_below_at}
 use Rattle.std.proofs.lemmas.Bool.Decides.{nat_tests}
 use Rattle.std.specs.Char.{is_ascii_digit}
-use Rattle.atoi_core.specs.Digit.{decimal_table, is_zero}
+use Rattle.atoi_core.specs.Digit.{decimal_table, is_digit, is_zero}
 use Rattle.atoi_core.specs.Run.{run_len, zeros}
 use Rattle.atoi_core.proofs.lemmas.WordFields.{repeated, digits_cut, low_value_shifted, byte_more, round, spelled_by_bytes, one_field}
-use Rattle.atoi_core.proofs.lemmas.WordRuns.{cut, counted, zero_is_digit}
+use Rattle.atoi_core.proofs.lemmas.WordRuns.{Change, unchanged, constant, cut, both, counted, zero_is_digit}
 use Rattle.atoi_core.proofs.lemmas.LoweredWords.{without_48, lowered, marks_in, marks_counted, lowered_digits, masked, lowered_bytes, lowered_value}
 
 -- ---- Counting digits and zeros
@@ -33,6 +34,58 @@ marks_of_4 = marks_counted 4
 
 pub none_marked_of_4 : (word : ℕ) → marks_in 4 word ≡ 0 → run_len decimal_table (low_bytes 4 word) ≡ 4
 none_marked_of_4 = none_counted 4
+
+-- ---- Words xor zeros
+
+-- To flip the same bits twice changes nothing.
+pub flipped_back : (a b : ℕ) → bit_xor (bit_xor a b) b ≡ a
+flipped_back a b = xor_assoc a b b ∙ ap (bit_xor a) (xor_self b) ∙ xor_zero_r a
+
+abbrev flipped : Change
+flipped = both bit_xor xor_shr xor_mod unchanged (constant 48 (lit< tt))
+
+flipped_digit : (b : ℕ) → b < 256 → nat_lt (bit_xor b 48) 10 ≡ is_digit decimal_table b
+flipped_digit b fits = agree_below_at (λ n. nat_lt (bit_xor n 48) 10) (is_digit decimal_table) 256 b refl fits
+
+-- Adds 118 to each flipped byte. No digit carries.
+abbrev lifted : Change
+lifted =
+    record {
+      of_word = λ k word. flipped.of_word k word + repeated 118 k;
+      of_byte = λ b. (bit_xor b 48 + 118) % 256;
+      low = λ k word. omega (arith, flipped.low k word);
+      rest = λ k word e.
+          let small = flipped_digit (word % 256) (mod-lt word (lit< tt)) ∙ e in
+          grind (arith, nat_tests, flipped.low k word, flipped.rest k word e);
+    }
+
+abbrev flipped_marks_in : ℕ → ℕ
+flipped_marks_in word = bit_and (bit_or ((word + repeated 118 8) % 2 ^ 64) word) (repeated 128 8)
+
+pub flipped_marks : (word : ℕ) → count_trailing_zeros 64 (flipped_marks_in word) / 8 ≡ run_len decimal_table (low_bytes 8 (bit_xor word (repeated 48 8)))
+flipped_marks word =
+    let marks = both bit_and and_shr and_mod (both bit_or or_shr or_mod (cut lifted) flipped) (constant 128 (lit< tt)) in
+    (rw (flipped_back word (repeated 48 8)) at (counted marks (is_digit decimal_table) refl (λ b h e. e) 8 (bit_xor word (repeated 48 8))))
+
+pub none_flipped : (word : ℕ) → flipped_marks_in word ≡ 0 → run_len decimal_table (low_bytes 8 (bit_xor word (repeated 48 8))) ≡ 8
+none_flipped word none = omega (arith, rw (none, trailing_of_zero) at (flipped_marks word))
+
+-- Digits xor 48 are digits minus 48.
+pub flipped_lowered : (word : ℕ) → word < 2 ^ 64 → run_len decimal_table (low_bytes 8 (bit_xor word (repeated 48 8))) ≡ 8
+    → word ≡ (bit_xor word (repeated 48 8) + without_48 8) % 2 ^ 64
+unfolding low_bytes
+flipped_lowered word fits full =
+    let zeros = repeated 48 8 in
+    let digits = bit_xor word zeros in
+    let lower = (digits + without_48 8) % 2 ^ 64 in
+    let lower_is : lower ≡ bit_and (digits % 2 ^ 64) (repeated 15 8) = lowered_digits 8 8 digits (omega arith) in
+    let apart : bit_and lower zeros ≡ 0 =
+    ap (λ x. bit_and x zeros) lower_is ∙ and_assoc zeros (digits % 2 ^ 64) (repeated 15 8) ∙ and_zero_r (digits % 2 ^ 64) in
+    let sum = xor_disjoint lower zeros apart in
+    let digits_fit : digits < 2 ^ 64 = xor_lt 64 word zeros fits (lit< tt) in
+    let sum_fits : bit_xor lower zeros < 2 ^ 64 = xor_lt 64 lower zeros (mod-lt (digits + without_48 8) (lit< tt)) (lit< tt) in
+    let same : bit_xor lower zeros ≡ digits = omega arith in
+    sym (flipped_back word zeros) ∙ ap (λ x. bit_xor x zeros) (sym same) ∙ flipped_back lower zeros
 
 -- ---- Weighted sums of digits below 16
 

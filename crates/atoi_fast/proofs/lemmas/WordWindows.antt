@@ -1,9 +1,9 @@
 -- Windows that are read by words.
-use Rattle.std.proofs.Common.{◌≡◌, ℕ, zero, suc, ◌+◌, ◌-◌, ◌*◌, ◌%◌, ◌^◌, ◌<◌, ◌≤◌, List, length, refl, sym, ◌∙◌, arith, Bool, true, false, ◌==◌, nat_lt, drop, ap, ap₂, ◌++◌, take, replicate, get_or, ltb-false}
+use Rattle.std.proofs.Common.{◌≡◌, ℕ, zero, suc, ◌+◌, ◌-◌, ◌*◌, ◌^◌, ◌<◌, ◌≤◌, List, length, refl, sym, ◌∙◌, arith, drop, ap, ◌++◌, take, replicate, get_or}
 use Rattle.std.proofs.Math.Nat.{suc-add, zero-add}
 use Rattle.std.specs.Simd.Lanes.{digits_l, number_l}
 use Rattle.atoi_core.specs.Words.{low_bytes, low_value, word_of}
-use Rattle.std.proofs.lemmas.Bool.{agree_below_at, ne_eqb, eqb-true}
+use Rattle.std.proofs.lemmas.Bool.{ne_eqb}
 use Rattle.atoi_core.specs.Digit.{decimal_table, is_digit}
 use Rattle.atoi_core.specs.Run.{run_len}
 use Rattle.std.proofs.lemmas.List.{take_all, length-drop, length-append, length-replicate}
@@ -11,7 +11,6 @@ use Rattle.std.proofs.lemmas.List.Sums.{prefix_len-le-length}
 use Rattle.atoi_core.specs.Reading.{window_of}
 use Rattle.atoi_core.specs.declared.engine.window.Window.{Window}
 use Rattle.atoi_core.proofs.lemmas.Runs.{prefix_len-drop, prefix_len-replicate_append, value-take-add}
-use Rattle.atoi_core.proofs.lemmas.LoadedWords.{word_start}
 use Rattle.atoi_core.proofs.lemmas.LoadedWords.{fits_after, loaded_run, loaded_part}
 use Rattle.atoi_core.proofs.lemmas.WordWindows.{window_ended, first_run}
 
@@ -62,26 +61,6 @@ module _ (s : List ℕ) (enough : 8 < length s) (few : length s < 16) (fits : (i
 
 -- ---- Short slices in the highest bytes of a word
 
--- What a shift leaves of eight zeros, compared for each length.
-pub zeros_shifted : (len : ℕ) → len ≤ 8 → 0x3030_3030_3030_3030 * 2 ^ (64 - 8 * len) % 2 ^ 64 ≤ 0x3030_3030_3030_3030
-zeros_shifted len few =
-    ltb-false _ _ (agree_below_at (λ n. nat_lt 0x3030_3030_3030_3030 (0x3030_3030_3030_3030 * 2 ^ (64 - 8 * n) % 2 ^ 64))
-    (λ _. false) 9 len refl (omega arith))
-
-pub zeros_left_out : (len : ℕ) → len ≤ 8
-    → 0x3030_3030_3030_3030 - 0x3030_3030_3030_3030 * 2 ^ (64 - 8 * len) % 2 ^ 64 ≡ word_of (replicate (8 - len) 48)
-unfolding word_of
-zeros_left_out len few =
-    let same : ℕ → Bool =
-    λ n. 0x3030_3030_3030_3030 - 0x3030_3030_3030_3030 * 2 ^ (64 - 8 * n) % 2 ^ 64 == word_of (replicate (8 - n) 48) in
-    eqb-true _ _ (agree_below_at same (λ _. true) 9 len refl (omega arith))
-
--- The word of m zeros fills m lowest bytes of 0.
-pub word_filled : (m : ℕ) (s : List ℕ) → word_of (replicate m 0 ++ s) + word_of (replicate m 48) ≡ word_of (replicate m 48 ++ s)
-unfolding word_of
-word_filled zero s = omega arith
-word_filled (suc m) s = omega (arith, word_filled m s)
-
 -- The elements are still bytes after zeros are put before them.
 filled_fit : (m : ℕ) (s : List ℕ) → ((i : ℕ) → get_or s i 0 < 256) → (i : ℕ) → get_or (replicate m 48 ++ s) i 0 < 256
 filled_fit zero s fits i = fits i
@@ -91,28 +70,16 @@ filled_fit (suc m) s fits (suc i) = filled_fit m s fits i
 pub filled_length : (m x : ℕ) (s : List ℕ) → length (replicate m x ++ s) ≡ m + length s
 filled_length m x s = length-append (replicate m x) s ∙ ap (λ n. n + length s) (length-replicate m x)
 
--- The filled word fits in 64 bits.
-pub filled_fits : (s : List ℕ) → length s ≤ 8 → ((i : ℕ) → get_or s i 0 < 256)
-    → word_of (replicate (8 - length s) 0 ++ s) + word_of (replicate (8 - length s) 48) < 2 ^ 64
-filled_fits s few fits =
-    let m = 8 - length s in
-    let all = ap word_of (take_all 8 (replicate m 48 ++ s) (omega (arith, filled_length m 48 s))) in
-    omega (arith, word_filled m s, word_start 8 (replicate m 48 ++ s) (filled_fit m s fits), all)
-
 -- The filled word begins with its zeros, then the run.
-pub filled_digits : (s : List ℕ) → length s ≤ 8 → ((i : ℕ) → get_or s i 0 < 256) → (word filling digits : ℕ)
-    → word ≡ word_of (replicate (8 - length s) 0 ++ s) → filling ≡ word_of (replicate (8 - length s) 48)
-    → digits ≡ run_len decimal_table (low_bytes 8 (word + filling))
+pub filled_digits : (s : List ℕ) → length s ≤ 8 → ((i : ℕ) → get_or s i 0 < 256) → (filled digits : ℕ)
+    → filled ≡ word_of (replicate (8 - length s) 48 ++ s) → digits ≡ run_len decimal_table (low_bytes 8 filled)
     → digits ≡ 8 - length s + run_len decimal_table s
-filled_digits s few fits word filling digits word_is filling_is digits_is =
+filled_digits s few fits filled digits filled_is digits_is =
     let m = 8 - length s in
-    let filled = replicate m 48 ++ s in
-    let all : take 8 filled ≡ filled = take_all 8 filled (omega (arith, filled_length m 48 s)) in
-    digits_is
-    ∙ loaded_run 8 filled (filled_fit m s fits) (word + filling)
-    (ap₂ (λ x y. x + y) word_is filling_is ∙ word_filled m s ∙ ap word_of (sym all))
-    ∙ ap (run_len decimal_table) all
-    ∙ prefix_len-replicate_append (is_digit decimal_table) 48 refl m s
+    let bytes = replicate m 48 ++ s in
+    let all : take 8 bytes ≡ bytes = take_all 8 bytes (omega (arith, filled_length m 48 s)) in
+    digits_is ∙ loaded_run 8 bytes (filled_fit m s fits) filled (filled_is ∙ ap word_of (sym all))
+    ∙ ap (run_len decimal_table) all ∙ prefix_len-replicate_append (is_digit decimal_table) 48 refl m s
 
 -- Zeros before the other bytes add nothing to the weighted sum.
 low_value_filled : (z k : ℕ) (s : List ℕ)
@@ -123,20 +90,17 @@ low_value_filled (suc z) k s =
     rw (suc-add z k) (grind (arith, low_value_filled z k s))
 
 -- The window of a short slice: the digits of the filled word, less its zeros.
-pub filled_window : (s : List ℕ) → length s ≤ 8 → ((i : ℕ) → get_or s i 0 < 256) → (word filling digits found number : ℕ)
-    → word ≡ word_of (replicate (8 - length s) 0 ++ s) → filling ≡ word_of (replicate (8 - length s) 48)
-    → digits ≡ run_len decimal_table (low_bytes 8 (word + filling))
-    → found ≡ digits - (8 - length s)
-    → number ≡ low_value (low_bytes digits (word + filling))
+pub filled_window : (s : List ℕ) → length s ≤ 8 → ((i : ℕ) → get_or s i 0 < 256) → (filled digits found number : ℕ)
+    → filled ≡ word_of (replicate (8 - length s) 48 ++ s) → digits ≡ run_len decimal_table (low_bytes 8 filled)
+    → found ≡ digits - (8 - length s) → number ≡ low_value (low_bytes digits filled)
     → ◌≡◌ {A = Window} (record { len = found; zeroes = 0; number = number }) (window_of decimal_table 16 s)
 unfolding low_bytes
-filled_window s few fits word filling digits found number word_is filling_is digits_is found_is number_is =
+filled_window s few fits filled digits found number filled_is digits_is found_is number_is =
     let m = 8 - length s in
     let within = prefix_len-le-length (is_digit decimal_table) s in
-    let all = filled_digits s few fits word filling digits word_is filling_is digits_is in
+    let all = filled_digits s few fits filled digits filled_is digits_is in
     let total : digits ≡ m + found = omega arith in
-    let filled : word + filling ≡ word_of (replicate m 48 ++ s) = omega (arith, word_filled m s) in
     let padded : word_of s ≡ word_of (take 8 s) = ap word_of (sym (take_all 8 s few)) in
     window_ended s found number (omega arith) (omega arith)
-    ((rw (total, filled) at number_is) ∙ low_value_filled m found s
+    ((rw (total, filled_is) at number_is) ∙ low_value_filled m found s
     ∙ loaded_part 8 s fits (word_of s) padded found (omega (arith, first_run s fits (word_of s) padded)))

@@ -9,8 +9,8 @@ ghost use Rattle.atoi_core.specs.Reading.{window_of};
 ghost use Rattle.atoi_core.specs.Lanes.{padded_start};
 ghost use Rattle.atoi_fast.specs.Vectors.{itself, padded, paired};
 
-use crate::digits::{ZEROS, digits_of, zero_padding};
-use crate::loads::{load_full, load_last, load_right_aligned};
+use crate::digits::{ZEROS, digits_of, digits_of_flipped};
+use crate::loads::{load_flipped, load_full, load_last};
 use crate::one_byte::window_of_one;
 use atoi_core::Window;
 use atoi_core::words::load_8;
@@ -184,7 +184,7 @@ pub(crate) fn shuffle(v: u8x16, p: usize) -> u8x16
 
 /// Returns the window of fewer than 8 bytes.
 #[inline(always)]
-#[tactic(auto, using(crate::proofs::lemmas::WordWindows::filled_fits, crate::proofs::lemmas::WordWindows::filled_digits))]
+#[tactic(auto, using(crate::proofs::lemmas::WordWindows::filled_digits, crate::proofs::lemmas::WordRuns::flipped_back))]
 pub(crate) fn short_window(s: &[u8]) -> Window
     requires few { length s.now < 8 }
     ensures { result ≡ window_of decimal_table 16 s.now }
@@ -192,14 +192,14 @@ pub(crate) fn short_window(s: &[u8]) -> Window
     if s.len() <= 1 {
         return window_of_one(s);
     }
-    let filled = load_right_aligned(s) + zero_padding(s.len());
-    let digits = digits_of(filled);
+    let flipped = load_flipped(s);
+    let digits = digits_of_flipped(flipped);
     if digits == 8 {
         // The number need not wait for its length.
-        return Window::not_full(s.len() as u32, value_in_half(filled, 8));
+        return Window::not_full(s.len() as u32, number_in_half(half(flipped)));
     }
     let len = digits - (8 - s.len() as u32);
-    Window::not_full(len, value_in_half(filled, digits))
+    Window::not_full(len, value_in_half(flipped ^ ZEROS, digits))
 }
 
 // `value_of` of the words, by half a vector: in a loop, fewer constants need registers.

@@ -1,19 +1,38 @@
 /* Made by .ci/erase from crates/atoi_fast/src/loads.rt. Do not edit. */ //! Words that are loaded from a slice. A missing byte is 0.
 // ghost use Rattle.std.specs.Prelude.{◌≡◌, ◌-◌, ◌<◌, ◌≤◌, ◌++◌, length, take, drop, replicate};
+// ghost use Rattle.std.specs.Int.Bits.{bit_xor};
 // ghost use Rattle.atoi_core.specs.Words.{word_of};
 
-/// Returns the word whose highest bytes are the bytes of `s`, without a branch on the length.
+use crate::proved::atoi_fast::digits::FOUR_ZEROS;
+
+// What is read of a slice of fewer than four bytes, and a factor for each length, in one table, to which
+// one register points.
+static SHORT: [[u8; 8]; 9] = [
+    [0, 48, 48, 48, 48, 48, 0, 0],
+    [0, 0, 0, 0, 0, 0, 0, 1],
+    [0, 0, 0, 0, 0, 0, 1, 0],
+    [0, 0, 0, 0, 0, 1, 0, 0],
+    [0, 0, 0, 0, 1, 0, 0, 0],
+    [0, 0, 0, 1, 0, 0, 0, 0],
+    [0, 0, 1, 0, 0, 0, 0, 0],
+    [0, 1, 0, 0, 0, 0, 0, 0],
+    [1, 0, 0, 0, 0, 0, 0, 0],
+];
+
+/// Returns the word of `s` filled with zeros at the front, xor `ZEROS`, without a branch on the length.
 #[inline(always)]
-// #[tactic(auto, using(crate::proofs::lemmas::LoadedWords::high_joined))]
-pub(crate) fn load_right_aligned(s: &[u8]) -> u64
-    // requires some { 0 < length s.now }
+// #[tactic(auto, using(crate::proofs::lemmas::LoadedWords::flipped_joined))]
+pub(crate) fn load_flipped(s: &[u8]) -> u64
+    // requires some { 2 ≤ length s.now }
     // requires few { length s.now ≤ 8 }
-    // ensures { result ≡ word_of (replicate (8 - length s.now) 0 ++ s.now) }
+    // ensures { result ≡ bit_xor (word_of (replicate (8 - length s.now) 48 ++ s.now)) 0x3030_3030_3030_3030 }
 {
-    let (first, last) = head_and_tail(s);
-    let front = u64::from(u32::from(s[0]) | first);
-    let back = u64::from(last | (tail_of_2(s) << 16));
-    (front << (64 - 8 * s.len())) | (back << 32)
+    let fours = if s.len() < 4 { &SHORT[0] } else { s };
+    let front = (u32::from(s[0]) | load_four_from(fours, 0)) ^ FOUR_ZEROS;
+    let back = (load_last_four(fours) | (load_last_two(s) << 16)) ^ FOUR_ZEROS;
+    // A product takes less time than a shift on many processors.
+    let shifted = u64::from(front).wrapping_mul(u64::from_le_bytes(SHORT[s.len()]));
+    shifted | (u64::from(back) << 32)
 }
 
 /// Returns the word of the first 8 bytes from `at` on. If fewer follow, shifts the last 8 bytes of `s`
@@ -65,6 +84,17 @@ pub(crate) fn load_four_from(s: &[u8], at: usize) -> u32
     }
 }
 
+// #[tactic(auto, using(crate::proofs::lemmas::LoadedWords::word_from_two))]
+#[inline] fn load_last_two(s: &[u8]) -> u32
+    // requires { 2 ≤ length s.now }
+    // ensures { result ≡ word_of (drop (length s.now - 2) s.now) }
+{
+    match s.last_chunk::<2>() {
+        Some(last) => u32::from(u16::from_le_bytes(*last)),
+        None => 0,
+    }
+}
+
 /// Returns the word of the first 8 bytes.
 // #[tactic(auto, using(atoi_core::proofs::lemmas::LoadedWords::word_of_first))]
 #[inline] pub(crate) fn load_full(s: &[u8]) -> u64
@@ -86,32 +116,4 @@ pub(crate) fn load_four_from(s: &[u8], at: usize) -> u32
         Some(last) => u64::from_le_bytes(*last),
         None => 0,
     }
-}
-
-// The words of the first and of the last four bytes, or 0 if there are fewer. Compilers turn two equal
-// tests into a branch.
-// #[tactic(auto, using(atoi_core::proofs::lemmas::LoadedWords::word_from_four))]
-#[inline] fn head_and_tail(s: &[u8]) -> (u32, u32)
-    // ensures first { 4 ≤ length s.now → result.0 ≡ word_of (take 4 s.now) }
-    // ensures last { 4 ≤ length s.now → result.1 ≡ word_of (drop (length s.now - 4) s.now) }
-    // ensures few { length s.now < 4 → result ≡ (0, 0) }
-{
-    let (first, last) = match (s.first_chunk::<4>(), s.last_chunk::<4>()) {
-        (Some(first), Some(last)) => (first, last),
-        _ => (&[0; 4], &[0; 4]),
-    };
-    (u32::from_le_bytes(*first), u32::from_le_bytes(*last))
-}
-
-// With the first two bytes instead, LLVM would branch on x86-64-v3.
-// #[tactic(auto, using(crate::proofs::lemmas::LoadedWords::word_from_two))]
-#[inline] fn tail_of_2(s: &[u8]) -> u32
-    // ensures enough { 2 ≤ length s.now → result ≡ word_of (drop (length s.now - 2) s.now) }
-    // ensures few { length s.now < 2 → result ≡ 0 }
-{
-    let bytes = match s.last_chunk::<2>() {
-        Some(bytes) => bytes,
-        None => &[0; 2],
-    };
-    u32::from(u16::from_le_bytes(*bytes))
 }

@@ -11,7 +11,7 @@ pub returns-then-len-ne8 : goal.returns-then-len-ne8
 returns-then-len-ne8 c =
     rw c.not_full.ensures
     (window_short c.args.s.now (λ i. (c.type_inv.s i).fits) _ c.load_full-first.ensures _ _
-    c.digits_of-len.ensures.len (omega arith) c.number_in_word.ensures.sum)
+    c.digits_of-len.ensures.len (omega arith) c.value_below_8.ensures.sum)
 
 pub value_of-requires-else-more-eq8-clause-some : goal.value_of-requires-else-more-eq8-clause-some
 value_of-requires-else-more-eq8-clause-some c =

@@ -9,8 +9,8 @@
 // ghost use Rattle.atoi_core.specs.Lanes.{padded_start};
 // ghost use Rattle.atoi_fast.specs.Vectors.{itself, padded, paired};
 
-use crate::proved::atoi_fast::digits::{ZEROS, digits_of, zero_padding};
-use crate::proved::atoi_fast::loads::{load_full, load_last, load_right_aligned};
+use crate::proved::atoi_fast::digits::{ZEROS, digits_of, digits_of_flipped};
+use crate::proved::atoi_fast::loads::{load_flipped, load_full, load_last};
 use crate::proved::atoi_fast::one_byte::window_of_one;
 use crate::proved::atoi_core::Window;
 use crate::proved::atoi_core::words::load_8;
@@ -184,7 +184,7 @@ pub(crate) fn sum_last_lanes(v: u8x16, len: usize) -> u64
 
 /// Returns the window of fewer than 8 bytes.
 #[inline(always)]
-// #[tactic(auto, using(crate::proofs::lemmas::WordWindows::filled_fits, crate::proofs::lemmas::WordWindows::filled_digits))]
+// #[tactic(auto, using(crate::proofs::lemmas::WordWindows::filled_digits, crate::proofs::lemmas::WordRuns::flipped_back))]
 pub(crate) fn short_window(s: &[u8]) -> Window
     // requires few { length s.now < 8 }
     // ensures { result ≡ window_of decimal_table 16 s.now }
@@ -192,14 +192,14 @@ pub(crate) fn short_window(s: &[u8]) -> Window
     if s.len() <= 1 {
         return window_of_one(s);
     }
-    let filled = load_right_aligned(s) + zero_padding(s.len());
-    let digits = digits_of(filled);
+    let flipped = load_flipped(s);
+    let digits = digits_of_flipped(flipped);
     if digits == 8 {
         // The number need not wait for its length.
-        return Window::not_full(s.len() as u32, value_in_half(filled, 8));
+        return Window::not_full(s.len() as u32, number_in_half(half(flipped)));
     }
     let len = digits - (8 - s.len() as u32);
-    Window::not_full(len, value_in_half(filled, digits))
+    Window::not_full(len, value_in_half(flipped ^ ZEROS, digits))
 }
 
 // `value_of` of the words, by half a vector: in a loop, fewer constants need registers.

@@ -1,22 +1,33 @@
 -- The zeros before the slice count as digits.
-use Rattle.std.proofs.Common.{◌≡◌, ◌+◌, ◌∙◌, refl, sym, arith}
+use Rattle.std.proofs.Common.{◌≡◌, ◌∙◌, ap, refl, sym, arith}
+use Rattle.std.specs.Int.Bits.{bit_xor}
 use Rattle.atoi_core.specs.Digit.{decimal_table}
 use Rattle.atoi_core.specs.Run.{run_len}
 use Rattle.atoi_core.specs.Words.{low_bytes}
+use Rattle.atoi_core.proofs.lemmas.WordFields.{repeated}
+use Rattle.atoi_fast.proofs.lemmas.ShortLanes.{flipped_half}
+use Rattle.atoi_fast.proofs.lemmas.WordRuns.{flipped_back}
 use Rattle.atoi_fast.proofs.lemmas.WordWindows.{filled_window}
 use Rattle.atoi_fast.proofs.vectors.bytes.short_window.Goals as goal
 
+pub number_in_half-requires : goal.number_in_half-requires
+number_in_half-requires c =
+    let full : 8 ≡ run_len decimal_table (low_bytes 8 (bit_xor c.load_flipped-flipped.result (repeated 48 8))) =
+    sym c.if-digits-eq8.true ∙ c.digits_of_flipped-digits.ensures.len in
+    (flipped_half _ _ c.load_flipped-flipped.type_inv (sym full) c.half.ensures).1
+
 pub returns-then-digits-eq8 : goal.returns-then-digits-eq8
 returns-then-digits-eq8 c =
-    let full : 8 ≡ run_len decimal_table (low_bytes 8 (c.load_right_aligned.result + c.zero_padding.result)) =
-    sym c.if-digits-eq8.true ∙ c.digits_of-digits.ensures.len in
+    let full : 8 ≡ run_len decimal_table (low_bytes 8 (bit_xor c.load_flipped-flipped.result (repeated 48 8))) =
+    sym c.if-digits-eq8.true ∙ c.digits_of_flipped-digits.ensures.len in
     c.not_full.ensures
-    ∙ filled_window c.args.s.now (omega arith) (λ i. (c.type_inv.s i).fits) _ _ 8 _ _
-    c.load_right_aligned.ensures c.zero_padding.ensures full (omega arith) c.value_in_half.ensures
+    ∙ filled_window c.args.s.now (omega arith) (λ i. (c.type_inv.s i).fits) _ 8 _ _
+    (ap (λ x. bit_xor x (repeated 48 8)) c.load_flipped-flipped.ensures ∙ flipped_back _ _) full (omega arith)
+    (c.number_in_half.ensures ∙ (flipped_half _ _ c.load_flipped-flipped.type_inv (sym full) c.half.ensures).0)
 
 pub returns : goal.returns
 returns c =
     c.not_full-2.ensures
-    ∙ filled_window c.args.s.now (omega arith) (λ i. (c.type_inv.s i).fits) _ _ _ _ _
-    c.load_right_aligned.ensures c.zero_padding.ensures c.digits_of-digits.ensures.len refl
-    c.value_in_half-2.ensures
+    ∙ filled_window c.args.s.now (omega arith) (λ i. (c.type_inv.s i).fits) _ _ _ _
+    (ap (λ x. bit_xor x (repeated 48 8)) c.load_flipped-flipped.ensures ∙ flipped_back _ _)
+    c.digits_of_flipped-digits.ensures.len refl c.value_in_half.ensures

@@ -1,0 +1,27 @@
+-- The parts join to the filled word.
+use Rattle.std.proofs.Common.{◌≡◌, arith, length, ◌-◌, ◌*◌, ◌^◌, ◌%◌}
+use Rattle.atoi_core.specs.Words.{word_of}
+use Rattle.atoi_fast.proofs.lemmas.LoadedWords.{flipped_joined, shifted_by}
+use Rattle.atoi_fast.proofs.loads.load_flipped.Goals.{then-s-lt4, else-s-lt4}
+use Rattle.atoi_fast.proofs.loads.load_flipped.Goals as goal
+
+pub returns : goal.returns
+unfolding word_of
+returns c =
+    let s = c.args.s.now in
+    let first = c.load_four_from.result in
+    let last = c.load_last_four.result in
+    let first_is = c.load_four_from.ensures in
+    let last_is = c.load_last_four.ensures in
+    let factor : c.from_le_bytes.result ≡ 2 ^ (64 - 8 * length s) % 2 ^ 64 = grind (arith, c.from_le_bytes.ensures) in
+    let joined =
+    flipped_joined s c.requires.few (λ i. (c.type_inv.s i).fits) first last c.load_last_two.result c.requires.some in
+    rw (c.from-2.ensures, c.from.ensures, c.from-3.ensures, shifted_by _ _ _ factor)
+    (elim c.if-s-lt4.branch [
+      | then-s-lt4 w ↦
+          joined (λ four. absurd (omega (arith, w.if-s-lt4.true))) (λ few. rw w.fours-is at first_is)
+          (λ four. absurd (omega (arith, w.if-s-lt4.true))) (λ few. rw w.fours-is at last_is) c.load_last_two.ensures
+      | else-s-lt4 w ↦
+          joined (λ four. rw w.fours-is at first_is) (λ few. absurd (omega (arith, w.if-s-lt4.false)))
+          (λ four. rw w.fours-is at last_is) (λ few. absurd (omega (arith, w.if-s-lt4.false))) c.load_last_two.ensures
+    ])
