@@ -27,7 +27,8 @@ pub fn package(cache: &Cache, against: &Against) -> Result<Other, String> {
         Against::Commit(commit) => pack_commit(cache, commit, &archive)?,
         Against::Words => pack_checkout(cache, &archive)?,
     };
-    run(Command::new("tar").arg("-xf").arg(&archive).arg("-C").arg(&room))?;
+    // The files are new, so that cargo builds them anew.
+    run(Command::new("tar").arg("-xmf").arg(&archive).arg("-C").arg(&room))?;
     if *against == Against::Words {
         edit(&room.join(ENGINES), with_words)?;
         erase(cache, &room)?;
