@@ -1,6 +1,6 @@
 //! Numbers of which it is known how many digits they have, read as words of eight bytes, the first byte
 //! lowest.
-ghost use Rattle.std.specs.Prelude.{◌≡◌, ℕ, ◌+◌, ◌*◌, ◌/◌, ◌%◌, ◌^◌, ◌<◌, ◌≤◌, length, take, drop, IfSome};
+ghost use Rattle.std.specs.Prelude.{◌≡◌, ℕ, ◌+◌, ◌*◌, ◌/◌, ◌%◌, ◌^◌, ◌<◌, ◌≤◌, ◌==◌, true, length, take, drop, IfSome};
 ghost use Rattle.std.specs.Int.Bits.{bit_and};
 ghost use Rattle.atoi_core.specs.Digit.{decimal_table};
 ghost use Rattle.atoi_core.specs.Run.{run_len, value};
@@ -50,6 +50,19 @@ pub(crate) fn number_before(s: &[u8], width: usize, ends: u64, count: usize) -> 
         return None;
     }
     Some(sum_of_shifted(digits, shift))
+}
+
+/// Whether `s` has two bytes or more, and begins with the `count` bytes of the word `bytes`.
+#[inline(always)]
+pub(crate) fn begins_with(s: &[u8], bytes: u64, count: usize) -> bool
+    requires few { count ≤ 2 }
+    ensures two { result ≡ true → 2 ≤ length s.now }
+    ensures bytes { 2 ≤ length s.now → result ≡ (word_of (take count s.now) == bytes) }
+{
+    match s.first_chunk::<2>() {
+        Some(two) => u64::from(u16::from_le_bytes(*two)) & ((1 << (8 * count)) - 1) == bytes,
+        None => false,
+    }
 }
 
 // The word of the first eight bytes.

@@ -4,7 +4,7 @@ use Rattle.std.specs.List.{position_or_len}
 use Rattle.std.specs.Result.{result_ok}
 use Rattle.std.specs.Char.{digit_value}
 use Rattle.std.specs.Str.Parse.{AllDigits}
-use Rattle.std.proofs.lemmas.List.{take_all, drop_all, get_or-take, length-take-le, take-take}
+use Rattle.std.proofs.lemmas.List.{take_all, drop_all, get_or-take, length-take-le, take-take, drop-drop}
 use Rattle.std.proofs.lemmas.List.Sums.{prefix_len-le-length, fails_before_first, passes_at_first, position_or_len_is}
 use Rattle.std.proofs.lemmas.Bool.{eq-eqb, ne_eqb, false≢true}
 use Rattle.std.proofs.lemmas.Bool.Decides.{leb_tells, eqb_tells}
@@ -13,6 +13,8 @@ use Rattle.atoi_core.specs.Answer.{parse_answer, parse_prefix_answer}
 use Rattle.atoi_core.specs.Sign.{sign_of}
 use Rattle.atoi_core.specs.Text.{SignMark, no_sign, plus, minus, sign_bytes, TextWrites, BeginsWithDigit}
 use Rattle.atoi_core.specs.Laws.{AcceptedTexts, PrefixBegins, PrefixIsWhole, looked_for}
+use Rattle.atoi_core.specs.Words.{word_of}
+use Rattle.atoi_core.proofs.lemmas.LoadedWords.{fits_after}
 use Rattle.atoi_column.specs.Fields.{is_separator}
 use Rattle.atoi_column.specs.FieldItems.{cut_of}
 use Rattle.atoi_column.specs.FirstField.{after_separator, after_field, IsAcceptedField}
@@ -195,17 +197,21 @@ text_within {int} separator rest count {number} law whole separates fits answer 
           absurd (false≢true (sym fails ∙ (ap ends same ∙ passes)))
     ]
 
--- A text at the start that a field's end follows is the field.
-pub accepted_text : {int : IntType} (trims : Bool) (separator : ℕ) (rest : List ℕ) (count : ℕ) {number : ℤ} {following : List ℕ}
-    → FieldsArePrefixes int → PrefixIsWhole int
-    → AcceptedTexts int → is_separator separator ≡ true → count ≤ length rest → TextWrites int true (take count rest) number
-    → Some following ≡ after_field trims separator (drop count rest) → IsAcceptedField int trims separator rest number following
-accepted_text trims separator rest count law whole texts separates fits written end =
+-- A text before what ends a field is the field.
+pub accepted_text : {int : IntType} (trims : Bool) (separator : ℕ) (rest : List ℕ) (count tail : ℕ) {ends : ℕ} {number : ℤ}
+    → FieldsArePrefixes int → PrefixIsWhole int → AcceptedTexts int → is_separator separator ≡ true
+    → ((bytes : List ℕ) → ((i : ℕ) → get_or bytes i 0 < 256) → tail ≤ length bytes → word_of (take tail bytes) ≡ ends
+    → after_field trims separator bytes ≡ Some (drop tail bytes))
+    → ((i : ℕ) → get_or rest i 0 < 256) → count + tail ≤ length rest → TextWrites int true (take count rest) number
+    → word_of (take tail (drop count rest)) ≡ ends → IsAcceptedField int trims separator rest number (drop (count + tail) rest)
+accepted_text trims separator rest count tail law whole texts separates end fits within written is =
+    let room : tail ≤ length (drop count rest) = omega (arith, length-drop count rest) in
+    let following = end (drop count rest) (fits_after count rest fits) room is in
     accepted trims (record {
-      within = text_within separator rest count law whole separates fits (texts.number (take count rest) _ written);
+      within = text_within separator rest count law whole separates (omega arith) (texts.number (take count rest) _ written);
       written = written;
       texts = texts;
-    }) _ refl (sym end)
+    }) _ refl (following ∙ ap (λ bytes. Some bytes) (drop-drop tail count rest))
 
 -- A number of one byte before a separator is the number at the start.
 pub short_prefix : {int : IntType} {separator : ℕ} (rest : List ℕ) {following : List ℕ} {number : ℤ}

@@ -1,5 +1,5 @@
 -- Digits after a sign are a text, and the bytes after them end its field.
-use Rattle.std.proofs.Common.{◌≡◌, ◌≢◌, ℕ, zero, suc, ◌+◌, ◌*◌, ◌<◌, ◌≤◌, ◌==◌, Bool, true, Some, List, [], ◌∷◌, length, take, drop, get_or, ℤ, refl, sym, ap, ◌∙◌, arith}
+use Rattle.std.proofs.Common.{◌≡◌, ◌≢◌, ℕ, zero, suc, ◌+◌, ◌-◌, ◌*◌, ◌%◌, ◌^◌, ◌<◌, ◌≤◌, ◌==◌, Bool, true, Some, List, [], ◌∷◌, length, take, drop, get_or, ℤ, refl, sym, ap, ◌∙◌, arith}
 use Rattle.std.proofs.Math.Nat.{zero-add}
 use Rattle.std.proofs.lemmas.Bool.{eq-eqb, ne_eqb}
 use Rattle.std.specs.Str.Parse.{IsNumeral, digits_value}
@@ -14,6 +14,12 @@ use Rattle.atoi_core.proofs.lemmas.Texts.{own, to_std}
 use Rattle.std.proofs.lemmas.List.{length-take-le}
 use Rattle.std.proofs.lemmas.List.Sums.{prefix_len-le-length}
 use Rattle.atoi_column.specs.FirstField.{after_field}
+use Rattle.std.specs.Int.{from_le_bytes, w16}
+use Rattle.std.specs.Int.Bits.{bit_and}
+use Rattle.std.proofs.Math.Pow.{mod-mod-pow}
+use Rattle.std.proofs.lemmas.Nat.{and_mask, one_shl}
+use Rattle.std.proofs.lemmas.List.{length-take, get_or_past}
+use Rattle.atoi_core.proofs.lemmas.LoadedWords.{word_from_eight, word_start}
 
 take_after : (byte width : ℕ) (bytes : List ℕ) → take 1 bytes ≡ byte ∷ [] → take (1 + width) bytes ≡ byte ∷ take width (drop 1 bytes)
 take_after byte width [] first = absurd (cc first)
@@ -69,3 +75,19 @@ ended_line separator (byte ∷ next ∷ bytes) apart fits some is =
     let return : byte ≡ 13 = omega (arith, fits 0) in
     let same : next ≡ separator = omega arith in
     rw (ne_eqb byte separator (omega arith), eq-eqb byte 13 return, eq-eqb next separator same) refl
+
+word_from_two : (s : List ℕ) → length s ≤ 2 → from_le_bytes w16 s ≡ word_of s
+word_from_two s few = omega (arith, word_from_eight s (omega arith), get_or_past {X = ℕ})
+
+-- The first of two bytes.
+pub first_of_two : (s bytes : List ℕ) → ((i : ℕ) → get_or s i 0 < 256) → (count : ℕ) → count ≤ 2 → bytes ≡ take 2 s → (two : ℕ)
+    → two ≡ from_le_bytes w16 bytes → word_of (take count s) ≡ bit_and two (1 * 2 ^ (8 * count) % 2 ^ 64 - 1)
+first_of_two s bytes fits count few loaded two is =
+    let eight : 8 * count ≡ count * 8 = omega arith in
+    let bits : 16 ≡ (2 - count) * 8 + count * 8 = omega arith in
+    let whole : two ≡ word_of s % 2 ^ 16 =
+    is ∙ ap (from_le_bytes w16) loaded ∙ word_from_two (take 2 s) (omega (arith, length-take 2 s)) ∙ sym (word_start 2 s fits) in
+    sym (word_start count s fits) ∙ sym (mod-mod-pow (word_of s) ((2 - count) * 8) (count * 8))
+    ∙ ap (λ b. word_of s % 2 ^ b % 2 ^ (count * 8)) (sym bits) ∙ ap (λ x. x % 2 ^ (count * 8)) (sym whole)
+    ∙ sym (and_mask two (count * 8)) ∙ ap (λ x. bit_and two (x - 1)) (sym (one_shl (count * 8) 64 (omega arith)))
+    ∙ ap (λ b. bit_and two (1 * 2 ^ b % 2 ^ 64 - 1)) (sym eight)

@@ -5,11 +5,12 @@ ghost use Rattle.atoi_column.specs.FieldItems.{field_items_left, after_first_fie
 ghost use Rattle.atoi_column.specs.FirstField.{IsAcceptedField};
 ghost use Rattle.atoi_column.specs.Reads.{BeginsWithNoNumber, FillsMore, after_fields};
 
-use crate::fields::{Fields, accepted_field, after_field, read_field};
+use crate::fields::{Fields, accepted_field, read_field};
 use crate::guesses::{
     Guess, NO_GUESS, end_of, guess_after, is_short, number_of_digits, number_with_end,
 };
 use crate::laws::fields_are_prefixes;
+use crate::words::begins_with;
 use atoi_core::laws::{accepted_texts, prefix_is_whole};
 use atoi_simd::Parse;
 
@@ -119,12 +120,17 @@ impl<'a, T: Parse> Fields<'a, T> {
             result }
     {
         let room = values.len() - from;
+        let plain = Guess {
+            has_return: false,
+            ..guess
+        };
         // The compiler makes a loop for each case.
         match guess.width {
             0..=1 => 0,
             _ if is_short(guess) => self.read_part::<true>(values, from, room, guess),
-            2..=8 => self.read_part::<true>(values, from, room, guess),
-            9..=16 => self.read_part::<true>(values, from, room, guess),
+            2..=16 if guess.has_return => self.read_part::<true>(values, from, room, guess),
+            2..=8 => self.read_part::<true>(values, from, room, plain),
+            9..=16 => self.read_part::<true>(values, from, room, plain),
             _ => self.read_part::<true>(values, from, room, guess),
         }
     }
@@ -151,7 +157,12 @@ impl<'a, T: Parse> Fields<'a, T> {
         let mut fields = Fields { ..*self };
         let mut at = from;
         while at < end {
-            match fields.number::<GUESSES>(guess) {
+            let next = if GUESSES {
+                fields.guessed_number(guess)
+            } else {
+                fields.next_number(guess)
+            };
+            match next {
                 Some(value) => {
                     values[at] = value;
                     at += 1;
@@ -161,24 +172,6 @@ impl<'a, T: Parse> Fields<'a, T> {
         }
         *self = fields;
         at - from
-    }
-
-    // Returns the number of the next field. If there is none, or `GUESSES` and it does not look as
-    // guessed, nothing changes.
-    #[inline(always)]
-    fn number<const GUESSES: bool>(&mut self, guess: Guess) -> Option<T>
-        ensures some { IfSome result (λ value. (field_items_left T.int_type self.old
-            ≡ Ok (T.number value) ∷ field_items_left T.int_type self.new)
-            × (self.new ≡ after_first_field self.old)) }
-        ensures none { IfNone result (self.new ≡ self.old) }
-        ensures stops { IfNone result (IsFalse GUESSES
-            → BeginsWithNoNumber (field_items_left T.int_type self.old)) }
-    {
-        if GUESSES {
-            self.guessed_number(guess)
-        } else {
-            self.next_number(guess)
-        }
     }
 
     // `next_number`, if the field looks as guessed.
@@ -216,14 +209,9 @@ impl<'a, T: Parse> Fields<'a, T> {
                 Some(value)
             }
             None => {
-                let (item, following) = read_field::<T>(
-                    rest,
-                    self.separator,
-                    self.trims,
-                    index,
-                    self.end - rest.len(),
-                );
-                let value = item.ok()?;
+                let place = self.end - rest.len();
+                let (item, following) = read_field(rest, self.separator, self.trims, index, place);
+                let value: T = item.ok()?;
                 self.index = index + 1;
                 self.rest = following;
                 Some(value)
@@ -247,12 +235,14 @@ fn guessed_field<T: Parse>(
     fields_are_prefixes::<T>();
     accepted_texts::<T>();
     prefix_is_whole::<T>();
+    let (ends, tail) = end_of(separator, trims, guess.has_return);
     if is_short(guess) {
-        let (ends, tail) = end_of(separator, trims, guess.has_return);
         let (value, count) = number_with_end::<T>(rest, guess.width, ends, tail)?;
         return Some((value, &rest[count + tail..]));
     }
     let (value, count) = number_of_digits::<T>(rest, guess.width)?;
-    let following = after_field(&rest[count..], separator, trims)?;
-    Some((value, following))
+    if !begins_with(&rest[count..], ends, tail) {
+        return None;
+    }
+    Some((value, &rest[count + tail..]))
 }

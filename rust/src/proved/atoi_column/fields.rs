@@ -202,13 +202,7 @@ impl<'a, T: Parse> Iterator for Fields<'a, T> {
             }
             None => {
                 let place = self.end - rest.len();
-                let (item, following) = read_field::<T>(
-                    rest,
-                    self.separator,
-                    self.trims,
-                    index,
-                    place,
-                );
+                let (item, following) = read_field(rest, self.separator, self.trims, index, place);
                 self.rest = following;
                 Some(item)
             }

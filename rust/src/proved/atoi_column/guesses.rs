@@ -104,7 +104,6 @@ pub(crate) fn number_with_end<T: Parse>(
 /// minus.
 #[inline(always)]
 pub(crate) fn number_of_digits<T: Parse>(rest: &[u8], width: usize) -> Option<(T, usize)>
-    // ensures some { IfSome result (λ found. 0 < length rest.now) }
     // ensures within { IfSome result (λ found. found.1 ≤ length rest.now) }
     // ensures written { IfSome result (λ found. TextWrites T.int_type true (take found.1 rest.now)
     //     (T.number found.0)) }
@@ -136,17 +135,12 @@ fn signed<T: Parse>(minus: bool, magnitude: u64) -> Option<T>
 
 // `number_of_digits` for any width.
 #[inline] fn number_of_any_width<T: Parse>(rest: &[u8], width: usize) -> Option<(T, usize)>
-    // ensures some { IfSome result (λ found. 0 < length rest.now) }
     // ensures within { IfSome result (λ found. found.1 ≤ length rest.now) }
     // ensures written { IfSome result (λ found. TextWrites T.int_type true (take found.1 rest.now)
     //     (T.number found.0)) }
 {
-    if width >= rest.len() {
-        return None;
-    }
-    let count = width + sign_len::<T>(rest);
-    let value = parse::<T, false, false>(&rest[..count]).ok()?;
-    Some((value, count))
+    let (text, _) = rest.split_at_checked(width.saturating_add(sign_len::<T>(rest)))?;
+    Some((parse::<T, false, false>(text).ok()?, text.len()))
 }
 
 // Returns how many bytes of a minus a field begins with.
