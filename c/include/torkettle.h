@@ -114,7 +114,7 @@ typedef struct torkettle_error {
     size_t offset;
     /*
      * For TORKETTLE_INVALID, the number of digits. The byte after them is at `offset + count`. For TORKETTLE_SIZE, the
-     * number of digits, too. After skipped zeros, at most 17, 24 or 40 are counted.
+     * number of skipped zeros plus that of the other digits, of which at most 17, 24 or 40 count.
      */
     size_t count;
     /* For TORKETTLE_INVALID, the number that the digits spell, without a sign. */
@@ -183,10 +183,10 @@ typedef struct torkettle_error {
  *
  * size_t torkettle_column_i64_read(torkettle_column_i64 *column, int64_t *values, size_t count);
  *
- * Reads several fields, which is faster. Writes at most `count` numbers to `values` and returns how many it has
- * written. It writes fewer than `count` only if it reaches a bad field or the end of the text. If `count` is 0, it
- * reads nothing, and `values` may be NULL. It is fastest if `count` is 128 or more and the fields all have equally many
- * digits.
+ * Reads several fields, which is faster for more than about 15. Writes at most `count` numbers to `values` and returns
+ * how many it has written. It writes fewer than `count` only if it reaches a bad field or the end of the text. If
+ * `count` is 0, it reads nothing, and `values` may be NULL. It is fastest if `count` is 128 or more and the fields all
+ * have equally many digits.
  *
  * struct torkettle_column_i64 {
  *     torkettle_status status;  TORKETTLE_OK or, after a bad field, its error. TORKETTLE_INVALID means that a byte that
@@ -224,7 +224,8 @@ typedef struct torkettle_error {
  * void torkettle_fields_i64_starting_at(torkettle_fields_i64 *fields, size_t index, size_t offset);
  *
  * Sets the index and the offset of the next field, from which later fields are counted. To read a long text in pieces
- * that end with a separator, start each at the next_index and the next_offset of the piece before it.
+ * that end with a separator, start each at the next_index and the next_offset of the piece before it. Sums above
+ * SIZE_MAX wrap.
  *
  * bool torkettle_fields_i64_next(torkettle_fields_i64 *fields, int64_t *value);
  *
@@ -234,10 +235,10 @@ typedef struct torkettle_error {
  *
  * size_t torkettle_fields_i64_read(torkettle_fields_i64 *fields, int64_t *values, size_t count);
  *
- * Reads several fields, which is faster. Writes at most `count` numbers to `values` and returns how many it has
- * written. It stops at a bad field and sets the status. Otherwise, the status is TORKETTLE_OK. The next call continues
- * after the bad field, so a loop must not end because a call wrote fewer than `count` numbers. If `count` is 0,
- * `values` may be NULL.
+ * Reads several fields, which is faster for more than about 15. Writes at most `count` numbers to `values` and returns
+ * how many it has written. It stops at a bad field and sets the status. Otherwise, the status is TORKETTLE_OK. The next
+ * call continues after the bad field, so a loop must not end because a call wrote fewer than `count` numbers. If
+ * `count` is 0, `values` may be NULL.
  *
  *     while ((count = torkettle_fields_i64_read(&fields, values, 256)) > 0 || fields.status != TORKETTLE_OK) ...
  *
@@ -255,10 +256,11 @@ typedef struct torkettle_error {
  * };
  *
  *
- * Everything below is internal and may change: the functions whose names begin with torkettle_whole_, torkettle_prefix_
- * and torkettle_next_, one for each choice of flags, one for canonical numbers, and one for JSON. They return a number
- * and its length in two registers. The length is 0 if there is no number. The length that torkettle_next_field_ returns
- * is 1 for a number, and 2 for a bad field. If `flags` is a constant, the compiler keeps only one call.
+ * What follows, down to TORKETTLE_ERROR_TEXT_SIZE, is internal and may change: the functions whose names begin with
+ * torkettle_whole_, torkettle_prefix_ and torkettle_next_, one for each choice of flags, one for canonical numbers, and
+ * one for JSON. They return a number and its length in two registers. The length is 0 if there is no number. The length
+ * that torkettle_next_field_ returns is 1 for a number, and 2 for a bad field. If `flags` is a constant, the compiler
+ * keeps only one call.
  *
  * A whole text of one digit is read here, because a call would take most of its time. So is a number at the start of a
  * text if it has one digit or, in a text of more than 16 bytes, up to 15.

@@ -26,7 +26,7 @@ static int is_error_of_a_parse(void)
                            "[31, 32, 78]") == 0;
 }
 
-static long number_at(const char *text, const char **end)
+static long number_at(const char *text, char **end)
 {
     const char *start = text + strspn(text, " \t\n\v\f\r");
     unsigned flags = TORKETTLE_SKIP_ZEROES | TORKETTLE_SKIP_PLUS;
@@ -42,15 +42,14 @@ static long number_at(const char *text, const char **end)
         count = 1 + strspn(start + 1, "0123456789");
     }
     if (end != NULL)
-        *end = start + count;
+        *end = (char *)start + count;
     return value;
 }
 
 /* Whether number_at does what strtol does. */
 static int is_strtol(const char *text)
 {
-    const char *end = NULL;
-    char *their_end = NULL;
+    char *end = NULL, *their_end = NULL;
     long value, their_value;
     int error;
     errno = 0;
