@@ -256,11 +256,11 @@ typedef struct torkettle_error {
  * };
  *
  *
- * What follows, down to TORKETTLE_ERROR_TEXT_SIZE, is internal and may change: the functions whose names begin with
- * torkettle_whole_, torkettle_prefix_ and torkettle_next_, one for each choice of flags, one for canonical numbers, and
- * one for JSON. They return a number and its length in two registers. The length is 0 if there is no number. The length
- * that torkettle_next_field_ returns is 1 for a number, and 2 for a bad field. If `flags` is a constant, the compiler
- * keeps only one call.
+ * What follows, down to TORKETTLE_ERROR_TEXT_SIZE, is internal and may change in a minor version: the functions whose
+ * names begin with torkettle_whole_, torkettle_prefix_ and torkettle_next_, one for each choice of flags, one for
+ * canonical numbers, and one for JSON. They return a number and its length in two registers. The length is 0 if there
+ * is no number. The length that torkettle_next_field_ returns is 1 for a number, and 2 for a bad field. If `flags` is a
+ * constant, the compiler keeps only one call.
  *
  * A whole text of one digit is read here, because a call would take most of its time. So is a number at the start of a
  * text if it has one digit or, in a text of more than 16 bytes, up to 15.
