@@ -193,8 +193,8 @@ typedef struct torkettle_error {
  *                               is not the separator follows the number.
  *     size_t index;             The index of the bad field, from 0.
  *     size_t offset;            For TORKETTLE_INVALID, the offset of the byte after the number, otherwise the offset of
- *                               the field. To learn more, call torkettle_parse_prefix_error_i64 with both flags for
- *                               the text from there on.
+ *                               the field. To learn more of the field, call torkettle_parse_prefix_error_i64 with both
+ *                               flags for the text from there on.
  *     ...                       The others are only for the library.
  * };
  *

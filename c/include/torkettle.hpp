@@ -113,7 +113,7 @@ using from_chars_result = std::from_chars_result;
 
 // Does what `std::from_chars(first, last, value)` does, for the same types, in base 10.
 //
-// Reads the number at the start of a text: digits, with a `-` before them if the type is signed. Sets `value` and
+// Reads the number at the start of a text: digits, after an optional `-` if the type is signed. Sets `value` and
 // returns the end of the number. Without a digit, returns `first` and `std::errc::invalid_argument`. If the number is
 // out of range, returns the end of its digits and `std::errc::result_out_of_range`. An error leaves `value` as it is.
 // In C++23, a constant expression has to call `std::from_chars`.
