@@ -86,7 +86,7 @@ typedef enum torkettle_status {
     TORKETTLE_EMPTY = 1,
     /*
      * The number has more than 20 digits for u64, 19 for i64 or 39 for 128 bits. With TORKETTLE_SKIP_ZEROES, it is out
-     * of range. Without, leading zeros count as digits, and the limit for a prefix of at most 32 bits is 16.
+     * of range. Without, leading zeros count as digits, and prefix calls for at most 32 bits allow only 16.
      */
     TORKETTLE_SIZE = 2,
     /* The number is out of range for the type: below, if it begins with `-`, and otherwise above. */
@@ -256,7 +256,7 @@ typedef struct torkettle_error {
  * };
  *
  *
- * What follows, down to TORKETTLE_ERROR_TEXT_SIZE, is internal and may change in a minor version: the functions whose
+ * What is described neither above nor below is internal and may change in a minor version, such as the functions whose
  * names begin with torkettle_whole_, torkettle_prefix_ and torkettle_next_, one for each choice of flags, one for
  * canonical numbers, and one for JSON. They return a number and its length in two registers. The length is 0 if there
  * is no number. The length that torkettle_next_field_ returns is 1 for a number, and 2 for a bad field. If `flags` is a
