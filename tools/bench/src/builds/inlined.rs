@@ -5,6 +5,7 @@
 use super::place::{WITHIN_32_BYTES, placed};
 use super::source::{Calls, Column, HEAD, Parse, ROWS, SLICES};
 use super::{Build, Compared, Others};
+use crate::arguments::{Arguments, Work};
 use crate::formats::{self, Bodies, Format};
 use crate::real;
 use crate::tables::{self, Cut};
@@ -18,7 +19,7 @@ use torkettle_common::integer::Integer;
 use torkettle_common::original;
 use torkettle_common::package::Package;
 
-// The flags of rustc for each layout, which is taken at each `LAYOUTS.len()`th placement.
+// The flags of rustc for each layout in which code is timed.
 const LAYOUTS: [&str; 2] = ["", " -C llvm-args=-align-all-nofallthru-blocks=5"];
 
 /// A program with inlined calls, and what is timed of it.
@@ -74,8 +75,9 @@ pub fn inlined(
     ours: &Package,
     others: &Others,
     cpu: &str,
-    has_lanes: bool,
+    arguments: &Arguments,
 ) -> Result<Inlined, String> {
+    let has_lanes = arguments.has_lanes;
     let dependency = |package: &Package, name| match has_lanes {
         true => package.dependency(name).with_feature("lanes"),
         false => package.dependency(name),
@@ -102,7 +104,15 @@ pub fn inlined(
             parts.extend(texts(&theirs.name, THEIR_TEXTS, THEIRS).into_iter().filter(has));
         }
     }
-    program(cache, cpu, dependencies, &parts)
+    program(cache, cpu, &layouts(arguments.work), dependencies, &parts)
+}
+
+// The flags of rustc for each layout. What keeps jumps within 32 bytes would be counted: instructions that do nothing.
+fn layouts(work: Work) -> Vec<String> {
+    match work {
+        Work::Count => vec![String::new()],
+        _ => LAYOUTS.map(|layout| format!("{WITHIN_32_BYTES}{layout}")).to_vec(),
+    }
 }
 
 // The original, if it is there, and std.
@@ -163,25 +173,26 @@ const ORIGINAL: Calls = Calls { parse: Parse::By("atoi_simd"), column: Column::P
 const STANDARD: Calls = Calls { parse: Parse::Standard, column: Column::Split };
 const STANDARD_PREFIX: Calls = Calls { parse: Parse::StandardPrefix, column: Column::Prefixes };
 
-// Builds the program in each layout.
+// Builds the program in each layout, which is taken at each `layouts.len()`th placement.
 fn program(
     cache: &Cache,
     cpu: &str,
+    layouts: &[String],
     dependencies: Vec<Dependency>,
     parts: &[Part],
 ) -> Result<Inlined, String> {
     let (text, names) = source(parts)?;
     let mut files = Vec::new();
-    for (number, layout) in LAYOUTS.iter().enumerate() {
+    for (number, layout) in layouts.iter().enumerate() {
         let generated = Generated {
             kind: Kind::ArchiveOfUnits,
             dependencies: dependencies.clone(),
             files: vec![("lib.rs", text.clone())],
-            flags: format!("-C target-cpu={cpu}{WITHIN_32_BYTES}{layout}"),
+            flags: format!("-C target-cpu={cpu}{layout}"),
         };
         let name = format!("inlined-{}", generated.stamp()?);
         let placed = placed(cache, &name, &names, |room| Ok(vec![generated.build(room)?]))?;
-        files.extend(placed.into_iter().skip(number).step_by(LAYOUTS.len()));
+        files.extend(placed.into_iter().skip(number).step_by(layouts.len()));
     }
     let builds = |is_in: fn(&Part) -> bool| -> Vec<Build> {
         parts.iter().filter(|part| is_in(part)).map(|part| part.build(&files)).collect()

@@ -16,7 +16,7 @@ pub fn run(arguments: &Arguments, cache: &Cache) -> Result<usize, String> {
     let others = others(arguments, cache)?;
     let mut wrong = 0;
     for cpu in arguments.processors() {
-        let built = builds::inlined(cache, &ours, &others, cpu, arguments.has_lanes)?;
+        let built = builds::inlined(cache, &ours, &others, cpu, arguments)?;
         wrong += match arguments.work {
             Work::Count => count(arguments, cache, &built.calls, cpu)?,
             _ => time(arguments, &built, cpu)?,
