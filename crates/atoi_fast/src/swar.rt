@@ -46,10 +46,13 @@ impl Engine for Swar {
         }
         let word = load_full(s);
         let len = digits_of(word);
+        if len != 8 {
+            return Window::not_full(len, value_below_8(word, len));
+        }
         Window {
             len,
-            zeroes: if len == 8 { zeroes_of(word) } else { 0 },
-            number: number_in_word(word, len),
+            zeroes: zeroes_of(word),
+            number: value_of(word, len),
         }
     }
 
