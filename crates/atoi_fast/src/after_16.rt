@@ -1,5 +1,5 @@
 //! The answer of a prefix of 64 bits after its first sixteen digits, from words of four bytes.
-ghost use Rattle.std.specs.Prelude.{◌≡◌, ◌+◌, ◌-◌, ◌<◌, ◌≤◌, nat_lt, if◌then◌else◌, length, take, drop, false, Ok, Err, MatchOption};
+ghost use Rattle.std.specs.Prelude.{◌≡◌, ◌+◌, ◌-◌, ◌^◌, ◌<◌, ◌≤◌, nat_lt, if◌then◌else◌, length, take, drop, false, Ok, Err, MatchOption};
 ghost use Rattle.atoi_core.specs.Digit.{decimal_table};
 ghost use Rattle.atoi_core.specs.Magnitude.{IsBound64, wide64, prefix_magnitude};
 ghost use Rattle.atoi_core.specs.Refusal.{answer_of, overflow};
@@ -31,6 +31,8 @@ pub(crate) fn answer_after_16<'a>(
     ensures one_step { steps.new ≡ steps.old + 1 }
 {
     steps.tick();
+    // One use, so that LLVM chooses a bound by the sign only here.
+    let bound = u128::from(bound);
     if s.len() <= limit as usize {
         answer_near_end(bound, limit, high, s)
     } else {
@@ -41,12 +43,13 @@ pub(crate) fn answer_after_16<'a>(
 // `answer_after_16` for a slice of at most `limit` bytes, which are mostly digits.
 #[inline(always)]
 fn answer_near_end<'a>(
-    bound: u64,
+    bound: u128,
     limit: u32,
     high: u64,
     s: &'a [u8],
 ) -> Result<(u64, usize), AtoiSimdError<'a>>
     requires bound { IsBound64 limit bound }
+    requires fits { bound < 2 ^ 64 }
     requires few { length s.now ≤ limit }
     requires full { 16 ≤ run_len decimal_table s.now }
     requires number { high ≡ value decimal_table (take 16 s.now) }
@@ -59,7 +62,7 @@ fn answer_near_end<'a>(
     match last_four(s) {
         Some(low) => {
             let number = append_digits(high, s.len() as u32 - 16, u64::from(low));
-            answer_to_end(bound, number, s)
+            bounded(bound, s.len(), number, s)
         }
         None => answer_by_word(bound, limit, high, s),
     }
@@ -82,27 +85,34 @@ fn last_four(s: &[u8]) -> Option<u32>
     Some(value_after(word, 20 - s.len()))
 }
 
-fn answer_to_end(bound: u64, number: u128, s: &[u8]) -> Result<(u64, usize), AtoiSimdError<'_>>
+fn bounded(
+    bound: u128,
+    len: usize,
+    number: u128,
+    s: &[u8],
+) -> Result<(u64, usize), AtoiSimdError<'_>>
+    requires fits { bound < 2 ^ 64 }
     ensures { answer_of result ≡ (if nat_lt bound number then Err (overflow s.now)
-        else Ok (number, length s.now)) }
+        else Ok (number, len)) }
 {
-    if number > u128::from(bound) {
+    if number > bound {
         Err(AtoiSimdError::Overflow(s))
     } else {
-        Ok((number as u64, s.len()))
+        Ok((number as u64, len))
     }
 }
 
 // `answer_after_16`, from the four bytes after 16.
 #[inline(always)]
 fn answer_by_word<'a>(
-    bound: u64,
+    bound: u128,
     limit: u32,
     high: u64,
     s: &'a [u8],
 ) -> Result<(u64, usize), AtoiSimdError<'a>>
     requires some { 16 < length s.now }
     requires bound { IsBound64 limit bound }
+    requires fits { bound < 2 ^ 64 }
     requires full { 16 ≤ run_len decimal_table s.now }
     requires number { high ≡ value decimal_table (take 16 s.now) }
     ensures { answer_of result ≡ prefix_magnitude decimal_table wide64 bound limit false s.now }
@@ -114,31 +124,15 @@ fn answer_by_word<'a>(
     let more = digits_of_four(word);
     if more == 4 {
         let number = append_digits(high, 4, u64::from(value_up_to_4(word, 4)));
-        return answer_from_20(bound, limit, number, s);
+        if limit < 20 || begins_with_digit(&s[20..]) {
+            let more = digits_of(load_from(s, 16));
+            return Err(AtoiSimdError::Size(16 + more as usize, s));
+        }
+        return bounded(bound, 20, number, s);
     }
     // At most 19 digits fit in 64 bits.
     let number = high * power_of_ten(more) + u64::from(value_up_to_4(word, more));
-    answer_64(bound, limit, 0, 16 + more, u128::from(number), s)
-}
-
-// `answer_by_word` after 20 digits, which spell `number`.
-#[inline(always)]
-fn answer_from_20<'a>(
-    bound: u64,
-    limit: u32,
-    number: u128,
-    s: &'a [u8],
-) -> Result<(u64, usize), AtoiSimdError<'a>>
-    requires limit_high { limit ≤ 20 }
-    requires full { 20 ≤ run_len decimal_table s.now }
-    requires number { number ≡ value decimal_table (take 20 s.now) }
-    ensures { answer_of result ≡ prefix_magnitude decimal_table wide64 bound limit false s.now }
-{
-    if limit < 20 || begins_with_digit(&s[20..]) {
-        let more = digits_of(load_from(s, 16));
-        return Err(AtoiSimdError::Size(16 + more as usize, s));
-    }
-    answer_64(bound, limit, 0, 20, number, s)
+    answer_64(bound as u64, limit, 0, 16 + more, u128::from(number), s)
 }
 
 pub(crate) fn begins_with_digit(s: &[u8]) -> bool

@@ -1,16 +1,17 @@
 -- The word of the four bytes after 16 shows whether a digit follows them, and has up to four.
-use Rattle.std.proofs.Common.{◌≡◌, ℕ, ◌+◌, ◌-◌, ◌*◌, ◌^◌, ◌≤◌, List, length, min, take, drop, ◌<◌, sym, ◌∙◌, refl, arith, ltb-false, ltb-true}
-use Rattle.std.proofs.Math.Nat.{pow-le-pow_right}
-use Rattle.std.proofs.lemmas.List.{get_or-drop}
+use Rattle.std.proofs.Common.{◌≡◌, ℕ, ◌+◌, ◌-◌, ◌*◌, ◌^◌, ◌≤◌, List, length, min, take, drop, ◌<◌, sym, ◌∙◌, refl, arith, ltb-false, ltb-true, ne_eqb, le-ltb}
+use Rattle.std.proofs.Math.Nat.{pow-le-pow_right, zero-add}
+use Rattle.std.proofs.lemmas.Bool.{lt-ltb}
+use Rattle.std.proofs.lemmas.List.{get_or-drop, take_rest}
 use Rattle.std.proofs.lemmas.List.Sums.{prefix_len-le-length}
 use Rattle.atoi_core.specs.Digit.{decimal_table, is_digit}
 use Rattle.atoi_core.specs.Run.{run_len, value}
 use Rattle.atoi_core.specs.Words.{low_bytes, low_value}
 use Rattle.atoi_core.proofs.lemmas.LoadedWords.{loaded_part}
-use Rattle.atoi_core.proofs.lemmas.Runs.{value-take-add}
+use Rattle.atoi_core.proofs.lemmas.Runs.{prefix_len-drop, value-take-add}
 use Rattle.atoi_fast.proofs.lemmas.After16.{by_digits, counted_after, ended_at_16}
 use Rattle.atoi_fast.proofs.after_16.answer_by_word.Goals as goal
-use Rattle.atoi_fast.proofs.after_16.answer_by_word.Goals.{After-digits_of_four-more}
+use Rattle.atoi_fast.proofs.after_16.answer_by_word.Goals.{After-digits_of_four-more, then-limit-lt20-via-then-limit-lt20, then-limit-lt20-via-else-limit-lt20+then-begins_with_digit}
 
 pub returns-then-not-starts_with_digit_of_four : goal.returns-then-not-starts_with_digit_of_four
 returns-then-not-starts_with_digit_of_four c =
@@ -47,16 +48,40 @@ following c =
           (sym (value-take-add decimal_table 16 len s room)),
     )
 
-pub answer_from_20-requires-clause-full : goal.answer_from_20-requires-clause-full
-answer_from_20-requires-clause-full c =
-    let at = (goal.at.answer_from_20-requires-clause-full c).After-digits_of_four-more in
-    omega (arith, (following at).0, has_more at, c.if-more-eq4.true)
+-- If four follow, there are 20.
+twenty : (c : After-digits_of_four-more) → c.digits_of_four-more.result ≡ 4 → 20 ≤ run_len decimal_table c.args.s.now
+twenty c four = omega (arith, (following c).0, has_more c, four)
 
-pub answer_from_20-requires-clause-number : goal.answer_from_20-requires-clause-number
-answer_from_20-requires-clause-number c =
-    c.append_digits-number.ensures
-    ∙ (following (goal.at.answer_from_20-requires-clause-number c).After-digits_of_four-more).1 4
-    c.from.result (omega (arith, c.if-more-eq4.true)) (c.from.ensures ∙ c.value_up_to_4.ensures)
+inside : (c : After-digits_of_four-more) → c.digits_of_four-more.result ≡ 4 → 20 ≤ length c.args.s.now
+inside c four = omega (arith, twenty c four, prefix_len-le-length (is_digit decimal_table) c.args.s.now)
+
+pub slice_bounds-begins_with_digit-count : goal.slice_bounds-begins_with_digit-count
+slice_bounds-begins_with_digit-count c =
+    inside (goal.at.slice_bounds-begins_with_digit-count c).After-digits_of_four-more c.if-more-eq4.true
+
+pub slice_bounds-begins_with_digit-start : goal.slice_bounds-begins_with_digit-start
+slice_bounds-begins_with_digit-start c =
+    inside (goal.at.slice_bounds-begins_with_digit-start c).After-digits_of_four-more c.if-more-eq4.true
+
+pub returns-then-limit-lt20 : goal.returns-then-limit-lt20
+returns-then-limit-lt20 c =
+    let s : List ℕ = c.args.s.now in
+    let full = twenty (goal.at.returns-then-limit-lt20 c).After-digits_of_four-more c.if-more-eq4.true in
+    let more : ℕ = c.digits_of-more.result in
+    let counted : more ≡ min 8 (run_len decimal_table s - 16) =
+    c.digits_of-more.ensures.len
+    ∙ counted_after 8 16 s _ (λ i. (c.type_inv.s i).fits) (omega (arith, full)) c.load_from.ensures in
+    let many : c.args.limit < 16 + more =
+    elim c.then-limit-lt20.branch [
+      | then-limit-lt20-via-then-limit-lt20 w ↦ omega (arith, w.if-limit-lt20.true, full)
+      | then-limit-lt20-via-else-limit-lt20+then-begins_with_digit w ↦
+          (let next : 0 < run_len decimal_table (drop 20 s) =
+          rw take_rest at (ltb-true 0 _ (sym w.begins_with_digit.ensures ∙ w.if-begins_with_digit.true)) in
+          omega (arith, c.requires.bound.high, next, prefix_len-drop (is_digit decimal_table) 20 s full))
+    ] in
+    let counts : min (16 + more) 24 ≡ 16 + more = omega (arith, c.digits_of-more.ensures.most) in
+    rw (counts, zero-add (16 + more), ne_eqb (16 + more) 0 (omega arith), lt-ltb c.args.limit (16 + more) many)
+    at (by_digits c.args.bound c.args.limit s (16 + more) _ c.requires.bound.high (omega arith) refl).2
 
 pub value_up_to_4-requires-2-clause-some : goal.value_up_to_4-requires-2-clause-some
 value_up_to_4-requires-2-clause-some c =
@@ -91,6 +116,19 @@ overflow_add-number c =
       fits (goal.at.overflow_add-number c).After-digits_of_four-more
           (omega (arith, c.digits_of_four-more.ensures.most, c.if-more-eq4.false)),
     ))
+
+pub returns-then-more-eq4 : goal.returns-then-more-eq4
+returns-then-more-eq4 c =
+    let s : List ℕ = c.args.s.now in
+    let at = (goal.at.returns-then-more-eq4 c).After-digits_of_four-more in
+    let full = twenty at c.if-more-eq4.true in
+    let none = rw take_rest at (ltb-false 0 _ (sym c.begins_with_digit.ensures ∙ c.if-begins_with_digit.false)) in
+    let number : c.append_digits-number.result ≡ value decimal_table (take 20 s) =
+    c.append_digits-number.ensures
+    ∙ (following at).1 4 c.from.result (omega (arith, c.if-more-eq4.true)) (c.from.ensures ∙ c.value_up_to_4.ensures) in
+    let after_20 : run_len decimal_table s ≡ 20 + run_len decimal_table (drop 20 s) = prefix_len-drop (is_digit decimal_table) 20 s full in
+    let known = by_digits c.args.bound c.args.limit s 20 c.append_digits-number.result c.requires.bound.high (omega (arith, none, after_20)) number in
+    c.bounded.ensures ∙ (rw (le-ltb c.args.limit 20 (omega (arith, c.if-limit-lt20.false))) at known.2)
 
 pub answer_64-requires : goal.answer_64-requires
 answer_64-requires c =
