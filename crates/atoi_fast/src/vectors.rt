@@ -40,9 +40,6 @@ impl Engine for Vectors {
     #[tactic(auto, using(atoi_core::proofs::lemmas::LaneWindows::window_of_half))]
     fn window_8(s: &[u8], steps: &mut Steps) -> Window {
         steps.tick();
-        if s.is_empty() {
-            return Window::not_full(0, 0);
-        }
         lane_window(load_lanes(&s[..s.len().min(8)]), 8)
     }
 
