@@ -33,7 +33,7 @@
 #include <stddef.h>
 #include <stdint.h>
 
-/* These compilers let a symbol have another name than its function. In -std=gnu89, too, they have what this needs. */
+/* These compilers let a symbol have another name than its function. They have what this needs in -std=gnu89, too. */
 #if !defined __GNUC__ && !defined __clang__
 #error "torkettle.h needs gcc or clang"
 #elif !defined __cplusplus && defined __STRICT_ANSI__ && (!defined __STDC_VERSION__ || __STDC_VERSION__ < 199901L)
