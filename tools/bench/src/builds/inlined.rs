@@ -77,14 +77,13 @@ pub fn inlined(
     cpu: &str,
     arguments: &Arguments,
 ) -> Result<Inlined, String> {
-    let has_lanes = arguments.has_lanes;
-    let dependency = |package: &Package, name| match has_lanes {
+    let dependency = |package: &Package, name| match arguments.has_lanes {
         true => package.dependency(name).with_feature("lanes"),
         false => package.dependency(name),
     };
     let package = |name: &str, prefix, import| Part {
         import,
-        has_lanes,
+        has_lanes: arguments.has_lanes,
         formats: Some(formats::ours),
         ..part(name, prefix, PACKAGE)
     };
