@@ -165,7 +165,8 @@ module _ (s : List ℕ) (few : length s ≤ 8) (fits : (i : ℕ) → get_or s i 
   last_fits : (k : ℕ) → k ≤ length s → word_of (drop (length s - k) s) < 2 ^ (k * 8)
   last_fits k inside =
       let end = drop (length s - k) s in
-      let whole = word_start k end (fits_after (length s - k) s fits) ∙ ap word_of (take_all k end (omega (arith, length-drop (length s - k) s))) in
+      let whole = word_start k end (fits_after (length s - k) s fits) ∙ ap word_of
+      (take_all k end (omega (arith, length-drop (length s - k) s))) in
       omega (arith, mod-lt (word_of end) (pow_pos (k * 8)))
 
   last_of_four : (last two : ℕ) → 4 ≤ length s → last ≡ word_of (drop (length s - 4) s) → two ≡ word_of (drop (length s - 2) s)

@@ -62,7 +62,8 @@ lifted =
 abbrev flipped_marks_in : ℕ → ℕ
 flipped_marks_in word = bit_and (bit_or ((word + repeated 118 8) % 2 ^ 64) word) (repeated 128 8)
 
-pub flipped_marks : (word : ℕ) → count_trailing_zeros 64 (flipped_marks_in word) / 8 ≡ run_len decimal_table (low_bytes 8 (bit_xor word (repeated 48 8)))
+pub flipped_marks : (word : ℕ) → count_trailing_zeros 64 (flipped_marks_in word) / 8
+    ≡ run_len decimal_table (low_bytes 8 (bit_xor word (repeated 48 8)))
 flipped_marks word =
     let marks = both bit_and and_shr and_mod (both bit_or or_shr or_mod (cut lifted) flipped) (constant 128 (lit< tt)) in
     (rw (flipped_back word (repeated 48 8)) at (counted marks (is_digit decimal_table) refl (λ b h e. e) 8 (bit_xor word (repeated 48 8))))

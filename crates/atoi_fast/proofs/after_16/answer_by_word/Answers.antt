@@ -18,7 +18,8 @@ returns-then-not-starts_with_digit_of_four c =
     let r = c.requires in
     let more = counted_after 4 16 _ _ (λ i. (c.type_inv.s i).fits) r.full c.load_four_from-word.ensures in
     let none = ltb-false 0 _ (sym c.starts_with_digit_of_four.ensures ∙ c.if-not-starts_with_digit_of_four.true) in
-    ended_at_16 c.args.bound c.args.limit c.args.s.now c.args.high r.bound.low r.bound.high r.bound.digits (omega (arith, more, none)) r.number
+    ended_at_16 c.args.bound c.args.limit c.args.s.now c.args.high r.bound.low r.bound.high r.bound.digits
+    (omega (arith, more, none)) r.number
 
 -- A digit follows the first 16.
 has_more : (c : After-digits_of_four-more) → 17 ≤ run_len decimal_table c.args.s.now
@@ -35,7 +36,8 @@ following c =
     let s : List ℕ = c.args.s.now in
     let full = has_more c in
     let more = c.digits_of_four-more.ensures.len
-    ∙ counted_after 4 16 s c.load_four_from-word.result (λ i. (c.type_inv.s i).fits) (omega (arith, full)) c.load_four_from-word.ensures in (
+    ∙ counted_after 4 16 s c.load_four_from-word.result (λ i. (c.type_inv.s i).fits) (omega (arith, full))
+    c.load_four_from-word.ensures in (
       more,
       λ len low few low_is.
           let room : 16 + len ≤ length s = omega (arith, more, full, prefix_len-le-length (is_digit decimal_table) s) in
@@ -127,7 +129,8 @@ returns-then-more-eq4 c =
     c.append_digits-number.ensures
     ∙ (following at).1 4 c.from.result (omega (arith, c.if-more-eq4.true)) (c.from.ensures ∙ c.value_up_to_4.ensures) in
     let after_20 : run_len decimal_table s ≡ 20 + run_len decimal_table (drop 20 s) = prefix_len-drop (is_digit decimal_table) 20 s full in
-    let known = by_digits c.args.bound c.args.limit s 20 c.append_digits-number.result c.requires.bound.high (omega (arith, none, after_20)) number in
+    let known = by_digits c.args.bound c.args.limit s 20 c.append_digits-number.result c.requires.bound.high
+    (omega (arith, none, after_20)) number in
     c.bounded.ensures ∙ (rw (le-ltb c.args.limit 20 (omega (arith, c.if-limit-lt20.false))) at known.2)
 
 pub answer_64-requires : goal.answer_64-requires

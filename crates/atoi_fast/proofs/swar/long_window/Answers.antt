@@ -26,7 +26,8 @@ returns-then-more-ne8 c =
     rw (c.not_full-then-more-ne8.ensures, c.power_of_ten.ensures.power)
     (window_joined c.args.s.now (λ i. (c.type_inv.s i).fits) _ c.load_full-first.ensures
     c.load_full-next.result _ (rw take_rest at c.load_full-next.ensures)
-    (omega arith) c.digits_of-more.ensures.len _ _ _ (grind (arith, nat_tests)) c.value_of.ensures.sum c.value_below_8-then-more-ne8.ensures.sum)
+    (omega arith) c.digits_of-more.ensures.len _ _ _ (grind (arith, nat_tests)) c.value_of.ensures.sum
+    c.value_below_8-then-more-ne8.ensures.sum)
 
 pub returns : goal.returns
 returns c =

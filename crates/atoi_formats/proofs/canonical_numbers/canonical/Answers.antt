@@ -10,7 +10,9 @@ use Rattle.atoi_formats.proofs.canonical_numbers.canonical.Goals as goal
 pub returns-in_err-number-clause-none : goal.returns-in_err-number-clause-none
 unfolding IsCanonical
 returns-in_err-number-clause-none g c =
-    rw c.from_residual.ensures (λ number is. (refused c.parse.result (sym c.ok.ensures.value ∙ c.in_err-number.was) (c.parse.ensures.refused refl)) number (written c.decimal_texts.ensures is))
+    rw c.from_residual.ensures
+    (λ number is. (refused c.parse.result (sym c.ok.ensures.value ∙ c.in_err-number.was)
+    (c.parse.ensures.refused refl)) number (written c.decimal_texts.ensures is))
 
 pub returns-then-has_needless_byte-clause-none : goal.returns-then-has_needless_byte-clause-none
 unfolding IsCanonical
@@ -20,9 +22,12 @@ returns-then-has_needless_byte-clause-none g c = λ number is.
 pub returns-else-has_needless_byte-clause-some : goal.returns-else-has_needless_byte-clause-some
 unfolding IsCanonical
 returns-else-has_needless_byte-clause-some g c =
-    printed c.decimal_texts.ensures (accepted _ c.parse.result (sym c.ok.ensures.value ∙ c.in_ok-number.was) c.parse.ensures.number) (sym c.has_needless_byte.ensures ∙ c.if-has_needless_byte.false)
+    printed c.decimal_texts.ensures
+    (accepted _ c.parse.result (sym c.ok.ensures.value ∙ c.in_ok-number.was) c.parse.ensures.number)
+    (sym c.has_needless_byte.ensures ∙ c.if-has_needless_byte.false)
 
 pub returns-else-has_needless_byte-clause-only : goal.returns-else-has_needless_byte-clause-only
 unfolding IsCanonical
 returns-else-has_needless_byte-clause-only g c = λ number is.
-    c.one_number.ensures (looked_for _) _ _ _ (written c.decimal_texts.ensures is) (accepted _ c.parse.result (sym c.ok.ensures.value ∙ c.in_ok-number.was) c.parse.ensures.number)
+    c.one_number.ensures (looked_for _) _ _ _ (written c.decimal_texts.ensures is)
+    (accepted _ c.parse.result (sym c.ok.ensures.value ∙ c.in_ok-number.was) c.parse.ensures.number)

@@ -13,7 +13,8 @@ unfolding IsCanonical
 returns-in_err-number-clause-none g c = rw c.from_residual.ensures (λ number bytes rest is ends parts.
     let prefix = c.prefixes_and_rests.ensures.of_parts (looked_for false)
     c.args.text.now bytes rest number parts (written c.decimal_texts.ensures is) ends in
-    (refused c.parse_prefix.result (sym c.ok.ensures.value ∙ c.in_err-number.was) (c.parse_prefix.ensures.refused refl)) number (length bytes) prefix)
+    (refused c.parse_prefix.result (sym c.ok.ensures.value ∙ c.in_err-number.was)
+    (c.parse_prefix.ensures.refused refl)) number (length bytes) prefix)
 
 pub returns-then-has_needless_byte-clause-none : goal.returns-then-has_needless_byte-clause-none
 unfolding IsCanonical
@@ -30,7 +31,8 @@ unfolding IsCanonical
 returns-else-has_needless_byte-clause-some g c =
     let front : c.split_at.result.0.now ≡ take c.in_ok-number.count c.args.text.now = search rules in
     let short = rw front at (sym c.has_needless_byte.ensures ∙ c.if-has_needless_byte.false) in
-    let is = printed c.decimal_texts.ensures (accepted _ c.parse_prefix.result (sym c.ok.ensures.value ∙ c.in_ok-number.was) c.parse_prefix.ensures.prefix).written short in
+    let is = printed c.decimal_texts.ensures
+    (accepted _ c.parse_prefix.result (sym c.ok.ensures.value ∙ c.in_ok-number.was) c.parse_prefix.ensures.prefix).written short in
     let parts = sym (take-append-drop c.in_ok-number.count c.args.text.now) in search rules
 
 pub returns-else-has_needless_byte-clause-only : goal.returns-else-has_needless_byte-clause-only

@@ -27,18 +27,21 @@ returns-in_err-number-clause-none g c = rw c.from_residual.ensures (λ number by
     let text = to_text c.decimal_texts.ensures is (without_zero _ _ parts c.in_default.ensures.none) in
     let prefix = c.prefixes_and_rests.ensures.of_parts (looked_for false)
     c.args.text.now bytes rest number parts text (no_digit rest ends) in
-    (refused c.parse_prefix.result (sym c.ok.ensures.value ∙ c.in_err-number.was) (c.parse_prefix.ensures.refused refl)) number (length bytes) prefix)
+    (refused c.parse_prefix.result (sym c.ok.ensures.value ∙ c.in_err-number.was)
+    (c.parse_prefix.ensures.refused refl)) number (length bytes) prefix)
 
 pub returns-clause-some : goal.returns-clause-some
 unfolding IsJsonInteger
 returns-clause-some g c =
     let parts = sym (take-append-drop c.in_ok-number.count c.args.text.now) in
-    let is = of_text (accepted _ c.parse_prefix.result (sym c.ok.ensures.value ∙ c.in_ok-number.was) c.parse_prefix.ensures.prefix).written (without_zero _ _ parts c.in_default.ensures.none) in search rules
+    let is = of_text (accepted _ c.parse_prefix.result (sym c.ok.ensures.value ∙ c.in_ok-number.was)
+    c.parse_prefix.ensures.prefix).written (without_zero _ _ parts c.in_default.ensures.none) in search rules
 
 pub returns-clause-only : goal.returns-clause-only
 unfolding IsJsonInteger
 returns-clause-only g c = λ number bytes rest is ends parts.
     let text = to_text c.decimal_texts.ensures is (without_zero _ _ parts c.in_default.ensures.none) in
     let same = c.prefixes_and_rests.ensures.cut (looked_for false) c.args.text.now
-    bytes rest number _ _ parts text (no_digit rest ends) (accepted _ c.parse_prefix.result (sym c.ok.ensures.value ∙ c.in_ok-number.was) c.parse_prefix.ensures.prefix) in
+    bytes rest number _ _ parts text (no_digit rest ends)
+    (accepted _ c.parse_prefix.result (sym c.ok.ensures.value ∙ c.in_ok-number.was) c.parse_prefix.ensures.prefix) in
     search rules

@@ -8,8 +8,14 @@ pub loop-read-init : goal.loop-read-init
 loop-read-init g c = record {
   fills = filled_none g.T.Number.int_type g.T.Number.number c.args.self.now c.args.values.now;
   room = refl;
-  some = elim c.if-self-lt-SHORT_TEXT.branch [ then-self-lt-SHORT_TEXT w ↦ omega (arith, w.part-is) | else-self-lt-SHORT_TEXT w ↦ omega (arith, w.part-is) ];
-  few = elim c.if-self-lt-SHORT_TEXT.branch [ then-self-lt-SHORT_TEXT w ↦ omega (arith, w.part-is) | else-self-lt-SHORT_TEXT w ↦ omega (arith, w.part-is) ];
+  some = elim c.if-self-lt-SHORT_TEXT.branch [
+    | then-self-lt-SHORT_TEXT w ↦ omega (arith, w.part-is)
+    | else-self-lt-SHORT_TEXT w ↦ omega (arith, w.part-is)
+  ];
+  few = elim c.if-self-lt-SHORT_TEXT.branch [
+    | then-self-lt-SHORT_TEXT w ↦ omega (arith, w.part-is)
+    | else-self-lt-SHORT_TEXT w ↦ omega (arith, w.part-is)
+  ];
 }
 
 pub loop-read-preserved-then-run-lt-PART : goal.loop-read-preserved-then-run-lt-PART

@@ -23,5 +23,6 @@ returns-clause-accepted g c = λ separates.
     let end = rw (take_rest rest count) at c.if-not-begins_with.ensures in
     rw (take_rest rest (count + tail)) (accepted_text c.args.trims c.args.separator rest count tail
     c.fields_are_prefixes.ensures c.prefix_is_whole.ensures c.accepted_texts.ensures separates c.end_of-ends.ensures.ends
-    (λ i. (c.type_inv.rest i).fits) (grind (arith, found.within, length-drop count rest, c.end_of-ends.ensures.few, end.two refl)) found.written
+    (λ i. (c.type_inv.rest i).fits)
+    (grind (arith, found.within, length-drop count rest, c.end_of-ends.ensures.few, end.two refl)) found.written
     (eqb-true _ _ (sym (end.bytes (end.two refl)))))

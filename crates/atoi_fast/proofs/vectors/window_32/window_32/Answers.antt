@@ -16,7 +16,9 @@ returns-then-len-lt16-clause-reading c =
 pub returns-clause-reading : goal.returns-clause-reading
 returns-clause-reading c =
     let s = c.args.s.now in
-    let number : c.if-more-eq0.number ≡ c.sum_lanes-high.result * 10 ^ c.len_lanes-more.result + value decimal_table (take c.len_lanes-more.result c.load_second-second.result) =
+    let number : c.if-more-eq0.number
+    ≡ c.sum_lanes-high.result * 10 ^ c.len_lanes-more.result
+    + value decimal_table (take c.len_lanes-more.result c.load_second-second.result) =
     grind (arith, nat_tests, c.if-more-eq0.branch) in
     let first = reading_of_lanes s c.load_lanes-first.result 16 _ c.load_lanes-first.ensures
     (omega (arith, c.len_lanes-len.ensures, c.if-len-lt16.false)) refl in
