@@ -33,8 +33,8 @@ impl AtoiSimdError<'_> {
         text.len().checked_sub(input.len())?.checked_add(index)
     }
 
-    /// Returns the kind of the error that `str::parse` returns for the same text. `text` is the slice that
-    /// `parse::<T, true, true>` got, with its sign. See the [guide](crate::guide#errors).
+    /// Returns the kind of the error, in our tests the kind that `str::parse` returns for the same text.
+    /// `text` is the slice that `parse::<T, true, true>` got, with its sign. See the [guide](crate::guide#errors).
     ///
     /// **Proved:** the result is [as specified](crate::specification#errors-refusalantt-errortextantt-errorkindsantt).
     ///

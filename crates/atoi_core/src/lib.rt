@@ -15,7 +15,8 @@ mod wide;
 pub mod words;
 
 pub use crate::calls::{
-    parse_prefix_text, parse_text, prefix_neg, prefix_pos, take_sign, whole_neg, whole_pos,
+    parse_prefix_text, parse_text, prefix_neg, prefix_pos, prefix_with_sign, take_sign,
+    whole_by_size, whole_neg, whole_pos,
 };
 pub use crate::engine::Engine;
 pub use crate::engine::alphabet::Alphabet;
@@ -24,8 +25,8 @@ pub use crate::engine::steps::Steps;
 pub use crate::engine::window::Window;
 pub use crate::error::{AtoiSimdError, Parsed, clones_are_the_same};
 pub use crate::loops::{powers, wide_answer, window_after_zeros};
-pub use crate::narrow::{narrow_prefix, narrow_whole_windows};
-pub use crate::number::{Number, Signed};
+pub use crate::narrow::{narrow_answer, narrow_prefix, narrow_whole_windows};
+pub use crate::number::{Number, Signed, greatest_magnitude};
 pub use crate::text::decimal;
 pub use crate::wide::{whole_64, whole_128};
 pub use crate::words::Words;

@@ -93,9 +93,9 @@ fn narrow_whole_after_zeros<'a, E: Engine>(
     narrow_answer(bound, len, len == s.len(), last.number, s)
 }
 
-// The answer for all of `s`, of which `len` digits spell `number`. LLVM joins the first test with the
-// engine's.
-pub(crate) fn narrow_answer(
+/// The answer for all of `s`, of which `len` digits spell `number`, and `is_whole` says that these are all
+/// bytes. The errors are `Empty`, `Overflow` and `Invalid64`.
+pub fn narrow_answer(
     bound: u64,
     len: usize,
     is_whole: bool,

@@ -67,8 +67,8 @@ pub trait Signed: Number {
     ghost signed: { (Self.SIGNED ≡ true) × (LEAST_MAGNITUDE ≡ Self.GREATEST + 1) };
 }
 
-// Returns the magnitude of `T::MIN` if `minus` is set, otherwise `T::MAX`.
-pub(crate) fn greatest_magnitude<T: Number>(minus: bool) -> u128
+/// Returns the magnitude of `T::MIN` if `minus` is set, otherwise `T::MAX`.
+pub fn greatest_magnitude<T: Number>(minus: bool) -> u128
     requires signed { minus ≡ true → T.SIGNED ≡ true }
     ensures value { result ≡ bound_of T.int_type minus }
     ensures bound { IsBound T.BITS (limit_of T.int_type) result }

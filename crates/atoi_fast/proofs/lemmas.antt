@@ -12,3 +12,7 @@ pub mod DigitLanes
 pub mod ShortLanes
 pub mod LaneWindows
 pub mod VectorAnswers
+pub mod ShortNumbers
+pub mod SignedWords
+pub mod ShortPrefixes
+pub mod ShortSlices

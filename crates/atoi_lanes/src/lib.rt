@@ -1,4 +1,4 @@
-//! The ten functions of `atoi_simd`, with the same results, computed with vectors of sixteen bytes.
+//! The ten functions of `atoi_simd`, with the same results, computed with vectors of 16 and 32 bytes.
 //! Callers find them in the module `lanes` of `atoi_simd`.
 #![tactic(auto)]
 

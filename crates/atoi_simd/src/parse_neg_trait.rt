@@ -3,8 +3,8 @@ ghost use Rattle.std.specs.Prelude.{◌≡◌, ◌≤◌, true, IfOk, length};
 ghost use Rattle.atoi_core.specs.Answer.{typed_answer, typed_prefix_answer, whole_answer, prefix_answer};
 ghost use Rattle.atoi_core.specs.Digit.{decimal_table};
 
-use crate::default_engine::DefaultEngine;
-use atoi_core::{Parsed, Signed, Steps, prefix_neg, whole_neg};
+use crate::default_engine::{DefaultEngine, prefix_neg, whole_neg};
+use atoi_core::{Parsed, Signed, Steps};
 
 /// A signed type that is parsed from the digits of a negative number.
 ///

@@ -3,8 +3,8 @@ ghost use Rattle.std.specs.Prelude.{◌≡◌, ◌≤◌, false, IfOk, length};
 ghost use Rattle.atoi_core.specs.Answer.{typed_answer, typed_prefix_answer, whole_answer, prefix_answer};
 ghost use Rattle.atoi_core.specs.Digit.{decimal_table};
 
-use crate::default_engine::DefaultEngine;
-use atoi_core::{Number, Parsed, Steps, prefix_pos, whole_pos};
+use crate::default_engine::{DefaultEngine, prefix_pos, whole_pos};
+use atoi_core::{Number, Parsed, Steps};
 
 /// An integer type that is parsed from digits without a sign. No other crate can name it.
 pub trait ParsePos: Number {

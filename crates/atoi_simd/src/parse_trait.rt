@@ -2,9 +2,9 @@
 ghost use Rattle.std.specs.Prelude.{◌≡◌, ◌≤◌, IfOk, length};
 ghost use Rattle.atoi_core.specs.Answer.{typed_answer, typed_prefix_answer, parse_answer, parse_prefix_answer};
 
-use crate::default_engine::DefaultEngine;
+use crate::default_engine::{DefaultEngine, parse_prefix_text, parse_text};
 use crate::parse_pos_trait::ParsePos;
-use atoi_core::{Parsed, Steps, parse_prefix_text, parse_text};
+use atoi_core::{Parsed, Steps};
 
 /// An integer type that is parsed with a sign. No other crate can implement it. Its methods take
 /// [flags](crate::guide#choose-the-flags) that are known only at run time.

@@ -102,7 +102,7 @@ prefix_found : (int : IntType) → IsSized int → (is_negative : Bool) (taken :
 prefix_found int sized is_negative taken digits rest number written ends =
     search (arith, own, run_len_before, run_before, limit_of_prefix, in_range_short)
 
-prefix_written : (int : IntType) (form : SignForm) (skip : Bool) (s : List ℕ) (number : ℤ) (count : ℕ)
+pub prefix_written : (int : IntType) (form : SignForm) (skip : Bool) (s : List ℕ) (number : ℤ) (count : ℕ)
     → prefix_call int form skip s ≡ Ok (number, count) → PrefixWrites (Writes int form) s number count
 prefix_written int form skip s number count h =
     let cut = (prefix_of_cut int).cut form skip s number count h in
@@ -115,7 +115,7 @@ prefix_written int form skip s number count h =
           (λ more. elim (prefix_stops_at_rest int form skip s number count h) [ inl all ↦ absurd (omega arith) | inr end ↦ end.1 ]);
     }
 
-prefix_accepted : (int : IntType) → IsSized int → (form : SignForm) (s : List ℕ) (number : ℤ) (count : ℕ)
+pub prefix_accepted : (int : IntType) → IsSized int → (form : SignForm) (s : List ℕ) (number : ℤ) (count : ℕ)
     → PrefixWrites (Writes int form) s number count → prefix_call int form true s ≡ Ok (number, count)
 prefix_accepted int sized (given is_negative) s number count h =
     let len : length (take count s) + 0 ≡ count = omega (arith, length-take-le count s h.within) in

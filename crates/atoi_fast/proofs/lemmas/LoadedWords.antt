@@ -1,9 +1,9 @@
 -- Words that hold the bytes of a slice.
 use Rattle.std.proofs.Common.{◌≡◌, ℕ, zero, suc, Bool, true, lit<, ap₂, ◌+◌, ◌-◌, ◌*◌, ◌/◌, ◌%◌, ◌^◌, ◌<◌, ◌≤◌, List, [], ◌∷◌, length, refl, sym, ◌∙◌, arith, inl, inr, mod-lt, ◌==◌, drop, ap, ◌++◌, take, replicate, get_or, if◌then◌else◌}
 use Rattle.std.proofs.Math.Nat.{div-div-eq-div-mul, mul-div_cancel, suc-add, zero-add, add-zero}
-use Rattle.std.proofs.lemmas.Nat.{pow_pos, pow-add, mod-pow-add, and_mask, shr_split, div-mul-add, mod-mul-add, and_assoc, or_block, xor_block, xor_shr, xor_mod, shl_whole, and_comm, mul-mod_second}
-use Rattle.std.specs.Int.Bits.{bit_and, bit_or, bit_xor, and_self, or_add_and, or_zero_r, or_shifted_r, xor_lt, xor_self}
-use Rattle.std.specs.Simd.Lanes.{digits_l}
+use Rattle.std.proofs.lemmas.Nat.{pow_pos, pow-add, mod-pow-add, and_mask, shr_split, div-mul-add, mod-mul-add, and_assoc, or_block, xor_block, xor_shr, xor_mod, shl_whole, and_comm}
+use Rattle.std.specs.Int.Bits.{bit_and, bit_or, bit_xor, and_self, or_add_and, or_zero_r, or_shifted_r, xor_lt, xor_self, xor_zero_r}
+use Rattle.std.specs.Simd.Lanes.{digits_l, number_l}
 use Rattle.atoi_core.specs.Words.{low_bytes, word_of}
 use Rattle.atoi_core.specs.Digit.{decimal_table, is_zero}
 use Rattle.atoi_core.specs.Run.{zeros}
@@ -57,9 +57,6 @@ pub word_after_all : (s : List ℕ) (at : ℕ) → length s ≤ at → 0 ≡ wor
 word_after_all s at all = word_of_none (take 8 (drop at s)) (ap (λ l. length (take 8 l)) (drop_all at s all))
 
 -- ---- A slice of at most eight bytes, joined from overlapping parts
-
-pub shifted_by : (front factor k : ℕ) → factor ≡ 2 ^ k % 2 ^ 64 → front * factor % 2 ^ 64 ≡ front * 2 ^ k % 2 ^ 64
-shifted_by front factor k is = ap (λ f. front * f % 2 ^ 64) is ∙ mul-mod_second front (2 ^ k) (2 ^ 64)
 
 -- In the highest bytes of a word, the j lowest and the k highest of n bytes join.
 module _ (n y : ℕ) (few : n ≤ 8) (fits : y < 2 ^ (n * 8)) where
@@ -216,3 +213,21 @@ pub zeros_of_two : (first next : ℕ) → zeros decimal_table (low_bytes 8 first
     else zeros decimal_table (low_bytes 8 first))
 unfolding low_bytes
 zeros_of_two first next = prefix_len-append (is_zero decimal_table) (digits_l 256 8 first) (digits_l 256 8 next)
+
+-- ---- A minus of a word that is filled with zeros
+
+-- 0x1D makes it a zero.
+pub minus_flipped : (m : ℕ) (s : List ℕ) → get_or s 0 0 ≡ 45
+    → bit_xor (word_of (replicate m 48 ++ s)) (0x1D * 2 ^ (m * 8)) ≡ word_of (replicate m 48 ++ (48 ∷ drop 1 s))
+unfolding word_of
+minus_flipped m [] minus = absurd (omega arith)
+minus_flipped m (b ∷ bs) minus =
+    let rest = number_l 256 bs in
+    let zeros = repeated 48 m in
+    let shifted : 0x1D * 2 ^ (m * 8) ≡ 0x1D * 2 ^ (m * 8) + 0 = omega arith in
+    let first : 45 + 256 * rest ≡ rest * 2 ^ 8 + 45 = omega arith in
+    let byte : bit_xor (45 + 256 * rest) 0x1D ≡ 48 + 256 * rest =
+    ap (λ x. bit_xor x 0x1D) first ∙ xor_block 8 rest 0 45 0x1D (lit< tt) (lit< tt) ∙ omega (arith, xor_zero_r rest) in
+    rw (word_filled, word_filled, minus, shifted)
+    (xor_block (m * 8) (45 + 256 * rest) 0x1D zeros 0 (zeros_fit m) (pow_pos (m * 8))
+    ∙ ap₂ (λ x y. x * 2 ^ (m * 8) + y) byte (xor_zero_r zeros))

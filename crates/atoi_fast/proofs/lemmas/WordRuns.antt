@@ -1,7 +1,7 @@
 -- How many digits and zeros a word begins with, and their sum.
-use Rattle.std.proofs.Common.{◌≡◌, ℕ, zero, suc, ◌+◌, ◌-◌, ◌*◌, ◌/◌, ◌%◌, ◌^◌, ◌<◌, ◌≤◌, refl, sym, ◌∙◌, arith, lit<, mod-lt, nat_lt, drop, ap}
+use Rattle.std.proofs.Common.{◌≡◌, ℕ, zero, suc, ◌+◌, ◌-◌, ◌*◌, ◌/◌, ◌%◌, ◌^◌, ◌<◌, ◌≤◌, refl, sym, ◌∙◌, arith, lit<, mod-lt, nat_lt, drop, ap, ap₂}
 use Rattle.std.proofs.Math.Nat.{div-div-eq-div-mul, suc-add, zero-add, mod-eq_of_lt, div-one, div-mul-le_self}
-use Rattle.std.proofs.lemmas.Nat.{pow_pos, and_mask, and_block, shr_split, and_shr, and_mod, or_shr, or_mod, xor_shr, xor_mod, and_assoc}
+use Rattle.std.proofs.lemmas.Nat.{pow_pos, and_mask, and_block, shr_split, and_shr, and_mod, or_shr, or_mod, xor_shr, xor_mod, and_assoc, mul-mod_first, mul-mod_second}
 use Rattle.std.specs.Int.Bits.{bit_and, bit_or, bit_xor, and_zero_l, and_zero_r, xor_assoc, xor_self, xor_zero_r, xor_lt, xor_disjoint}
 use Rattle.std.specs.Simd.Lanes.{digits_l}
 use Rattle.atoi_core.specs.Words.{low_bytes, low_value}
@@ -13,7 +13,8 @@ use Rattle.atoi_core.specs.Digit.{decimal_table, is_digit, is_zero}
 use Rattle.atoi_core.specs.Run.{run_len, zeros}
 use Rattle.atoi_core.proofs.lemmas.WordFields.{repeated, digits_cut, low_value_shifted, byte_more, round, spelled_by_bytes, one_field}
 use Rattle.atoi_core.proofs.lemmas.WordRuns.{Change, unchanged, constant, cut, both, counted, zero_is_digit}
-use Rattle.atoi_core.proofs.lemmas.LoweredWords.{without_48, lowered, marks_in, marks_counted, lowered_digits, masked, lowered_bytes, lowered_value}
+use Rattle.atoi_core.proofs.lemmas.LoweredWords.{without_48, lowered, marks_in, marks_counted, lowered_digits, masked, lowered_bytes, lowered_value, shift_cut}
+use Rattle.atoi_fast.specs.Short.{at_top}
 
 -- ---- Counting digits and zeros
 
@@ -97,6 +98,25 @@ unfolding low_bytes
 sum_of_four digits halves =
     one_field 10000 16 _ (omega arith) ∙ round 8 100 (lit< tt) 1 _
     ∙ (rw halves at (round 4 10 (lit< tt) 2 digits)) ∙ spelled_by_bytes 4 digits
+
+-- The lowest bytes, moved to the top of the word, keep their sum.
+pub sum_at_top : (len word : ℕ) → len ≤ 8 → low_value (low_bytes 8 (at_top len word)) ≡ low_value (low_bytes len word)
+unfolding low_bytes
+sum_at_top len word few =
+    let z = 8 - len in
+    let top : z + len ≡ 8 = omega arith in
+    let shift : 64 - 8 * len ≡ z * 8 = omega arith in
+    let bits : 64 ≡ len * 8 + z * 8 = omega arith in
+    let moved : at_top len word ≡ word % 2 ^ (len * 8) * 2 ^ (z * 8) =
+    ap₂ (λ s b. word * 2 ^ s % 2 ^ b) shift bits ∙ shift_cut word (len * 8) (z * 8) in
+    rw moved (rw top at (low_value_shifted z len (word % 2 ^ (len * 8))) ∙ ap low_value (digits_cut 8 len word))
+
+-- A product by a shifted factor is one after the shift.
+pub factor_shifted : (a p k factor : ℕ) → factor ≡ p * 2 ^ k % 2 ^ 64 → a * factor % 2 ^ 64 ≡ a * 2 ^ k % 2 ^ 64 * p % 2 ^ 64
+factor_shifted a p k factor is =
+    let regroup : a * (p * 2 ^ k) ≡ a * 2 ^ k * p = omega arith in
+    ap (λ f. a * f % 2 ^ 64) is ∙ mul-mod_second a (p * 2 ^ k) (2 ^ 64) ∙ ap (λ x. x % 2 ^ 64) regroup
+    ∙ sym (mul-mod_first (a * 2 ^ k) p (2 ^ 64))
 
 -- ---- The word with 48 subtracted from each byte
 

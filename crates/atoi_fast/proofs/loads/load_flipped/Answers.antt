@@ -1,7 +1,7 @@
 -- The parts join to the filled word.
-use Rattle.std.proofs.Common.{◌≡◌, arith, length, ◌-◌, ◌*◌, ◌^◌, ◌%◌}
+use Rattle.std.proofs.Common.{arith}
 use Rattle.atoi_core.specs.Words.{word_of}
-use Rattle.atoi_fast.proofs.lemmas.LoadedWords.{flipped_joined, shifted_by}
+use Rattle.atoi_fast.proofs.lemmas.LoadedWords.{flipped_joined}
 use Rattle.atoi_fast.proofs.loads.load_flipped.Goals.{then-s-lt4, else-s-lt4}
 use Rattle.atoi_fast.proofs.loads.load_flipped.Goals as goal
 
@@ -13,10 +13,9 @@ returns c =
     let last = c.load_last_four.result in
     let first_is = c.load_four_from.ensures in
     let last_is = c.load_last_four.ensures in
-    let factor : c.from_le_bytes.result ≡ 2 ^ (64 - 8 * length s) % 2 ^ 64 = grind (arith, c.from_le_bytes.ensures) in
     let joined =
     flipped_joined s c.requires.few (λ i. (c.type_inv.s i).fits) first last c.load_last_two.result c.requires.some in
-    rw (c.from-2.ensures, c.from.ensures, c.from-3.ensures, shifted_by _ _ _ factor)
+    rw (c.from-2.ensures, c.from.ensures, c.from-3.ensures, c.factor_of.ensures)
     (elim c.if-s-lt4.branch [
       | then-s-lt4 w ↦
           joined (λ four. absurd (omega (arith, w.if-s-lt4.true))) (λ few. rw w.fours-is at first_is)

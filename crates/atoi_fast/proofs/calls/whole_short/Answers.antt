@@ -2,7 +2,7 @@
 use Rattle.std.proofs.Common.{◌≡◌, arith}
 use Rattle.std.proofs.lemmas.Bool.Decides.{nat_tests}
 use Rattle.atoi_core.proofs.lemmas.LoopAnswers.{short_in_range}
-use Rattle.atoi_core.proofs.calls.whole_short.Goals as goal
+use Rattle.atoi_fast.proofs.calls.whole_short.Goals as goal
 
 pub returns-then-not-is_empty-clause-answer : goal.returns-then-not-is_empty-clause-answer
 returns-then-not-is_empty-clause-answer g c =
