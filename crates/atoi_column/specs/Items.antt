@@ -1,5 +1,7 @@
 -- The items of a column: values, up to the first refused field.
-use Rattle.std.specs.Prelude.{ℕ, ◌+◌, true, ℤ, Result, Ok, Err, List, [], ◌∷◌, length, drop}
+use Rattle.std.specs.Prelude.{◌≡◌, ℕ, ◌+◌, ◌==◌, true, ℤ, Option, None, Some, Result, Ok, Err, List, [], ◌∷◌, length, drop}
+use Rattle.std.specs.List.{after_first}
+use Rattle.std.specs.Iterator.{YieldsFirstBy}
 use Rattle.atoi_core.specs.Refusal.{Refusal, refusal_of}
 use Rattle.atoi_core.specs.IntType.{IntType}
 use Rattle.atoi_core.specs.Answer.{parse_answer, parse_prefix_answer}
@@ -55,3 +57,31 @@ items_left int separator index place rest =
 -- The items of an input.
 abbrev pub items_of : IntType → (separator : ℕ) → List ℕ → List (Result ℤ Flaw)
 items_of int separator input = items_left int separator 0 0 input
+
+-- What a `Column` is still to read. The field `index` begins at offset `place`, where `rest` begins. Once it has
+-- ended, `rest` is empty.
+pub record ColumnLeft : Type 0 where
+  pub separator : ℕ
+  pub index : ℕ
+  pub place : ℕ
+  pub rest : List ℕ
+
+-- The column of an input, before the first field is read.
+abbrev pub column_in : (separator : ℕ) → List ℕ → ColumnLeft
+column_in separator input = record { separator = separator; index = 0; place = 0; rest = input }
+
+-- The items of a column that are still to be read.
+abbrev pub column_items : IntType → ColumnLeft → List (Result ℤ Flaw)
+column_items int left = items_left int left.separator left.index left.place left.rest
+
+-- A call that returns a number leaves what follows the next separator. After an error, nothing is left. At the
+-- end, nothing changes.
+abbrev pub LeavesRest : {A E : Type 0} → ColumnLeft → Option (Result A E) → ColumnLeft → Type 0
+LeavesRest old None new = (old.rest ≡ []) × (new ≡ old)
+LeavesRest old (Some (Ok value)) new = new.rest ≡ after_first (λ byte. byte == old.separator) old.rest
+LeavesRest old (Some (Err error)) new = new.rest ≡ []
+
+-- A call of `next` returns the first item, if there is one, and leaves the others.
+abbrev pub GivesFirstItem : {T : Type 0} → IntType → (T → ℤ) → ColumnLeft → Option (Result T ColumnError) → ColumnLeft → Type 0
+GivesFirstItem int number old result new =
+    YieldsFirstBy (item_of number) (column_items int) old result new × LeavesRest old result new

@@ -1,12 +1,13 @@
 -- Laws about fields and items, over the definitions only.
-use Rattle.std.specs.Prelude.{◌≡◌, ◌⊎◌, ℕ, ◌+◌, ◌<◌, ◌≤◌, ◌==◌, true, List, [], ◌∷◌, ◌++◌, length, take, drop, map, All, ℤ, Result, Ok, Err}
+use Rattle.std.specs.Prelude.{◌≡◌, ◌⊎◌, ℕ, ◌+◌, ◌<◌, ◌≤◌, ◌==◌, true, List, [], ◌∷◌, ◌++◌, length, take, drop, map, All, ℤ, Result, Ok, Err, IfOk, OnErr}
 use Rattle.std.specs.Bool.{⊤}
 use Rattle.std.specs.List.{AllZip, slice_split, before_first, after_first, position_or_len, sum_by}
 use Rattle.std.specs.Str.Lines.{lines}
 use Rattle.atoi_core.specs.Refusal.{Refusal}
 use Rattle.atoi_core.specs.IntType.{IntType}
-use Rattle.atoi_core.specs.Answer.{parse_answer, parse_prefix_answer}
-use Rattle.atoi_core.specs.Text.{IsText, TextWrites}
+use Rattle.atoi_core.specs.declared.error.AtoiSimdError.{AtoiSimdError}
+use Rattle.atoi_core.specs.Answer.{typed_prefix_answer, parse_answer, parse_prefix_answer}
+use Rattle.atoi_core.specs.Text.{IsText, TextWrites, PrefixWrites}
 use Rattle.atoi_column.specs.Fields.{is_separator, fields_of}
 use Rattle.atoi_column.specs.Items.{Flaw, flaw_at, index_of, place_of, items_of}
 use Rattle.atoi_column.specs.FieldItems.{BadField, FieldsLeft, after_first_field, field_items_left, field_items, line_items}
@@ -25,6 +26,16 @@ pub record FieldIsPrefix (whole : List ℕ → Result ℤ Refusal) (prefix : Lis
 abbrev pub FieldsArePrefixes : IntType → Type 0
 FieldsArePrefixes int =
     (separator : ℕ) → is_separator separator ≡ true → (rest : List ℕ)
+    → FieldIsPrefix (parse_answer int true true) (parse_prefix_answer int true true) separator rest
+
+-- `FieldIsPrefix` for the field at which `parse_prefix` with both flags returned `result`, by what its
+-- contract says.
+abbrev pub ResultsTellFields : {T : Type 0} → IntType → (T → ℤ) → Type 0
+ResultsTellFields {T} int number =
+    (separator : ℕ) → is_separator separator ≡ true → (rest : List ℕ) (result : Result (T × ℕ) AtoiSimdError)
+    → typed_prefix_answer number result ≡ parse_prefix_answer int true true rest
+    → IfOk result (λ found. PrefixWrites (TextWrites int true) rest (number found.0) found.1)
+    → OnErr result ((any : ℤ) (count : ℕ) → ¬ PrefixWrites (TextWrites int true) rest any count)
     → FieldIsPrefix (parse_answer int true true) (parse_prefix_answer int true true) separator rest
 
 -- The offset after the fields `texts`, with a separator after each.

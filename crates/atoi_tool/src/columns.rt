@@ -2,6 +2,7 @@
 ghost use Rattle.std.specs.Prelude.{◌≡◌, ◌+◌, ◌++◌, true};
 ghost use Rattle.std.specs.List.{flat_map};
 ghost use Rattle.atoi_column.specs.Fields.{is_separator};
+ghost use Rattle.atoi_column.specs.Items.{column_items};
 ghost use Rattle.atoi_tool.specs.Failures.{failures_of, PutAppends};
 ghost use Rattle.atoi_tool.specs.Request.{int_type_of};
 ghost use Rattle.atoi_tool.specs.Answer.{item_text, column_text};
@@ -20,7 +21,7 @@ fn put_items<T: Parse, S: Sink>(
     output: &mut S,
 ) -> Result<(), Refused>
     ensures output { PutAppends (S.contents output.old) (S.contents output.new) result
-        (block.old ++ flat_map item_text column.entry) block.new }
+        (block.old ++ flat_map item_text (column_items T.int_type column.entry)) block.new }
     ensures failures { S.failures output.new ≡ S.failures output.old + failures_of result }
 {
     for item in column {

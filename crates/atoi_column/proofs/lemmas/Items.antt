@@ -1,7 +1,7 @@
 -- The first item of what is left, in each case of `next`.
 use Rattle.std.proofs.Common.{◌≡◌, ◌≢◌, ℕ, ◌+◌, ◌<◌, ◌≤◌, ◌==◌, true, not, inl, inr, Some, List, [], ◌∷◌, length, drop, length-drop, get_or, Bool, ℤ, Result, Ok, Err, refl, sym, ap, subst, ◌∙◌, arith}
 use Rattle.std.specs.List.{position_or_len, before_first, after_first}
-use Rattle.std.proofs.lemmas.List.{drop_all, drop_more}
+use Rattle.std.proofs.lemmas.List.{drop_all, drop_more, nil_from_length}
 use Rattle.std.proofs.lemmas.List.Folds.{length-prefix_len}
 use Rattle.std.proofs.lemmas.List.Sums.{prefix_len-le-length, passes_at_first, fails_before_first}
 use Rattle.std.proofs.lemmas.Bool.{eqb-true, eq-eqb, false≢true}
@@ -10,9 +10,9 @@ use Rattle.std.specs.Iterator.{MakesProgress, item_count}
 use Rattle.atoi_core.specs.Refusal.{Refusal}
 use Rattle.atoi_core.specs.IntType.{IntType}
 use Rattle.atoi_core.specs.Answer.{parse_answer, parse_prefix_answer}
-use Rattle.atoi_column.specs.Fields.{is_separator, fields_of}
+use Rattle.atoi_column.specs.Fields.{fields_of}
 use Rattle.atoi_column.specs.Items.{Flaw, field, trailing, flaw_at, items_from, items_left}
-use Rattle.atoi_column.specs.Laws.{FieldsArePrefixes}
+use Rattle.atoi_column.specs.Laws.{FieldIsPrefix}
 use Rattle.atoi_column.proofs.lemmas.Fields.{fields_of_first, length-fields_of}
 
 module _ (whole : List ℕ → Result ℤ Refusal) (prefix : List ℕ → Result (ℤ × ℕ) Refusal) where
@@ -105,11 +105,10 @@ ends separator byte = byte == separator
 abbrev field_end : (separator : ℕ) → List ℕ → ℕ
 field_end separator rest = position_or_len (ends separator) rest
 
--- A field begins at `place`, where `rest` begins, and the law about fields holds.
+-- A field begins at `place`, where `rest` begins, and the prefix found there tells whether it is accepted.
 pub record FieldBegins (int : IntType) (separator index place : ℕ) (rest : List ℕ) : Type 0 where
   pub some : 0 < length rest
-  pub law : FieldsArePrefixes int
-  pub separates : is_separator separator ≡ true
+  pub law : FieldIsPrefix (parse_answer int true true) (parse_prefix_answer int true true) separator rest
 
 module _ {int : IntType} {separator index place : ℕ} {rest : List ℕ} (begins : FieldBegins int separator index place rest) where
   value_then : (v : ℤ) (count : ℕ) → prefix int rest ≡ Ok (v, count) → count ≡ field_end separator rest
@@ -119,7 +118,7 @@ module _ {int : IntType} {separator index place : ℕ} {rest : List ℕ} (begins
       let others = fields_of separator (after_first (ends separator) rest) in
       let len : length (before_first (ends separator) rest) ≡ field_end separator rest =
       length-prefix_len (λ byte. not (ends separator byte)) rest in
-      let accepted = (begins.law separator begins.separates rest).to_field v (rw at at h) in
+      let accepted = begins.law.to_field v (rw at at h) in
       rw at (ap (items_from (whole int) (prefix int) index place rest) (fields_of_first separator rest begins.some)
       ∙ (items_from-ok (whole int) (prefix int) index place rest (before_first (ends separator) rest) others v accepted
       ∙ ap (λ n. Ok v ∷ items_from (whole int) (prefix int) (index + 1) (place + n + 1) (drop (n + 1) rest) others) len))
@@ -131,30 +130,51 @@ module _ {int : IntType} {separator index place : ℕ} {rest : List ℕ} (begins
       ap (items_from (whole int) (prefix int) index place rest) (fields_of_first separator rest begins.some)
       ∙ items_from-err (whole int) (prefix int) index place rest
       (before_first (ends separator) rest) (fields_of separator (after_first (ends separator) rest))
-      (λ v h. none v ((begins.law separator begins.separates rest).to_prefix v h))
+      (λ v h. none v (begins.law.to_prefix v h))
+
+  count_is_end : (v : ℤ) (count : ℕ) (following : List ℕ) → prefix int rest ≡ Ok (v, count)
+      → drop count rest ≡ separator ∷ following → count ≡ field_end separator rest
+  count_is_end v count following h cut =
+      let first = drop_first count rest separator following cut in
+      let within = begins.law.within v count h in
+      elim (leb_tells (field_end separator rest) count) [
+        | inl past ↦ omega arith
+        | inr before ↦ absurd (false≢true (sym (fails_before_first (ends separator) rest count 0 before.1)
+            ∙ eq-eqb (get_or rest count 0) separator first.1))
+      ]
 
   pub items_left-ended : (v : ℤ) (count : ℕ) (following : List ℕ)
       → prefix int rest ≡ Ok (v, count) → drop count rest ≡ separator ∷ following
       → items_left int separator index place rest ≡ Ok v ∷ items_left int separator (index + 1) (place + count + 1) following
   items_left-ended v count following h cut =
       let first = drop_first count rest separator following cut in
-      let within = (begins.law separator begins.separates rest).within v count h in
-      let at : count ≡ field_end separator rest = elim (leb_tells (field_end separator rest) count) [
-        | inl past ↦ omega arith
-        | inr before ↦ absurd (false≢true (sym (fails_before_first (ends separator) rest count 0 before.1)
-            ∙ eq-eqb (get_or rest count 0) separator first.1))
-      ] in
-      value_then v count h at ∙ ap (λ t. Ok v ∷ items_left int separator (index + 1) (place + count + 1) t) first.2
+      value_then v count h (count_is_end v count following h cut)
+      ∙ ap (λ t. Ok v ∷ items_left int separator (index + 1) (place + count + 1) t) first.2
 
   pub items_left-last : (v : ℤ) (count : ℕ) → prefix int rest ≡ Ok (v, count) → length (drop count rest) ≡ 0
       → items_left int separator index place rest ≡ Ok v ∷ items_left int separator index place []
   items_left-last v count h all =
-      let within = (begins.law separator begins.separates rest).within v count h in
+      let within = begins.law.within v count h in
       let end = prefix_len-le-length (λ byte. not (ends separator byte)) rest in
       let none : length (drop (count + 1) rest) ≡ 0 = omega (arith, length-drop count rest, length-drop (count + 1) rest) in
       value_then v count h (omega (arith, length-drop count rest))
       ∙ ap (λ items. Ok v ∷ items) (items_left-empty int separator (index + 1) (place + count + 1) (drop (count + 1) rest) none
       ∙ sym (items_left-nil int separator index place))
+
+  -- What is left after a number that a separator or the end of the input follows.
+  pub rest-ended : (v : ℤ) (count : ℕ) (following : List ℕ) → prefix int rest ≡ Ok (v, count)
+      → drop count rest ≡ separator ∷ following → following ≡ after_first (ends separator) rest
+  rest-ended v count following h cut =
+      let first = drop_first count rest separator following cut in
+      sym first.2 ∙ ap (λ n. drop (n + 1) rest) (count_is_end v count following h cut)
+
+  pub rest-last : (v : ℤ) (count : ℕ) → prefix int rest ≡ Ok (v, count) → length (drop count rest) ≡ 0
+      → [] ≡ after_first (ends separator) rest
+  rest-last v count h all =
+      let within = begins.law.within v count h in
+      let end = prefix_len-le-length (λ byte. not (ends separator byte)) rest in
+      sym (nil_from_length (after_first (ends separator) rest)
+      (omega (arith, length-drop count rest, length-drop (field_end separator rest + 1) rest)))
 
   pub items_left-trailing : (v : ℤ) (count byte : ℕ) (following : List ℕ)
       → prefix int rest ≡ Ok (v, count) → drop count rest ≡ byte ∷ following

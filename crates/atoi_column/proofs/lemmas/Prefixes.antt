@@ -1,19 +1,21 @@
 -- A field is accepted if and only if its number ends with it.
-use Rattle.std.proofs.Common.{◌≡◌, ℕ, ◌+◌, ◌==◌, ◌&&◌, ◌||◌, not, Bool, true, false, cond, if◌then◌else◌, List, [], ◌∷◌, ◌++◌, length, take, get_or, Result, Ok, Err, refl, sym, ap, ◌∙◌, subst, inl, inr, arith}
+use Rattle.std.proofs.Common.{◌≡◌, ℕ, ◌+◌, ◌≤◌, ◌==◌, ◌&&◌, ◌||◌, not, Bool, true, false, cond, if◌then◌else◌, List, [], ◌∷◌, ◌++◌, length, take, drop, get_or, ℤ, Result, Ok, Err, refl, sym, ap, ◌∙◌, subst, inl, inr, arith}
 use Rattle.std.proofs.lemmas.Bool.{eqb-true}
 use Rattle.std.specs.List.{prefix_len, position_or_len, before_first, after_first}
-use Rattle.std.proofs.lemmas.List.{take-append-le, take_all}
+use Rattle.std.proofs.lemmas.List.{take-append-le, take-append-drop, take_all, drop_all, drop_more}
 use Rattle.std.proofs.lemmas.List.Folds.{length-prefix_len}
 use Rattle.std.proofs.lemmas.List.Sums.{prefix_len-le-length, split_at_first, passes_at_first}
-use Rattle.std.proofs.lemmas.Bool.Decides.{leb_tells}
+use Rattle.std.proofs.lemmas.Bool.Decides.{leb_tells, nat_tests}
 use Rattle.atoi_core.specs.Digit.{decimal_table, is_digit}
 use Rattle.atoi_core.specs.Run.{run}
 use Rattle.atoi_core.specs.Refusal.{Refusal}
 use Rattle.atoi_core.specs.IntType.{IntType}
 use Rattle.atoi_core.specs.Sign.{Sign, plus_sign, minus_sign, sign_of}
-use Rattle.atoi_core.specs.Laws.{looked_for, prefix_call, HaveSameRun, HaveSameOutcome, PrefixIsWhole, PrefixOfCut, RestChangesNothing}
+use Rattle.atoi_core.specs.Answer.{parse_answer}
+use Rattle.atoi_core.specs.Text.{TextWrites, PrefixWrites, BeginsWithDigit}
+use Rattle.atoi_core.specs.Laws.{looked_for, prefix_call, HaveSameRun, HaveSameOutcome, AcceptedNumbers, PrefixesAndRests, PrefixIsWhole, PrefixOfCut, RestChangesNothing}
 use Rattle.atoi_column.specs.Fields.{is_separator}
-use Rattle.atoi_column.specs.Laws.{FieldsArePrefixes}
+use Rattle.atoi_column.specs.Laws.{FieldsArePrefixes, ResultsTellFields}
 
 -- A byte that fails `p` ends the prefix that passes.
 prefix_len-stops : (p : ℕ → Bool) (b : ℕ) (ys : List ℕ) → p b ≡ false → (xs : List ℕ) → prefix_len p (xs ++ b ∷ ys) ≡ prefix_len p xs
@@ -105,6 +107,19 @@ same_outcome-ok_back (Ok x) (Ok y) z same h = cc
 same_outcome-ok_back (Err reason) (Ok y) z same h = absurd same
 same_outcome-ok_back a (Err other) z same h = absurd (cc h)
 
+-- What `parse_prefix` finds at a field is no longer than the field.
+within_field : (int : IntType) → PrefixOfCut int → RestChangesNothing int → (separator : ℕ) → is_separator separator ≡ true
+    → (rest : List ℕ) (value : ℤ) (count : ℕ) → prefix_call int (looked_for true) true rest ≡ Ok (value, count)
+    → count ≤ position_or_len (λ byte. byte == separator) rest
+within_field int of_cut rest_changes separator is rest value count h =
+    let p : ℕ → Bool = λ byte. byte == separator in
+    let text : List ℕ = before_first p rest in
+    let same = rest_changes (looked_for true) true text rest (same_run_of_field int separator is rest) in
+    let cut = of_cut.cut (looked_for true) true text value count
+    (same_outcome-ok_back (prefix_call int (looked_for true) true text) (prefix_call int (looked_for true) true rest)
+    (value, count) same h) in
+    omega (arith, cut.1, length-prefix_len (λ byte. not (p byte)) rest)
+
 pub fields_are_prefixes : (int : IntType) → PrefixIsWhole int → PrefixOfCut int → RestChangesNothing int → FieldsArePrefixes int
 fields_are_prefixes int is_whole of_cut rest_changes separator is rest =
     let p : ℕ → Bool = λ byte. byte == separator in
@@ -120,7 +135,54 @@ fields_are_prefixes int is_whole of_cut rest_changes separator is rest =
       to_field = λ value h.
           is_whole.whole (looked_for true) true text value
           (rw ends (same_outcome-ok_back of_text of_rest (value, position_or_len p rest) same h));
-      within = λ value count h.
-          let cut = of_cut.cut (looked_for true) true text value count (same_outcome-ok_back of_text of_rest (value, count) same h) in
-          omega (arith, cut.1, ends);
+      within = within_field int of_cut rest_changes separator is rest;
     }
+
+-- No digit follows a field.
+field_ends : (separator : ℕ) → is_separator separator ≡ true → (rest : List ℕ)
+    → ¬ BeginsWithDigit (drop (position_or_len (λ byte. byte == separator) rest) rest)
+field_ends separator is rest =
+    let p : ℕ → Bool = λ byte. byte == separator in
+    elim (leb_tells (length rest) (position_or_len p rest)) [
+      | inl absent ↦ rw (drop_all (position_or_len p rest) rest absent.1) (λ none. none)
+      | inr found ↦
+          let at : get_or rest (position_or_len p rest) 0 ≡ separator = eqb-true _ _ (passes_at_first p rest 0 found.1) in
+          let no_digit = (apart separator is).no_digit in
+          rw (drop_more rest (position_or_len p rest) 0 found.1, at) (grind (arith, nat_tests))
+    ]
+
+module _ {T : Type 0} (int : IntType) (number : T → ℤ) (numbers : AcceptedNumbers int) (rests : PrefixesAndRests int)
+    (of_cut : PrefixOfCut int) (rest_changes : RestChangesNothing int) where
+  -- What writes the field is a prefix of `rest`.
+  prefix_of_field : (separator : ℕ) → is_separator separator ≡ true → (rest : List ℕ) (value : ℤ)
+      → parse_answer int true true (before_first (λ byte. byte == separator) rest) ≡ Ok value
+      → PrefixWrites (TextWrites int true) rest value (position_or_len (λ byte. byte == separator) rest)
+  prefix_of_field separator is rest value accepted =
+      let p : ℕ → Bool = λ byte. byte == separator in
+      let text : List ℕ = before_first p rest in
+      let parts : rest ≡ text ++ drop (position_or_len p rest) rest = sym (take-append-drop (position_or_len p rest) rest) in
+      rw (length-prefix_len (λ byte. not (p byte)) rest) at
+      (rests.of_parts (looked_for true) rest text (drop (position_or_len p rest) rest) value parts
+      (numbers.written (looked_for true) true text value accepted) (field_ends separator is rest))
+
+  pub results_tell_fields : ResultsTellFields int number
+  results_tell_fields separator is rest (Ok found) answer writes none =
+      let end : ℕ = position_or_len (λ byte. byte == separator) rest in
+      record {
+        to_prefix = λ value accepted.
+            let one = rests.only (looked_for true) rest (number found.0) value found.1 end writes
+            (prefix_of_field separator is rest value accepted) in
+            let same : Ok (number found.0, found.1) ≡ Ok (value, end) = rw (one.0, one.1) refl in
+            sym answer ∙ same;
+        to_field = λ value h.
+            let same : (number found.0, found.1) ≡ (value, end) = cc (answer, h) in
+            let value_is : number found.0 ≡ value = ap (λ (pair : ℤ × ℕ). pair.0) same in
+            let count_is : found.1 ≡ end = ap (λ (pair : ℤ × ℕ). pair.1) same in
+            numbers.accepted (looked_for true) (take end rest) value (rw (value_is, count_is) at writes.written);
+        within = within_field int of_cut rest_changes separator is rest;
+      }
+  results_tell_fields separator is rest (Err error) answer writes none = record {
+    to_prefix = λ value accepted. absurd (none value _ (prefix_of_field separator is rest value accepted));
+    to_field = λ value h. absurd (cc (answer, h));
+    within = within_field int of_cut rest_changes separator is rest;
+  }
