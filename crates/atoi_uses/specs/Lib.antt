@@ -6,6 +6,7 @@ pub mod Addresses
 pub mod StatusLines
 pub mod Pairs
 pub mod Points
+pub mod CutLines
 pub mod Durations
 pub mod BadFields
 pub mod Arrays

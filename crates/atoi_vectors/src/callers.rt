@@ -8,6 +8,7 @@ mod bad_lines;
 mod block_totals;
 mod cents;
 mod commands;
+mod cut_lines;
 mod durations;
 mod own_engine;
 mod pairs;

@@ -165,8 +165,24 @@ fn check_pos<E: Engine, T: Number>(
     give!(rt;
         parts(whole_pos::<E, T>(skip, body.bytes, &mut steps))
             => body.whole(class, bound, skip).map(|number| (false, number));
+        parts(atoi_fast::whole_pos::<E, T>(skip, body.bytes, &mut steps))
+            => body.whole(class, bound, skip).map(|number| (false, number));
         prefix_parts(prefix_pos::<E, T>(skip, body.bytes, &mut steps))
             => body.prefix(class, bound, skip).map(|(number, len)| (false, number, len));
+    );
+    for skip_plus in [false, true] {
+        check_text::<E, T>(rt, skip, skip_plus, body.bytes);
+    }
+}
+
+// Checks that the tuned calls for a text with a sign return what the plain ones return.
+fn check_text<E: Engine, T: Number>(rt: &impl Abort, skip: bool, skip_plus: bool, text: &[u8]) {
+    let mut steps = Steps::new();
+    give!(rt;
+        parts(atoi_fast::parse_text::<E, T>(skip, skip_plus, text, &mut steps))
+            => parts(atoi_core::parse_text::<E, T>(skip, skip_plus, text, &mut steps));
+        prefix_parts(atoi_fast::parse_prefix_text::<E, T>(skip, skip_plus, text, &mut steps))
+            => prefix_parts(atoi_core::parse_prefix_text::<E, T>(skip, skip_plus, text, &mut steps));
     );
 }
 
@@ -182,6 +198,8 @@ fn check_both<E: Engine, T: Signed>(
     check_pos::<E, T>(rt, class, magnitude.saturating_sub(1), skip, body);
     give!(rt;
         parts(whole_neg::<E, T>(skip, body.bytes, &mut steps))
+            => body.whole(class, magnitude, skip).map(|number| (number > 0, number));
+        parts(atoi_fast::whole_neg::<E, T>(skip, body.bytes, &mut steps))
             => body.whole(class, magnitude, skip).map(|number| (number > 0, number));
         prefix_parts(prefix_neg::<E, T>(skip, body.bytes, &mut steps))
             => body.prefix(class, magnitude, skip).map(|(number, len)| (number > 0, number, len));

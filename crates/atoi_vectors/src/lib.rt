@@ -2,6 +2,8 @@
 #![tactic(auto)]
 
 #[cfg(test)]
+mod ascii_numbers;
+#[cfg(test)]
 mod both;
 #[cfg(test)]
 mod callers;

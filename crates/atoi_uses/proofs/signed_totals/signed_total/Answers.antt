@@ -4,7 +4,7 @@ use Rattle.std.specs.Int.{w128}
 use Rattle.std.proofs.lemmas.Int.{ints}
 use Rattle.std.proofs.lemmas.List.Sums.{fold-append}
 use Rattle.atoi_core.specs.IntType.{i64_type}
-use Rattle.atoi_column.specs.Items.{item_of, items_of}
+use Rattle.atoi_column.specs.Items.{column_items, item_of, items_of}
 use Rattle.atoi_uses.proofs.signed_totals.signed_total.Goals as goal
 
 pub loop-item-init : goal.loop-item-init
@@ -34,10 +34,11 @@ loop-item-preserved c =
     let value : c.from-total.result ≡ number = search rules in
     let items = items_of i64_type c.args.separator c.args.input.now in
     let before = c.loop-item.invariant in
-    let left = c.next.new.self in
-    let step : c.loop-item.item-iterator ≡ Ok number ∷ left =
-    c.in-Some.ensures.steps ∙ ap (λ item. item_of (λ n. n) item ∷ left) c.in-Ok.is in
-    let read = c.items_in_turn.ensures.more_values items c.loop-item.item-iterator left before.numbers (number ∷ []) before.read step in
+    let old = column_items i64_type c.loop-item.item-iterator in
+    let left = column_items i64_type c.next.new.self in
+    let step : old ≡ Ok number ∷ left =
+    c.in-Some.ensures.steps.0 ∙ ap (λ item. item_of (λ n. n) item ∷ left) c.in-Ok.is in
+    let read = c.items_in_turn.ensures.more_values items old left before.numbers (number ∷ []) before.read step in
     let bytes : length items ≤ length c.args.input.now = search rules in
     let few : length c.args.input.now < 2 ^ 64 = search rules in
     let more = length-append before.numbers (number ∷ []) in
