@@ -3,29 +3,27 @@
 //! an operating system.
 //!
 //! ```
-//! use torkettle::{AtoiSimdError, parse, parse_prefix};
+//! use torkettle::{from_ascii, from_ascii_prefix};
 //!
-//! const SKIP_ZEROES: bool = true; // allows any number of leading zeros
-//! const SKIP_PLUS: bool = false; // allows no `+`
-//!
-//! assert_eq!(parse::<u8, SKIP_ZEROES, SKIP_PLUS>(b"042"), Ok(42));
-//! assert_eq!(parse::<u8, SKIP_ZEROES, SKIP_PLUS>(b"+42"), Err(AtoiSimdError::Empty));
-//! assert_eq!(parse_prefix::<u16, SKIP_ZEROES, SKIP_PLUS>(b"8080/tcp"), Ok((8080, 4)));
+//! assert_eq!(from_ascii::<u8>(b"042"), Ok(42));
+//! assert_eq!(from_ascii::<u8>(b"256").unwrap_err().to_string(), "number out of range");
+//! assert_eq!(from_ascii_prefix::<u16>(b"8080/tcp"), Ok((8080, 4)));
 //! ```
 //!
 //! | To read | Call |
 //! |---|---|
-//! | a slice that is one number | [`parse`] |
-//! | the number at the start of a slice, and its length | [`parse_prefix`] |
+//! | a slice that is one number | [`from_ascii`] |
+//! | the number at the start of a slice, and its length | [`from_ascii_prefix`] |
+//! | the same, with flags and the errors of `atoi_simd` | [`parse`], [`parse_prefix`] |
 //! | digits without a sign, or after a `-` | [`parse_pos`], [`parse_neg`], [`parse_prefix_pos`], [`parse_prefix_neg`] |
 //! | numbers with a separator between them, or one per line | [`column::Fields`] |
 //! | such numbers up to the first error | [`column::Column`] |
 //! | the lines of a file of any size | `column::LineReader`, with the feature `std` |
 //! | the integers of a version, a date, an address or JSON | the functions of [`formats`] |
 //!
-//! Without `SKIP_ZEROES`, leading zeros are accepted too, but they count as digits, and some calls limit
-//! the number of digits ([`AtoiSimdError::Size`]). The [`guide`] has more: flags, errors, files, embedded
-//! systems, debug builds and platforms.
+//! Without the flag `SKIP_ZEROES` of `parse`, leading zeros are accepted too, but they count as digits, and
+//! some calls limit the number of digits ([`AtoiSimdError::Size`]). The [`guide`] has more: flags, errors,
+//! files, embedded systems, debug builds and platforms.
 //!
 //! # In place of `atoi_simd`
 //!
@@ -67,7 +65,7 @@
 #[cfg(not(target_pointer_width = "64"))]
 compile_error!("torkettle needs a target with 64-bit pointers: its proofs are for no others");
 
-// `.ci/erase` makes these modules of the proved crates, and keeps the lines of their sources. Some of their
+// `.ci/translate` makes these modules of the proved crates, and keeps the lines of their sources. Some of their
 // public functions are only for the crates themselves, whose proofs meet their conditions.
 #[cfg(target_pointer_width = "64")]
 #[allow(dead_code, unused_imports, unused_variables)]
@@ -97,6 +95,8 @@ extern crate std;
 #[cfg(all(target_pointer_width = "64", feature = "std"))]
 mod line_reader;
 
+#[cfg(target_pointer_width = "64")]
+pub use proved::atoi_formats::{IntError, from_ascii, from_ascii_prefix};
 #[cfg(target_pointer_width = "64")]
 pub use proved::atoi_simd::{
     AtoiSimdError, Parse, ParseNeg, parse, parse_any, parse_any_neg, parse_any_pos, parse_neg,

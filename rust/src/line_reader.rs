@@ -56,7 +56,8 @@ pub struct LineReader<R> {
     forgotten: Option<usize>,
 }
 
-/// The numbers of some lines of a [`LineReader`]. If you drop it before the end, the other lines are skipped.
+/// The numbers of some lines of a [`LineReader`]. If you drop it before the end, the other lines are skipped. If you
+/// leak it, as by [`mem::forget`](core::mem::forget), the positions of later lines do not count these lines.
 ///
 /// ```
 /// use torkettle::column::LineReader;
@@ -173,6 +174,11 @@ impl<R: Read> LineReader<R> {
     /// let line = reader.next_line().unwrap().unwrap().unwrap();
     /// assert_eq!((line.index, line.place), (2, 9));
     /// ```
+    ///
+    /// # Panics
+    ///
+    /// Later calls of `next_numbers` and `next_line` may panic if `index` or `place`, plus the length of the input,
+    /// exceeds `usize::MAX`.
     #[must_use]
     pub fn starting_at(mut self, index: usize, place: usize) -> LineReader<R> {
         self.position = (index, place);
@@ -221,9 +227,9 @@ impl<R: Read> LineReader<R> {
             Filled::TooLong(error) => (0..0, Some(error)),
             Filled::End => return Ok(None),
         };
-        self.start += lines.len();
         let (text, (index, place)) = (&self.text[lines], self.position);
         let fields = Fields::lines(text).starting_at(index, place);
+        self.start += text.len();
         let end = place + text.len();
         Ok(Some(Numbers { fields, too_long, text, end, position: &mut self.position }))
     }
@@ -283,7 +289,7 @@ impl<R: Read> LineReader<R> {
         }
         let (longest_line, (index, place)) = (self.longest_line, self.position);
         if let Some(forgotten) = self.forgotten.take() {
-            self.position.1 += forgotten;
+            self.advance(0, forgotten);
             self.step_over_line();
             return Ok(Filled::TooLong(LineError::TooLong { index, place, longest_line }));
         }
@@ -322,8 +328,16 @@ impl<R: Read> LineReader<R> {
     fn step_over_line(&mut self) {
         // This searches faster than an iterator. A slice can be read.
         let length = (&self.text[self.start..self.end]).skip_until(b'\n').unwrap_or(0);
+        self.advance(1, length);
         self.start += length;
-        self.position = (self.position.0 + 1, self.position.1 + length);
+    }
+
+    fn advance(&mut self, lines: usize, bytes: usize) {
+        let (index, place) = self.position;
+        self.position = match (index.checked_add(lines), place.checked_add(bytes)) {
+            (Some(index), Some(place)) => (index, place),
+            _ => panic!("the position after a line exceeds usize::MAX"),
+        };
     }
 }
 

@@ -294,16 +294,17 @@ fn a_read_gives_the_numbers_of_the_next_items() {
     }
 }
 
-// At each step, how many items are left is within the hint, and a clone gives them.
-fn check_hints<I: Iterator + Clone>(mut items: I)
+// At each step, a clone gives the items that are left. The hint is one, if there are some, and the bytes of their
+// fields.
+fn check_hints<I: Iterator + Clone>(mut items: I, text: &str, separator: char)
 where
-    I::Item: PartialEq + std::fmt::Debug,
+    I::Item: PartialEq + Debug,
 {
-    loop {
+    for index in 0.. {
         let left: Vec<_> = items.clone().collect();
-        let (least, most) = items.size_hint();
-        assert_eq!(least, left.len().min(1));
-        assert!(left.len() <= most.unwrap_or(0));
+        let bytes = text.splitn(index + 1, separator).nth(index).map_or(0, str::len);
+        let hint = if left.is_empty() { (0, Some(0)) } else { (1, Some(bytes)) };
+        assert_eq!(items.size_hint(), hint, "before item {index} of {text:?}");
         match items.next() {
             Some(item) => assert_eq!(left.first(), Some(&item)),
             None => return,
@@ -314,9 +315,51 @@ where
 #[test]
 fn hints_and_clones_are_true() {
     for text in COLUMNS {
-        check_hints(Column::<i8>::new(text.as_bytes(), b','));
-        check_hints(Fields::<i8>::new(text.as_bytes(), b','));
-        check_hints(Fields::<i8>::lines(text.replace(',', "\n").as_bytes()));
+        check_hints(Column::<i8>::new(text.as_bytes(), b','), text, ',');
+        check_hints(Fields::<i8>::new(text.as_bytes(), b','), text, ',');
+        let lines = text.replace(',', "\n");
+        check_hints(Fields::<i8>::lines(lines.as_bytes()), &lines, '\n');
+    }
+}
+
+// A number of each length.
+fn each_length() -> impl Iterator<Item = usize> {
+    std::iter::successors(Some(usize::MAX), |number| (*number >= 10).then_some(number / 10))
+}
+
+// An error ignores the width, the fill and the rest of the format.
+fn check_message(error: impl std::fmt::Display, message: &str) {
+    assert_eq!(error.to_string(), message);
+    assert_eq!(format!("{error:3}"), message);
+    assert_eq!(format!("{error:150}|"), format!("{message}|"));
+    assert_eq!(format!("{error:*>150}"), message);
+    assert_eq!(format!("{error:é^150.5}"), message);
+    assert_eq!(format!("{error:+#0150}"), message);
+}
+
+#[test]
+fn each_error_prints_its_message_in_every_format() {
+    let text = &b"-12x"[..];
+    let causes = [
+        (AtoiSimdError::Empty, "has no digit at its start", None),
+        (AtoiSimdError::Size(17, &text[1..]), "is out of range", None),
+        (AtoiSimdError::Overflow(&text[1..]), "is out of range", None),
+        (AtoiSimdError::Invalid64(12, 2, &text[1..]), "has an unexpected byte", Some(3)),
+        (AtoiSimdError::Invalid128(12, 2, &text[1..]), "has an unexpected byte", Some(3)),
+    ];
+    for index in each_length() {
+        for place in each_length() {
+            let trailing = format!("field {index} has an unexpected byte at byte {place}");
+            check_message(ColumnError::Trailing { index, place }, &trailing);
+            for (cause, fault, offset) in causes {
+                let message = format!("field {index} at byte {place} {fault}");
+                check_message(ColumnError::Field { index, place, cause }, &message);
+                let byte =
+                    offset.map(|offset: u128| format!(" at byte {}", place as u128 + offset));
+                let error = FieldError { index, place, text, cause };
+                check_message(error, &(message + &byte.unwrap_or_default()));
+            }
+        }
     }
 }
 

@@ -9,6 +9,7 @@ mod threads;
 
 use std::collections::VecDeque;
 use std::io::{self, Cursor, ErrorKind, Read};
+use std::panic::{AssertUnwindSafe, catch_unwind};
 use torkettle::column::{Fields, LineError, LineReader};
 
 // Line ends of every kind, lines that are empty, longer than most pieces or no number, and a last line
@@ -196,6 +197,50 @@ fn a_dropped_iterator_skips_its_lines() {
         }
         assert_eq!(reader.position(), (14, 109), "{taken} taken");
     }
+}
+
+#[test]
+fn the_lines_of_a_leaked_iterator_are_not_counted() {
+    // A read of the input returns one line.
+    let input = Cursor::new(b"1\n").chain(Cursor::new(b"2x\n"));
+    let mut reader = LineReader::new(input).starting_at(10, 100);
+    std::mem::forget(reader.next_numbers::<u8>());
+    assert_eq!(reader.position(), (10, 100));
+    let line =
+        reader.next_line().expect("it can be read").expect("it is there").expect("it is short");
+    assert_eq!((line.index, line.place, line.text), (10, 100, &b"2x"[..]));
+}
+
+// The message of the panic of a call, if it panics.
+fn panic_of(call: impl FnOnce()) -> Option<String> {
+    let panic = catch_unwind(AssertUnwindSafe(call)).err()?;
+    let message = panic.downcast_ref::<&str>().map(ToString::to_string);
+    message.or_else(|| panic.downcast_ref::<String>().cloned())
+}
+
+#[test]
+fn positions_above_the_greatest_panic_with_a_sentence() {
+    const INPUT: &[u8] = b"1\n22\n";
+    let starts = [
+        (usize::MAX, 0, "exceeds usize::MAX", "too many indices"),
+        (0, usize::MAX, "exceeds usize::MAX", "end above usize::MAX"),
+        (0, usize::MAX - 4, "exceeds usize::MAX", "end above usize::MAX"),
+    ];
+    for (index, place, of_lines, of_numbers) in starts {
+        let panics = |longest, call: fn(&mut LineReader<&[u8]>)| {
+            let reader = LineReader::with_longest_line(longest, INPUT);
+            panic_of(|| call(&mut reader.starting_at(index, place))).unwrap_or_default()
+        };
+        let by_lines = panics(9, |reader| while reader.next_line().unwrap().is_some() {});
+        let by_long_lines = panics(0, |reader| while reader.next_line().unwrap().is_some() {});
+        let by_numbers = panics(9, |reader| drop(reader.next_numbers::<u8>()));
+        assert!(by_lines.contains(of_lines), "{by_lines:?} from {index} at {place}");
+        assert!(by_long_lines.contains(of_lines), "{by_long_lines:?} from {index} at {place}");
+        assert!(by_numbers.contains(of_numbers), "{by_numbers:?} from {index} at {place}");
+    }
+    let mut last = LineReader::new(INPUT).starting_at(usize::MAX - 5, usize::MAX - 5);
+    while last.next_line().expect("a slice can be read").is_some() {}
+    assert_eq!(last.position(), (usize::MAX - 3, usize::MAX));
 }
 
 #[test]

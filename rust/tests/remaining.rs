@@ -1,5 +1,5 @@
 //! The second reading of a source: what must remain of it in Rust, item by item. It has its own
-//! tokenizer, and follows the grammar of what remains, where the eraser looks for what to leave out.
+//! tokenizer and grammar, of what remains and not of all that the sources may have.
 
 /// A token and its line.
 pub type Token = (usize, String);

@@ -1,16 +1,21 @@
 //! The code that the pages quote and that no example has.
 
+use std::error::Error;
 use std::io::{self, Read};
 use std::num::ParseIntError;
 use torkettle::column::{Column, ColumnError, FieldError, Fields, LineReader, is_separator};
 use torkettle::formats::digits_then;
 use torkettle::{
-    AtoiSimdError, Parse, parse, parse_neg, parse_pos, parse_prefix, parse_prefix_neg,
-    parse_prefix_pos,
+    AtoiSimdError, Parse, from_ascii, from_ascii_prefix, parse, parse_neg, parse_pos, parse_prefix,
+    parse_prefix_neg, parse_prefix_pos,
 };
 
 #[test]
 fn numbers() {
+    assert_eq!(from_ascii::<i64>(b"-2345"), Ok(-2345));
+    assert_eq!(from_ascii_prefix::<u16>(b"80/tcp"), Ok((80, 2)));
+    assert_eq!(from_ascii::<u8>(b"256").unwrap_err().to_string(), "number out of range");
+
     assert_eq!(parse::<i64, false, false>(b"-2345"), Ok(-2345));
     assert_eq!(parse_pos::<u128, true>(b"0012"), Ok(12));
     assert_eq!(parse_neg::<i8, false>(b"128"), Ok(-128));
@@ -60,6 +65,20 @@ fn columns() {
     assert_eq!(fields.next(), Some(Err(error)));
     assert_eq!(fields.next(), Some(Ok(3)));
     assert_eq!(fields.next(), None);
+}
+
+fn port(text: &str) -> Result<u16, Box<dyn Error>> {
+    let number = text.strip_prefix("port ").ok_or("no port")?;
+    Ok(from_ascii(number.as_bytes())?)
+}
+
+#[test]
+fn errors_that_travel() {
+    let message = |text| port(text).unwrap_err().to_string();
+    assert_eq!(port("port 8080").unwrap(), 8080);
+    assert_eq!(message("port 80x"), "unexpected byte at byte 2");
+    assert_eq!(message("port "), "no digit at byte 0");
+    assert_eq!(message("port 65536"), "number out of range");
 }
 
 fn total(input: &[u8]) -> Result<u64, ColumnError<'_>> {
@@ -145,6 +164,24 @@ fn total_of_third_column(table: impl Read) -> io::Result<(u64, Vec<(usize, usize
 
 fn parse_as_std(text: &str) -> Result<u32, ParseIntError> {
     parse::<u32, true, true>(text.as_bytes()).or_else(|_| text.parse())
+}
+
+fn number_at(text: &[u8]) -> Result<(u32, usize), AtoiSimdError<'_>> {
+    match text {
+        [digit @ b'0'..=b'9', next, ..] if !next.is_ascii_digit() => {
+            Ok((u32::from(digit - b'0'), 1))
+        }
+        _ => parse_prefix::<u32, true, true>(text),
+    }
+}
+
+#[test]
+fn a_number_at_the_start_by_a_test_for_one_digit() {
+    for text in ["7,8", "70,8", "7", "+7,", "4294967295;", "0,", "x", "", "7x"] {
+        let text = text.as_bytes();
+        assert_eq!(number_at(text), parse_prefix::<u32, true, true>(text));
+    }
+    assert_eq!(number_at(b"9 "), Ok((9, 1)));
 }
 
 // Returns the numbers of a row such as `1,2,3`. The row `1,2,` has three cells, of which the last is empty.

@@ -1,4 +1,4 @@
-//! Reads the proved sources a second time, without the eraser: every token that must remain of each source is
+//! Reads the proved sources a second time, without `tools/translate`: every token that must remain of each source is
 //! in the Rust below `rust/src/proved`, in its order and on its line, and no other token but comments, which
 //! are what the source has there. So a change of that Rust by hand is noticed, too.
 
@@ -18,13 +18,14 @@ fn what_must_remain_remains() {
         let folder = Path::new(TOP).join("crates").join(name).join("src");
         for file in sources(&folder) {
             let module = file.strip_prefix(&folder).unwrap().to_str().unwrap();
-            let text = fs::read_to_string(&file).unwrap();
+            let read_from = twin(name, module).unwrap_or_else(|| file.clone());
+            let text = fs::read_to_string(&read_from).unwrap();
             let Some(source) = in_package(name, module, &text) else { continue };
             let made = Path::new(TOP).join("rust/src/proved").join(name);
             let made = made.join(module.replace("lib.rt", "mod.rs").replace(".rt", ".rs"));
             let rust = fs::read_to_string(&made).unwrap();
-            let head =
-                format!("/* Made by .ci/erase from crates/{name}/src/{module}. Do not edit. */ ");
+            let from = read_from.strip_prefix(TOP).unwrap().display();
+            let head = format!("/* Made by .ci/translate from {from}. Do not edit. */ ");
             let rust = rust.strip_prefix(&head).unwrap_or_else(|| panic!("{}", made.display()));
             let kept = remaining::remaining(name, &source);
             clauses += compare(&kept, &remaining::tokens(rust), &text, &file);
@@ -93,13 +94,15 @@ fn compare(kept: &[Token], made: &[Token], source: &str, file: &Path) -> usize {
     stay
 }
 
-// The text of a module in the package, where the engines are others, or nothing if it is left out.
+// The file that stands in place of a module, where the package has other engines.
+fn twin(name: &str, module: &str) -> Option<PathBuf> {
+    let is_named = module == "default_engine.rt";
+    is_named.then(|| Path::new(TOP).join("rust/default_engine").join(name).with_extension("rs"))
+}
+
+// The text of a module in the package, or nothing if it is left out.
 fn in_package(name: &str, module: &str, source: &str) -> Option<String> {
     let source = match (name, module) {
-        ("atoi_simd", "default_engine.rt") => source.replace("atoi_core::Words", "atoi_fast::Swar"),
-        ("atoi_lanes", "default_engine.rt") => {
-            source.replace("crate::lanes::Lanes", "atoi_fast::Vectors")
-        }
         ("atoi_lanes", "lib.rt") => {
             let lines = source.split_inclusive('\n').map(|line| match line.trim_end() {
                 "pub mod kernels;" | "mod lanes;" | "mod wide_lanes;" | "mod window_32;" => "\n",

@@ -1,4 +1,4 @@
-/* Made by .ci/erase from crates/atoi_column/src/clones.rt. Do not edit. */ //! A clone of an iterator gives the same items.
+/* Made by .ci/translate from crates/atoi_column/src/clones.rt. Do not edit. */ //! A clone of an iterator gives the same items.
 
 use crate::proved::atoi_column::column::Column;
 use crate::proved::atoi_column::fields::Fields;

@@ -1,13 +1,13 @@
-/* Made by .ci/erase from crates/atoi_column/src/column.rt. Do not edit. */ //! An iterator over the numbers of a byte slice, each field read by one `parse_prefix`.
-// ghost use Rattle.std.specs.Prelude.{◌≡◌, ◌<◌, ◌≤◌, true, length, All, IfErr};
-// ghost use Rattle.std.specs.Iterator.{YieldsFirstBy, item_count};
+/* Made by .ci/translate from crates/atoi_column/src/column.rt. Do not edit. */ //! An iterator over the numbers of a byte slice, each field read by one `parse_prefix`.
+// ghost use Rattle.std.specs.Prelude.{◌≡◌, ◌<◌, ◌≤◌, true, Some, length, min, All, IfSome, IfErr};
+// ghost use Rattle.std.specs.Iterator.{UpTo, item_count};
+// ghost use Rattle.std.specs.Iterator.SizeHint.{IsWithinCount};
 // ghost use Rattle.atoi_column.specs.Fields.{is_separator};
-// ghost use Rattle.atoi_column.specs.Items.{index_of, item_of, items_of, place_of};
+// ghost use Rattle.atoi_column.specs.Items.{GivesFirstItem, column_in, column_items, index_of, items_of, place_of};
 
 use crate::proved::atoi_column::error::ColumnError;
-use crate::proved::atoi_column::fields::{first_number, short_field};
-use crate::proved::atoi_column::laws::fields_are_prefixes;
-use crate::proved::atoi_simd::Parse;
+use crate::proved::atoi_column::laws::{fields_are_prefixes, results_tell_fields};
+use crate::proved::atoi_simd::{Parse, parse_prefix};
 use core::iter::FusedIterator;
 use core::marker::{ PhantomData};
 
@@ -56,16 +56,19 @@ pub struct Column<'a, T: Parse> {
 }
 
 // impl<'a, T: Parse> Model for Column<'a, T> {
-//     ghost use Rattle.std.specs.Prelude.{List, [], Result, ℤ, if◌then◌else◌};
-//     ghost use Rattle.atoi_column.specs.Items.{Flaw};
+//     ghost use Rattle.std.specs.Prelude.{[], if◌then◌else◌};
+//     ghost use Rattle.atoi_column.specs.Items.{ColumnLeft};
 
-//     ghost Value = { List (Result ℤ Flaw) };
+//     ghost Value = { ColumnLeft };
 
-//     ghost use Rattle.atoi_column.specs.Items.{items_left};
 //     ghost use Rattle.atoi_column.specs.Position.{IsPosition};
 
-//     ghost view = { λ column. if column.has_ended then [] else items_left T.int_type
-//         column.separator column.index column.place column.rest.now };
+//     ghost view = { λ column. record {
+//       separator = column.separator;
+//       index = column.index;
+//       place = column.place;
+//       rest = if column.has_ended then [] else column.rest.now;
+//     } };
 
 //     ghost invariant = { λ column. IsPosition column.separator column.index column.place
 //         column.rest.now };
@@ -92,10 +95,11 @@ impl<'a, T: Parse> Column<'a, T> {
     #[inline]
     pub fn new(input: &'a [u8], separator: u8) -> Column<'a, T>
         // requires { is_separator separator ≡ true }
-        // ensures items { result ≡ items_of T.int_type separator input.now }
-        // ensures fits { length result ≤ length input.now }
-        // ensures places { All (λ item. IfErr item (λ flaw.
-        //     (place_of flaw < length input.now) × (index_of flaw < length input.now))) result }
+        // ensures left { result ≡ column_in separator input.now }
+        // ensures items { column_items T.int_type result ≡ items_of T.int_type separator input.now }
+        // ensures fits { length (column_items T.int_type result) ≤ length input.now }
+        // ensures places { All (λ item. IfErr item (λ flaw. (place_of flaw < length input.now)
+        //     × (index_of flaw < length input.now))) (column_items T.int_type result) }
     {assert!(crate::column::is_separator(separator), "a sign or a digit separates fields");
         fields_are_prefixes::<T>();
         Column {
@@ -112,26 +116,20 @@ impl<'a, T: Parse> Column<'a, T> {
 impl<'a, T: Parse> Iterator for Column<'a, T> {
     type Item = Result<T, ColumnError<'a>>;
 
-    // ghost next_gives = { YieldsFirstBy (item_of T.number) (λ left. left) };
+    // ghost next_gives = { GivesFirstItem T.int_type T.number };
 
-    // ghost remaining = { item_count (λ left. left) };
+    // ghost remaining = { item_count (column_items T.int_type) };
 
     #[inline(always)]
     fn next(&mut self) -> Option<Result<T, ColumnError<'a>>> {
-        fields_are_prefixes::<T>();
+        results_tell_fields::<T>();
         let (rest, index, place) = (self.rest, self.index, self.place);
         if self.has_ended || rest.is_empty() {
             return None;
         }
-        if let Some((value, following)) = short_field::<T>(rest, self.separator) {
-            self.rest = following;
-            self.index = index + 1;
-            self.place = place + 2;
-            return Some(Ok(value));
-        }
         // No item follows unless a separator is found.
         self.has_ended = true;
-        let (value, count) = match first_number::<T, true>(rest, false) {
+        let (value, count) = match parse_prefix::<T, true, true>(rest) {
             Ok(found) => found,
             Err(cause) => return Some(Err(ColumnError::Field {
                 index,
@@ -157,7 +155,11 @@ impl<'a, T: Parse> Iterator for Column<'a, T> {
 
     // A field has at least one byte, or a separator after it.
     #[inline]
-    fn size_hint(&self) -> (usize, Option<usize>) {
+    fn size_hint(&self) -> (usize, Option<usize>)
+        // ensures lower { IsWithinCount result.0 (item_count (column_items T.int_type) self.now) }
+        // ensures upper { IfSome result.1 (UpTo (item_count (column_items T.int_type) self.now)) }
+        // ensures exact { result ≡ (min (length self.now.rest) 1, Some (length self.now.rest)) }
+    {
         let left = if self.has_ended { 0 } else { self.rest.len() };
         (left.min(1), Some(left))
     }

@@ -1,4 +1,4 @@
-/* Made by .ci/erase from crates/atoi_column/src/error.rt. Do not edit. */ //! Why a field of a column has no value.
+/* Made by .ci/translate from crates/atoi_column/src/error.rt. Do not edit. */ //! Why a field of a column has no value.
 // ghost use Rattle.std.specs.Prelude.{◌≡◌, ◌+◌, ◌-◌, ◌^◌, ◌↔◌, IsTrue, min};
 // ghost use Rattle.atoi_core.specs.Refusal.{refusal_of};
 // ghost use Rattle.atoi_column.specs.ErrorText.{fault_text};

@@ -1,4 +1,4 @@
-/* Made by .ci/erase from crates/atoi_column/src/field_error.rt. Do not edit. */ //! What is wrong with a field that `Fields` refuses.
+/* Made by .ci/translate from crates/atoi_column/src/field_error.rt. Do not edit. */ //! What is wrong with a field that `Fields` refuses.
 // ghost use Rattle.std.specs.Prelude.{◌≡◌, ◌+◌, ◌-◌, ◌^◌, ◌↔◌, IsTrue, min};
 // ghost use Rattle.atoi_core.specs.Refusal.{refusal_of};
 // ghost use Rattle.atoi_column.specs.ErrorText.{fault_text, unexpected_place};

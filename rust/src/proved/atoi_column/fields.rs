@@ -1,6 +1,7 @@
-/* Made by .ci/erase from crates/atoi_column/src/fields.rt. Do not edit. */ //! An iterator over the fields of a byte slice, which goes on after an error.
-// ghost use Rattle.std.specs.Prelude.{◌≡◌, ◌+◌, ◌^◌, ◌<◌, ◌≤◌, ◌==◌, ◌∷◌, ◌++◌, ℕ, ℤ, true, false, None, Ok, length, take, drop, map, All, IsFalse, IfSome, IfNone, IfOk, IfErr};
-// ghost use Rattle.std.specs.Iterator.{item_count};
+/* Made by .ci/translate from crates/atoi_column/src/fields.rt. Do not edit. */ //! An iterator over the fields of a byte slice, which goes on after an error.
+// ghost use Rattle.std.specs.Prelude.{◌≡◌, ◌+◌, ◌^◌, ◌<◌, ◌≤◌, ◌==◌, ◌∷◌, ◌++◌, ℕ, ℤ, true, false, None, Some, Ok, length, min, take, drop, map, All, IsFalse, IfSome, IfNone, IfOk, IfErr};
+// ghost use Rattle.std.specs.Iterator.{UpTo, item_count};
+// ghost use Rattle.std.specs.Iterator.SizeHint.{IsWithinCount};
 // ghost use Rattle.std.specs.Option.{option_map};
 // ghost use Rattle.std.specs.List.{position_or_len, after_first};
 // ghost use Rattle.atoi_core.specs.Answer.{parse_answer, parse_prefix_answer, typed_prefix_answer};
@@ -211,7 +212,11 @@ impl<'a, T: Parse> Iterator for Fields<'a, T> {
 
     // A field has at least one byte, or a separator after it.
     #[inline]
-    fn size_hint(&self) -> (usize, Option<usize>) {
+    fn size_hint(&self) -> (usize, Option<usize>)
+        // ensures lower { IsWithinCount result.0 (item_count (field_items_left T.int_type) self.now) }
+        // ensures upper { IfSome result.1 (UpTo (item_count (field_items_left T.int_type) self.now)) }
+        // ensures exact { result ≡ (min (length self.now.rest) 1, Some (length self.now.rest)) }
+    {
         let left = self.rest.len();
         (left.min(1), Some(left))
     }
@@ -242,32 +247,30 @@ fn accepted_field<T: Parse>(
             return Some((value, following));
         }
     }
-    let (value, count) = first_number::<T, false>(rest, guess.have_minus).ok()?;
+    let (value, count) = first_number::<T>(rest, guess.have_minus).ok()?;
     let following = after_field(&rest[count..], separator, trims)?;
     Some((value, following))
 }
 
-// `parse_prefix`. Unless some numbers `have_minus`, a first digit says that there is no sign.
+// `parse_prefix` without a plus. Unless some numbers `have_minus`, a first digit says that there is no sign.
 #[inline(always)]
-pub(crate) fn first_number<T: Parse, const PLUS: bool>(
-    rest: &[u8],
-    have_minus: bool,
-) -> Result<(T, usize), AtoiSimdError<'_>>
+fn first_number<T: Parse>(rest: &[u8], have_minus: bool) -> Result<(T, usize), AtoiSimdError<'_>>
     // ensures answer { typed_prefix_answer T.number result
-    //     ≡ parse_prefix_answer T.int_type true PLUS rest.now }
+    //     ≡ parse_prefix_answer T.int_type true false rest.now }
     // ensures within { IfOk result (λ found. found.1 ≤ length rest.now) }
     // ensures prefix { IfOk result (λ found.
-    //     PrefixWrites (TextWrites T.int_type PLUS) rest.now (T.number found.0) found.1) }
+    //     PrefixWrites (TextWrites T.int_type false) rest.now (T.number found.0) found.1) }
 {
     match rest {
         [b'0'..=b'9', ..] if T::SIGNED && !have_minus => parse_prefix_pos::<T, true>(rest),
-        _ => parse_prefix::<T, true, PLUS>(rest),
+        _ if !T::SIGNED => parse_prefix_pos::<T, true>(rest),
+        _ => parse_prefix::<T, true, false>(rest),
     }
 }
 
 // Returns the number of a first field of one byte, and what follows its separator.
 #[inline(always)]
-pub(crate) fn short_field<T: Parse>(rest: &[u8], separator: u8) -> Option<(T, &[u8])>
+fn short_field<T: Parse>(rest: &[u8], separator: u8) -> Option<(T, &[u8])>
     // ensures { is_separator separator ≡ true → IfSome result (λ found. IsShortField T.int_type separator
     //     rest.now (T.number found.0) found.1.now) }
 {

@@ -1,4 +1,4 @@
-/* Made by .ci/erase from crates/atoi_column/src/guesses.rt. Do not edit. */ //! Numbers of which it is guessed how many digits they have.
+/* Made by .ci/translate from crates/atoi_column/src/guesses.rt. Do not edit. */ //! Numbers of which it is guessed how many digits they have.
 // ghost use Rattle.std.specs.Prelude.{◌≡◌, ℕ, ◌+◌, ◌*◌, ◌^◌, ◌<◌, ◌≤◌, ◌∷◌, [], true, Some, if◌then◌else◌, List, length, take, drop, get_or, IfSome};
 // ghost use Rattle.atoi_core.specs.IntType.{bound_of};
 // ghost use Rattle.atoi_core.specs.Sign.{minus_sign, with_sign};

@@ -1,9 +1,10 @@
-/* Made by .ci/erase from crates/atoi_column/src/laws.rt. Do not edit. */ //! Laws about columns and fields, for the proofs of callers; `specs/Laws.antt` says each in words.
-// ghost use Rattle.atoi_column.specs.Laws.{TextsAndItems, ItemsDecide, ItemsInTurn, FirstField, FieldsDecide, ErrorsArePlaced, ColumnStopsAtError, PiecesInTurn, FieldsArePrefixes};
+/* Made by .ci/translate from crates/atoi_column/src/laws.rt. Do not edit. */ //! Laws about columns and fields, for the proofs of callers; `specs/Laws.antt` says each in words.
+// ghost use Rattle.atoi_column.specs.Laws.{TextsAndItems, ItemsDecide, ItemsInTurn, FirstField, FieldsDecide, ErrorsArePlaced, ColumnStopsAtError, PiecesInTurn, FieldsArePrefixes, ResultsTellFields};
 
 use crate::proved::atoi_core::Number;
 use crate::proved::atoi_core::laws::{
-    accepted_numbers, accepted_texts, prefix_is_whole, prefix_of_cut, rest_changes_nothing,
+    accepted_numbers, accepted_texts, prefix_is_whole, prefix_of_cut, prefixes_and_rests,
+    rest_changes_nothing,
 };
 
 /// The items of an input are the numbers of its fields, up to the first that is no text of the type.
@@ -68,6 +69,17 @@ use crate::proved::atoi_core::laws::{
     // ensures { FieldsArePrefixes T.int_type }
 {
     prefix_is_whole::<T>();
+    prefix_of_cut::<T>();
+    rest_changes_nothing::<T>();
+}
+
+// The same of a field at which `parse_prefix` was called, from its contract.
+// #[tactic(auto, using(crate::proofs::lemmas::Prefixes::results_tell_fields))]
+#[inline] pub(crate) fn results_tell_fields<T: Number>()
+    // ensures { ResultsTellFields T.int_type T.number }
+{
+    accepted_numbers::<T>();
+    prefixes_and_rests::<T>();
     prefix_of_cut::<T>();
     rest_changes_nothing::<T>();
 }

@@ -1,4 +1,4 @@
-/* Made by .ci/erase from crates/atoi_column/src/lib.rt. Do not edit. */ //! Columns of decimal integers: the fields of a byte slice, separated by one byte.
+/* Made by .ci/translate from crates/atoi_column/src/lib.rt. Do not edit. */ //! Columns of decimal integers: the fields of a byte slice, separated by one byte.
 // #![tactic(auto)]
 
 mod clones;

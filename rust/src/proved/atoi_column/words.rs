@@ -1,4 +1,4 @@
-/* Made by .ci/erase from crates/atoi_column/src/words.rt. Do not edit. */ //! Numbers of which it is known how many digits they have, read as words of eight bytes, the first byte
+/* Made by .ci/translate from crates/atoi_column/src/words.rt. Do not edit. */ //! Numbers of which it is known how many digits they have, read as words of eight bytes, the first byte
 //! lowest.
 // ghost use Rattle.std.specs.Prelude.{◌≡◌, ℕ, ◌+◌, ◌*◌, ◌/◌, ◌%◌, ◌^◌, ◌<◌, ◌≤◌, ◌==◌, true, length, take, drop, IfSome};
 // ghost use Rattle.std.specs.Int.Bits.{bit_and};

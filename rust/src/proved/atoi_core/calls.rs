@@ -1,19 +1,17 @@
-/* Made by .ci/erase from crates/atoi_core/src/calls.rt. Do not edit. */ //! The parses of an integer type: the sign, then the digits with the parser for the type's size. The
+/* Made by .ci/translate from crates/atoi_core/src/calls.rt. Do not edit. */ //! The parses of an integer type: the sign, then the digits with the parser for the type's size. The
 //! four *core calls* parse digits without a sign.
-// ghost use Rattle.std.specs.Prelude.{◌≡◌, ◌+◌, ◌<◌, ◌≤◌, true, false, IfOk, length, drop};
+// ghost use Rattle.std.specs.Prelude.{◌≡◌, ◌+◌, ◌≤◌, true, false, IfOk, length};
 // ghost use Rattle.atoi_core.specs.Answer.{typed_answer, typed_prefix_answer, text_answer, text_prefix_answer, whole_answer, prefix_answer};
 // ghost use Rattle.atoi_core.specs.IntType.{class_of, bound_of, limit_of};
 // ghost use Rattle.atoi_core.specs.Loads.{TypedLoads};
-// ghost use Rattle.atoi_core.specs.Magnitude.{IsBound, whole, prefix, whole_magnitude, prefix_magnitude};
-// ghost use Rattle.atoi_core.specs.Reading.{decision, window_of};
+// ghost use Rattle.atoi_core.specs.Magnitude.{whole, prefix, whole_magnitude, prefix_magnitude};
 // ghost use Rattle.atoi_core.specs.Refusal.{answer_of};
 // ghost use Rattle.atoi_core.specs.Sign.{sign_of};
 
 use crate::proved::atoi_core::engine::Engine;
 use crate::proved::atoi_core::engine::steps::Steps;
 use crate::proved::atoi_core::error::AtoiSimdError;
-use crate::proved::atoi_core::loops::wide_answer::found_or_empty;
-use crate::proved::atoi_core::narrow::{narrow_answer, narrow_prefix, narrow_whole_windows};
+use crate::proved::atoi_core::narrow::{narrow_prefix, narrow_whole_windows};
 use crate::proved::atoi_core::number::{Number, Signed, greatest_magnitude, limit_64};
 use crate::proved::atoi_core::wide::{whole_64, whole_128};
 
@@ -30,33 +28,8 @@ pub fn parse_text<'a, E: Engine, T: Number>(
     // ensures loads { TypedLoads E.table T.int_type whole skip (sign_of T.SIGNED skip_plus s.now).body
     //     steps.old steps.new }
 {
-    if s.len() <= 1 {
-        return match s {
-            [b'0'..=b'9'] => whole_pos::<E, T>(skip, s, steps),
-            _ => parse_no_digit::<E, T>(skip, skip_plus, s, steps),
-        };
-    }
     let (minus, body) = take_sign(T::SIGNED, skip_plus, s);
     whole_with_sign::<E, T>(minus, skip, body, steps)
-}
-
-// `parse_text` for a byte that is no digit, or none.
-#[cold]
-#[inline(never)]
-fn parse_no_digit<'a, E: Engine, T: Number>(
-    skip: bool,
-    skip_plus: bool,
-    s: &'a [u8],
-    steps: &mut Steps,
-) -> Result<T, AtoiSimdError<'a>>
-    // requires { length s.now ≤ 1 }
-    // ensures answer { typed_answer T.number result ≡ text_answer E.table T.int_type skip skip_plus s.now }
-    // ensures loads { TypedLoads E.table T.int_type whole skip (sign_of T.SIGNED skip_plus s.now).body
-    //     steps.old steps.new }
-{
-    let (minus, body) = take_sign(T::SIGNED, skip_plus, s);
-    // LLVM then leaves out the parser of longer slices.
-    whole_with_sign::<E, T>(minus, skip, &body[..body.len().min(1)], steps)
 }
 
 /// Parses the number at the start of `s`, and returns it with its length, the sign included. Returns the
@@ -89,29 +62,11 @@ pub fn take_sign(signed: bool, skip_plus: bool, s: &[u8]) -> (bool, &[u8])
     // ensures taken { length result.1.now + (sign_of signed skip_plus s.now).taken ≡ length s.now }
     // ensures minus_if_signed { result.0 ≡ true → signed ≡ true }
 {
-    if !signed && !skip_plus {
-        return (false, s);
+    match s {
+        [b'+', body @ ..] if skip_plus => (false, body),
+        [b'-', body @ ..] if signed => (true, body),
+        _ => (false, s),
     }
-    let [first, ..] = s else {
-        return (false, s);
-    };
-    // Before the `+`: with the sign set on two paths, the compiler would branch on it.
-    let minus = signed & (*first == b'-');
-    if skip_plus && *first == b'+' {
-        return (minus, without_first(s));
-    }
-    // Sliced by 0 or 1: with mixed signs, a branch would be mispredicted.
-    (minus, &s[usize::from(minus)..])
-}
-
-// Never inlined, so that a `+` is a branch: with a select, the digits' address would wait for the
-// first byte.
-#[inline(never)]
-fn without_first(s: &[u8]) -> &[u8]
-    // requires { 1 ≤ length s.now }
-    // ensures { result.now ≡ drop 1 s.now }
-{
-    &s[1..]
 }
 
 /// Parses all of `s`, digits without a sign, as a `T` that is not negative. With `skip`, leading
@@ -174,7 +129,8 @@ pub fn prefix_neg<'a, E: Engine, T: Signed>(
     prefix_with_sign::<E, T>(true, skip, s, steps)
 }
 
-// Like `whole_neg` if `minus` is set, otherwise like `whole_pos`.
+// Like `whole_neg` if `minus` is set, otherwise like `whole_pos`: a type that may be unsigned has no
+// `whole_neg`.
 #[inline(always)]
 // #[tactic(auto, using(crate::proofs::lemmas::Calls::whole_in_bounds))]
 fn whole_with_sign<'a, E: Engine, T: Number>(
@@ -191,11 +147,11 @@ fn whole_with_sign<'a, E: Engine, T: Number>(
     Ok(T::from_parts(minus, magnitude))
 }
 
-// Returns the magnitude, by the parser for the type's size. Of at most 64 bits, one window decides fewer
-// than 16 bytes, and 128 bits need a test less without that.
+/// Returns the magnitude that `whole_pos` returns, or with `minus` that `whole_neg` negates, by the parser
+/// for the type's size. The errors are the same.
 #[inline(always)]
 // #[tactic(auto, using(crate::proofs::lemmas::Refusals::narrow_whole_limit))]
-fn whole_by_size<'a, E: Engine, T: Number>(
+pub fn whole_by_size<'a, E: Engine, T: Number>(
     minus: bool,
     skip: bool,
     s: &'a [u8],
@@ -207,59 +163,21 @@ fn whole_by_size<'a, E: Engine, T: Number>(
     // ensures loads { TypedLoads E.table T.int_type whole skip s.now steps.old steps.new }
 {
     let bound = greatest_magnitude::<T>(minus);
-    if T::BITS == 128 {
-        return whole_128::<E>(bound, skip, s, steps);
-    }
-    if s.len() < 16 {
-        return whole_short::<E, T>(bound, s, steps);
-    }
     if T::BITS <= 32 {
         let number = narrow_whole_windows::<E>(bound as u64, s, steps)?;
         Ok(u128::from(number))
-    } else {
+    } else if T::BITS == 64 {
         let number = whole_64::<E>(bound as u64, limit_64::<T>(), skip, s, steps)?;
         Ok(u128::from(number))
-    }
-}
-
-// Returns the magnitude of fewer than 16 bytes, which one window decides: they never have too many
-// digits.
-#[inline(always)]
-fn whole_short<'a, E: Engine, T: Number>(
-    bound: u128,
-    s: &'a [u8],
-    steps: &mut Steps,
-) -> Result<u128, AtoiSimdError<'a>>
-    // requires bound { IsBound T.BITS (limit_of T.int_type) bound }
-    // requires short { length s.now < 16 }
-    // ensures answer { answer_of result ≡ decision (class_of T.int_type) bound (window_of E.table 16 s.now).len
-    //     (window_of E.table 16 s.now).number s.now }
-    // ensures one_step { steps.new ≡ steps.old + 1 }
-{
-    // LLVM joins this cast with the engine's.
-    let size = s.len() as u32;
-    let window = E::window(s, steps);
-    let is_whole = window.len == size;
-    let len = window.len as usize;
-    if T::BITS <= 32 {
-        let number = narrow_answer(bound as u64, len, is_whole, window.number, s)?;
-        return Ok(u128::from(number));
-    }
-    if is_whole && !s.is_empty() {
-        return Ok(u128::from(window.number));
-    }
-    let (number, digits) = found_or_empty(window.number, len)?;
-    if T::BITS == 64 {
-        Err(AtoiSimdError::Invalid64(number, digits, s))
     } else {
-        Err(AtoiSimdError::Invalid128(u128::from(number), digits, s))
+        whole_128::<E>(bound, skip, s, steps)
     }
 }
 
-// Like `prefix_neg` if `minus` is set, otherwise like `prefix_pos`.
+/// Like `prefix_neg` if `minus` is set, otherwise like `prefix_pos`, for a type that may be unsigned.
 #[inline(always)]
 // #[tactic(auto, using(crate::proofs::lemmas::Calls::prefix_in_bounds))]
-fn prefix_with_sign<'a, E: Engine, T: Number>(
+pub fn prefix_with_sign<'a, E: Engine, T: Number>(
     minus: bool,
     skip: bool,
     s: &'a [u8],

@@ -1,4 +1,4 @@
-/* Made by .ci/erase from crates/atoi_core/src/engine.rt. Do not edit. */ //! The reads that parsers make, and the parses of wide integers that they are enough for.
+/* Made by .ci/translate from crates/atoi_core/src/engine.rt. Do not edit. */ //! The reads that parsers make, and the parses of wide integers that they are enough for.
 // ghost use Rattle.std.specs.Prelude.{◌≡◌, ◌+◌, ◌≤◌};
 // ghost use Rattle.atoi_core.specs.Digit.{Table, IsBelowTen};
 // ghost use Rattle.atoi_core.specs.Loads.{ClassLoads};

@@ -1,4 +1,4 @@
-/* Made by .ci/erase from crates/atoi_core/src/error.rt. Do not edit. */ //! The error of a parse, and the order of errors.
+/* Made by .ci/translate from crates/atoi_core/src/error.rt. Do not edit. */ //! The error of a parse, and the order of errors.
 // ghost use Rattle.std.specs.Prelude.{◌≡◌, ◌↔◌, IsTrue, Some};
 // ghost use Rattle.atoi_core.specs.Refusal.{refusal_of, refusal_cmp};
 

@@ -1,4 +1,4 @@
-/* Made by .ci/erase from crates/atoi_core/src/error_kinds.rt. Do not edit. */ //! Where an error is in the parsed text, and its kind as `str::parse` tells it.
+/* Made by .ci/translate from crates/atoi_core/src/error_kinds.rt. Do not edit. */ //! Where an error is in the parsed text, and its kind as `str::parse` tells it.
 // ghost use Rattle.std.specs.Prelude.{◌≡◌};
 // ghost use Rattle.atoi_core.specs.Refusal.{refusal_of};
 // ghost use Rattle.atoi_core.specs.ErrorKinds.{kind_of, offset_in};
@@ -33,8 +33,8 @@ impl AtoiSimdError<'_> {
         text.len().checked_sub(input.len())?.checked_add(index)
     }
 
-    /// Returns the kind of the error that `str::parse` returns for the same text. `text` is the slice that
-    /// `parse::<T, true, true>` got, with its sign. See the [guide](crate::guide#errors).
+    /// Returns the kind of the error, in our tests the kind that `str::parse` returns for the same text.
+    /// `text` is the slice that `parse::<T, true, true>` got, with its sign. See the [guide](crate::guide#errors).
     ///
     /// **Proved:** the result is [as specified](crate::specification#errors-refusalantt-errortextantt-errorkindsantt).
     ///

@@ -1,4 +1,4 @@
-/* Made by .ci/erase from crates/atoi_core/src/laws.rt. Do not edit. */ //! Laws about what the parses return, for the proofs of callers. A law is a function that does nothing
+/* Made by .ci/translate from crates/atoi_core/src/laws.rt. Do not edit. */ //! Laws about what the parses return, for the proofs of callers. A law is a function that does nothing
 //! and whose contract is a fact; `specs/Laws.antt` says each in words.
 // ghost use Rattle.atoi_core.specs.IntType.{int_type};
 // ghost use Rattle.atoi_core.specs.Laws.{TextOfValue, AcceptedTexts, AcceptedNumbers, WholeResults, PrefixResults, PrefixesAndRests, NumberThenByte, OneNumber, PrefixBegins, NoneOrTooLarge, DecimalTexts, PrefixIsWhole, PrefixOfCut, PrefixStopsAtRest, RestChangesNothing, SkippingAgrees, OrderAndSuffix, ZerosChangeNothing};

@@ -1,4 +1,4 @@
-/* Made by .ci/erase from crates/atoi_core/src/loops.rt. Do not edit. */ //! Loops over an engine's windows, the powers that join them, and the answers that they decide.
+/* Made by .ci/translate from crates/atoi_core/src/loops.rt. Do not edit. */ //! Loops over an engine's windows, the powers that join them, and the answers that they decide.
 // ghost use Rattle.std.specs.Prelude.{◌≡◌, ◌+◌, ◌*◌, ◌/◌, ◌<◌, ◌≤◌, nat_lt, if◌then◌else◌, length, drop};
 // ghost use Rattle.atoi_core.specs.Run.{run_len, zeros};
 // ghost use Rattle.atoi_core.specs.Reading.{window_of};

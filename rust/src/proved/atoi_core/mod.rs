@@ -1,4 +1,4 @@
-/* Made by .ci/erase from crates/atoi_core/src/lib.rt. Do not edit. */ //! The parsers that `atoi_simd` and `atoi_lanes` share, over any engine, and the definitions of what
+/* Made by .ci/translate from crates/atoi_core/src/lib.rt. Do not edit. */ //! The parsers that `atoi_simd` and `atoi_lanes` share, over any engine, and the definitions of what
 //! they return.
 // #![tactic(auto)]
 
@@ -15,7 +15,8 @@ mod wide;
 pub mod words;
 
 pub use crate::proved::atoi_core::calls::{
-    parse_prefix_text, parse_text, prefix_neg, prefix_pos, take_sign, whole_neg, whole_pos,
+    parse_prefix_text, parse_text, prefix_neg, prefix_pos, prefix_with_sign, take_sign,
+    whole_by_size, whole_neg, whole_pos,
 };
 pub use crate::proved::atoi_core::engine::Engine;
 pub use crate::proved::atoi_core::engine::alphabet::Alphabet;
@@ -24,8 +25,8 @@ pub use crate::proved::atoi_core::engine::steps::Steps;
 pub use crate::proved::atoi_core::engine::window::Window;
 pub use crate::proved::atoi_core::error::{AtoiSimdError, Parsed, clones_are_the_same};
 pub use crate::proved::atoi_core::loops::{powers, wide_answer, window_after_zeros};
-pub use crate::proved::atoi_core::narrow::{narrow_prefix, narrow_whole_windows};
-pub use crate::proved::atoi_core::number::{Number, Signed};
+pub use crate::proved::atoi_core::narrow::{narrow_answer, narrow_prefix, narrow_whole_windows};
+pub use crate::proved::atoi_core::number::{Number, Signed, greatest_magnitude};
 pub use crate::proved::atoi_core::text::decimal;
 pub use crate::proved::atoi_core::wide::{whole_64, whole_128};
 pub use crate::proved::atoi_core::words::Words;

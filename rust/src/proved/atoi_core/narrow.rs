@@ -1,4 +1,4 @@
-/* Made by .ci/erase from crates/atoi_core/src/narrow.rt. Do not edit. */ //! Parsers of integers of at most 32 bits, whose last window decides the answer.
+/* Made by .ci/translate from crates/atoi_core/src/narrow.rt. Do not edit. */ //! Parsers of integers of at most 32 bits, whose last window decides the answer.
 // ghost use Rattle.std.specs.Prelude.{◌≡◌, ◌+◌, ◌-◌, ◌<◌, ◌≤◌, ◌==◌, true, false, not, ◌&&◌, ◌||◌, nat_lt, if◌then◌else◌, Ok, Err, length, take, drop};
 // ghost use Rattle.atoi_core.specs.Loads.{ClassLoads, LoadsWithin, most_loads};
 // ghost use Rattle.atoi_core.specs.Magnitude.{narrow, whole_magnitude, prefix_magnitude};
@@ -93,9 +93,9 @@ fn narrow_whole_after_zeros<'a, E: Engine>(
     narrow_answer(bound, len, len == s.len(), last.number, s)
 }
 
-// The answer for all of `s`, of which `len` digits spell `number`. LLVM joins the first test with the
-// engine's.
-#[inline] pub(crate) fn narrow_answer(
+/// The answer for all of `s`, of which `len` digits spell `number`, and `is_whole` says that these are all
+/// bytes. The errors are `Empty`, `Overflow` and `Invalid64`.
+#[inline] pub fn narrow_answer(
     bound: u64,
     len: usize,
     is_whole: bool,

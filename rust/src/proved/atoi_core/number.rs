@@ -1,4 +1,4 @@
-/* Made by .ci/erase from crates/atoi_core/src/number.rt. Do not edit. */ //! What a parse needs to know of an integer type.
+/* Made by .ci/translate from crates/atoi_core/src/number.rt. Do not edit. */ //! What a parse needs to know of an integer type.
 // ghost use Rattle.std.specs.Prelude.{◌≡◌, ◌+◌, ◌^◌, ◌<◌, ◌≤◌, ◌<ℤ◌, ◌↔◌, ℕ, ℤ, pos, Bool, true, false, IsTrue, refl};
 // ghost use Rattle.atoi_core.specs.IntType.{IntType, IsTypeOf, bound_of, limit_of, u8_type, i8_type, u16_type, i16_type, u32_type, i32_type, u64_type, i64_type, u128_type, i128_type, usize_type, isize_type};
 // ghost use Rattle.atoi_core.specs.Magnitude.{IsBound};
@@ -67,8 +67,8 @@ pub trait Signed: Number {
     // ghost signed: { (Self.SIGNED ≡ true) × (LEAST_MAGNITUDE ≡ Self.GREATEST + 1) };
 }
 
-// Returns the magnitude of `T::MIN` if `minus` is set, otherwise `T::MAX`.
-#[inline] pub(crate) fn greatest_magnitude<T: Number>(minus: bool) -> u128
+/// Returns the magnitude of `T::MIN` if `minus` is set, otherwise `T::MAX`.
+#[inline] pub fn greatest_magnitude<T: Number>(minus: bool) -> u128
     // requires signed { minus ≡ true → T.SIGNED ≡ true }
     // ensures value { result ≡ bound_of T.int_type minus }
     // ensures bound { IsBound T.BITS (limit_of T.int_type) result }

@@ -1,4 +1,4 @@
-/* Made by .ci/erase from crates/atoi_core/src/text.rt. Do not edit. */ //! The text of an error, written into a slice.
+/* Made by .ci/translate from crates/atoi_core/src/text.rt. Do not edit. */ //! The text of an error, written into a slice.
 // ghost use Rattle.std.specs.Prelude.{◌≡◌, ◌+◌, ◌-◌, ◌*◌, ◌/◌, ◌%◌, ◌^◌, ◌<◌, ◌≤◌, ◌++◌, true, Some, length, take, codes, decimal, IsAscii};
 // ghost use Rattle.std.specs.Fmt.{digit_glyph};
 // ghost use Rattle.atoi_core.specs.ErrorText.{hex_text, hex_list, input_text, invalid_text, error_text};

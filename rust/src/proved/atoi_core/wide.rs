@@ -1,4 +1,4 @@
-/* Made by .ci/erase from crates/atoi_core/src/wide.rt. Do not edit. */ //! Parsers of all of a slice as an integer of 64 or 128 bits.
+/* Made by .ci/translate from crates/atoi_core/src/wide.rt. Do not edit. */ //! Parsers of all of a slice as an integer of 64 or 128 bits.
 // ghost use Rattle.std.specs.Prelude.{◌≡◌, ◌≤◌};
 // ghost use Rattle.atoi_core.specs.Loads.{ClassLoads};
 // ghost use Rattle.atoi_core.specs.Magnitude.{HasDigits, IsBound64, wide64, wide128, whole_magnitude};

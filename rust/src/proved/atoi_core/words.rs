@@ -1,4 +1,4 @@
-/* Made by .ci/erase from crates/atoi_core/src/words.rt. Do not edit. */ //! Functions on words, and the engine that reads windows by them. A *word* holds eight or sixteen
+/* Made by .ci/translate from crates/atoi_core/src/words.rt. Do not edit. */ //! Functions on words, and the engine that reads windows by them. A *word* holds eight or sixteen
 //! bytes, the first one lowest.
 // ghost use Rattle.std.specs.Prelude.{◌≡◌, ◌<◌, ◌≤◌, length, take};
 // ghost use Rattle.atoi_core.specs.Digit.{decimal_table};

@@ -1,4 +1,4 @@
-/* Made by .ci/erase from crates/atoi_fast/src/after_16.rt. Do not edit. */ //! The answer of a prefix of 64 bits after its first sixteen digits, from words of four bytes.
+/* Made by .ci/translate from crates/atoi_fast/src/after_16.rt. Do not edit. */ //! The answer of a prefix of 64 bits after its first sixteen digits, from words of four bytes.
 // ghost use Rattle.std.specs.Prelude.{◌≡◌, ◌+◌, ◌-◌, ◌^◌, ◌<◌, ◌≤◌, nat_lt, if◌then◌else◌, length, take, drop, false, Ok, Err, MatchOption};
 // ghost use Rattle.atoi_core.specs.Digit.{decimal_table};
 // ghost use Rattle.atoi_core.specs.Magnitude.{IsBound64, wide64, prefix_magnitude};

@@ -1,9 +1,10 @@
-/* Made by .ci/erase from crates/atoi_fast/src/digits.rt. Do not edit. */ //! How many digits and zeros a word begins with, and the number that they spell: the kernels of
+/* Made by .ci/translate from crates/atoi_fast/src/digits.rt. Do not edit. */ //! How many digits and zeros a word begins with, and the number that they spell: the kernels of
 //! `atoi_core::words` with fewer instructions.
-// ghost use Rattle.std.specs.Prelude.{◌≡◌, ◌<◌, ◌≤◌, ◌++◌, nat_lt, drop};
+// ghost use Rattle.std.specs.Prelude.{◌≡◌, ℕ, ◌*◌, ◌%◌, ◌^◌, ◌<◌, ◌≤◌, ◌++◌, nat_lt, drop};
 // ghost use Rattle.atoi_core.specs.Digit.{decimal_table};
 // ghost use Rattle.atoi_core.specs.Run.{run_len, zeros};
 // ghost use Rattle.atoi_core.specs.Words.{low_bytes, low_value};
+// ghost use Rattle.atoi_fast.specs.Short.{at_top};
 // ghost use Rattle.std.specs.Int.Bits.{bit_and, bit_xor};
 
 /// Eight zeros, each the byte 48.
@@ -107,17 +108,49 @@ pub(crate) const FOUR_ZEROS: u32 = 0x3030_3030;
     tens.wrapping_mul(0x64_0001) >> 16
 }
 
-// `process_8` for bytes below 16. The two sums of four digits are joined by one small product,
-// which needs no 64-bit constant.
-// #[tactic(auto, using(atoi_core::proofs::lemmas::LoweredWords::sum_of_fields, atoi_core::proofs::lemmas::WordFields::sum_most))]
+// `process_8` for bytes below 16.
+// #[tactic(auto, using(atoi_core::proofs::lemmas::WordFields::sum_most))]
 #[inline] pub(crate) fn sum_of(digits: u64) -> u64
     // requires { bit_and digits 0x0F0F_0F0F_0F0F_0F0F ≡ digits }
     // ensures sum { result ≡ low_value (low_bytes 8 digits) }
     // ensures most { result ≤ 166666665 }
 {
-    let tens = (digits.wrapping_mul(0xA01) >> 8) & 0x00FF_00FF_00FF_00FF;
+    sum_of_product(digits.wrapping_mul(0xA01))
+}
+
+// What `sum_of` returns, after its first product. The two sums of four digits are joined by one small
+// product, which needs no 64-bit constant.
+// #[tactic(auto, using(atoi_core::proofs::lemmas::LoweredWords::sum_of_fields))]
+#[inline] fn sum_of_product(product: u64) -> u64
+    // ensures { (digits : ℕ) → digits < 2 ^ 64 → bit_and digits 0x0F0F_0F0F_0F0F_0F0F ≡ digits
+    //     → product ≡ digits * 0xA01 % 2 ^ 64 → result ≡ low_value (low_bytes 8 digits) }
+{
+    let tens = (product >> 8) & 0x00FF_00FF_00FF_00FF;
     let hundreds = tens.wrapping_mul(0x64_0001);
     ((hundreds >> 16) & 0xFFFF) * 10_000 + (hundreds >> 48)
+}
+
+// Indexed by how many digits there are: `sum_of`'s first factor, shifted by eight bytes less the digits.
+const FACTORS: [u64; 8] = [
+    0,
+    0xA01 << 56,
+    0xA01 << 48,
+    0xA01 << 40,
+    0xA01 << 32,
+    0xA01 << 24,
+    0xA01 << 16,
+    0xA01 << 8,
+];
+
+/// Returns the number of the lowest `len` bytes of `digits`, which are digits minus 48. One product by
+/// a factor from a table takes the place of a shift and a product.
+#[inline] pub(crate) fn value_by_product(digits: u64, len: u32) -> u64
+    // requires few { len < 8 }
+    // requires halves { bit_and (at_top len digits) 0x0F0F_0F0F_0F0F_0F0F ≡ at_top len digits }
+    // ensures sum { result ≡ low_value (low_bytes len digits) }
+    // ensures most { result ≤ 16666665 }
+{
+    sum_of_product(digits.wrapping_mul(FACTORS[len as usize]))
 }
 
 /// `digits_of` for a word of four bytes.

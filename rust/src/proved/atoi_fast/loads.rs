@@ -1,5 +1,5 @@
-/* Made by .ci/erase from crates/atoi_fast/src/loads.rt. Do not edit. */ //! Words that are loaded from a slice. A missing byte is 0.
-// ghost use Rattle.std.specs.Prelude.{◌≡◌, ◌-◌, ◌<◌, ◌≤◌, ◌++◌, length, take, drop, replicate};
+/* Made by .ci/translate from crates/atoi_fast/src/loads.rt. Do not edit. */ //! Words that are loaded from a slice. A missing byte is 0.
+// ghost use Rattle.std.specs.Prelude.{◌≡◌, ◌-◌, ◌*◌, ◌^◌, ◌<◌, ◌≤◌, ◌++◌, length, take, drop, replicate};
 // ghost use Rattle.std.specs.Int.Bits.{bit_xor};
 // ghost use Rattle.atoi_core.specs.Words.{word_of};
 
@@ -31,8 +31,18 @@ pub(crate) fn load_flipped(s: &[u8]) -> u64
     let front = (u32::from(s[0]) | load_four_from(fours, 0)) ^ FOUR_ZEROS;
     let back = (load_last_four(fours) | (load_last_two(s) << 16)) ^ FOUR_ZEROS;
     // A product takes less time than a shift on many processors.
-    let shifted = u64::from(front).wrapping_mul(u64::from_le_bytes(SHORT[s.len()]));
+    let shifted = u64::from(front).wrapping_mul(factor_of(s.len()));
     shifted | (u64::from(back) << 32)
+}
+
+/// Returns the factor that moves the lowest of `len` bytes to where `load_flipped` has the first byte.
+#[inline(always)]
+pub(crate) fn factor_of(len: usize) -> u64
+    // requires some { 1 ≤ len }
+    // requires few { len ≤ 8 }
+    // ensures { result ≡ 2 ^ (64 - 8 * len) }
+{
+    u64::from_le_bytes(SHORT[len])
 }
 
 /// Returns the word of the first 8 bytes from `at` on. If fewer follow, shifts the last 8 bytes of `s`

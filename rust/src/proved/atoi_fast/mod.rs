@@ -1,13 +1,20 @@
-/* Made by .ci/erase from crates/atoi_fast/src/lib.rt. Do not edit. */ //! Two fast engines for the parsers of `atoi_core`: `Swar` reads words, and `Vectors` reads vectors of
-//! sixteen bytes. They have parsers of 64 and 128 bits of their own, and are tuned for rustc's build.
+/* Made by .ci/translate from crates/atoi_fast/src/lib.rt. Do not edit. */ //! Two fast engines for the parsers of `atoi_core`: `Swar` reads words, and `Vectors` reads vectors of
+//! sixteen bytes. They have parsers of 64 and 128 bits of their own. The parses in `calls` stand in place of
+//! those of `atoi_core`. All are tuned for rustc's build.
 // #![tactic(auto)]
 
 mod after_16;
+mod calls;
 mod digits;
+mod in_range;
 mod loads;
 mod one_byte;
+mod short_prefix;
+mod short_slice;
+mod sign;
 mod swar;
 #[cfg(feature = "lanes")] mod vectors;
 
+pub use crate::proved::atoi_fast::calls::{parse_prefix_text, parse_text, whole_neg, whole_pos};
 pub use crate::proved::atoi_fast::swar::Swar;
 #[cfg(feature = "lanes")] pub use crate::proved::atoi_fast::vectors::Vectors;

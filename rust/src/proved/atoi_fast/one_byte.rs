@@ -1,4 +1,4 @@
-/* Made by .ci/erase from crates/atoi_fast/src/one_byte.rt. Do not edit. */ //! The window of at most one byte, for both engines: most numbers of many texts have one digit.
+/* Made by .ci/translate from crates/atoi_fast/src/one_byte.rt. Do not edit. */ //! The window of at most one byte, for both engines: most numbers of many texts have one digit.
 // ghost use Rattle.std.specs.Prelude.{◌≡◌, ◌≤◌, length};
 // ghost use Rattle.atoi_core.specs.Digit.{decimal_table};
 // ghost use Rattle.atoi_core.specs.Reading.{window_of};

@@ -1,4 +1,4 @@
-/* Made by .ci/erase from crates/atoi_fast/src/swar.rt. Do not edit. */ //! The engine `Swar`, which reads a window as one word of eight bytes, or as two.
+/* Made by .ci/translate from crates/atoi_fast/src/swar.rt. Do not edit. */ //! The engine `Swar`, which reads a window as one word of eight bytes, or as two.
 // ghost use Rattle.std.specs.Prelude.{◌≡◌, ◌+◌, ◌-◌, ◌*◌, ◌^◌, ◌<◌, ◌≤◌, ◌==◌, true, length, drop};
 // ghost use Rattle.atoi_core.specs.Digit.{decimal_table};
 // ghost use Rattle.atoi_core.specs.Loads.{LoadsWithin, most_loads};

@@ -1,4 +1,4 @@
-/* Made by .ci/erase from crates/atoi_fast/src/vectors.rt. Do not edit. */ //! The engine `Vectors`, which reads sixteen bytes at once into the lanes of a vector.
+/* Made by .ci/translate from crates/atoi_fast/src/vectors.rt. Do not edit. */ //! The engine `Vectors`, which reads sixteen bytes at once into the lanes of a vector.
 // ghost use Rattle.std.specs.Prelude.{◌≡◌, ◌+◌, ◌<◌, ◌≤◌, length, take};
 // ghost use Rattle.std.proofs.Common.{arith};
 // ghost use Rattle.std.proofs.lemmas.Bool.Decides.{nat_tests};

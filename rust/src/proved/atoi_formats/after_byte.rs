@@ -1,4 +1,4 @@
-/* Made by .ci/erase from crates/atoi_formats/src/after_byte.rt. Do not edit. */ //! Steps over one expected byte.
+/* Made by .ci/translate from crates/atoi_formats/src/after_byte.rt. Do not edit. */ //! Steps over one expected byte.
 // ghost use Rattle.std.specs.Prelude.{◌≡◌, ℕ, List, ◌∷◌, IfSome, IfNone};
 
 /// Returns what follows `byte` if `text` begins with it, and otherwise `None`.

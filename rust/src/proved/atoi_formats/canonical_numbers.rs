@@ -1,4 +1,4 @@
-/* Made by .ci/erase from crates/atoi_formats/src/canonical_numbers.rt. Do not edit. */ //! A number exactly as `{}` prints it.
+/* Made by .ci/translate from crates/atoi_formats/src/canonical_numbers.rt. Do not edit. */ //! A number exactly as `{}` prints it.
 // ghost use Rattle.std.specs.Prelude.{◌≡◌, ◌++◌, ◌∷◌, ℕ, ℤ, List, IfSome, IfNone, IsFalse};
 // ghost use Rattle.atoi_core.specs.Digit.{decimal_table, is_digit};
 // ghost use Rattle.atoi_core.specs.Text.{BeginsWithDigit, IsNumberThen};

@@ -1,4 +1,4 @@
-/* Made by .ci/erase from crates/atoi_formats/src/digit_counts.rt. Do not edit. */ //! A number with a limited number of digits.
+/* Made by .ci/translate from crates/atoi_formats/src/digit_counts.rt. Do not edit. */ //! A number with a limited number of digits.
 // ghost use Rattle.std.specs.Prelude.{◌≡◌, ◌++◌, ℕ, ℤ, List, false, IfSome, IfNone};
 // ghost use Rattle.atoi_core.specs.Text.{DigitsWrite};
 // ghost use Rattle.atoi_formats.specs.Formats.{AreLeading, HasDigitsBetween};

@@ -1,4 +1,4 @@
-/* Made by .ci/erase from crates/atoi_formats/src/fixed_widths.rt. Do not edit. */ //! A number with a fixed number of digits.
+/* Made by .ci/translate from crates/atoi_formats/src/fixed_widths.rt. Do not edit. */ //! A number with a fixed number of digits.
 // ghost use Rattle.std.specs.Prelude.{◌≡◌, ◌++◌, ℕ, ℤ, List, length, false, IfSome, IfNone};
 // ghost use Rattle.atoi_core.specs.Text.{DigitsWrite};
 // ghost use Rattle.atoi_formats.specs.Formats.{HasWidth};

@@ -1,4 +1,4 @@
-/* Made by .ci/erase from crates/atoi_formats/src/json_integers.rt. Do not edit. */ //! A number of JSON without a fraction and an exponent.
+/* Made by .ci/translate from crates/atoi_formats/src/json_integers.rt. Do not edit. */ //! A number of JSON without a fraction and an exponent.
 // ghost use Rattle.std.specs.Prelude.{◌≡◌, ◌++◌, ◌∷◌, ℕ, ℤ, Bool, List, IfSome, IfNone, IsFalse};
 // ghost use Rattle.atoi_core.specs.Laws.{zero_byte};
 // ghost use Rattle.atoi_formats.specs.Formats.{IsJsonInteger, HasJsonInteger, goes_on, minus_if};

@@ -1,4 +1,4 @@
-/* Made by .ci/erase from crates/atoi_formats/src/numbers.rt. Do not edit. */ //! A text that is one number.
+/* Made by .ci/translate from crates/atoi_formats/src/numbers.rt. Do not edit. */ //! A text that is one number.
 // ghost use Rattle.std.specs.Prelude.{◌≡◌, ℤ, IfSome, IfNone};
 // ghost use Rattle.atoi_formats.specs.Formats.{IsNumber};
 

@@ -1,4 +1,4 @@
-/* Made by .ci/erase from crates/atoi_formats/src/numbers_then.rt. Do not edit. */ //! A number and the byte after it, which says where the number ends.
+/* Made by .ci/translate from crates/atoi_formats/src/numbers_then.rt. Do not edit. */ //! A number and the byte after it, which says where the number ends.
 // ghost use Rattle.std.specs.Prelude.{◌≡◌, ◌++◌, ◌∷◌, ℕ, ℤ, List, false, IfSome, IfNone, IsFalse};
 // ghost use Rattle.atoi_core.specs.Digit.{decimal_table, is_digit};
 // ghost use Rattle.atoi_core.specs.Text.{DigitsWrite, IsNumberThen};

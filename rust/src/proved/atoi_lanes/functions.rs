@@ -1,4 +1,4 @@
-/* Made by .ci/erase from crates/atoi_lanes/src/functions.rt. Do not edit. */ //! The ten public functions: each calls a method of its type, or another of the ten. atoi_simd and
+/* Made by .ci/translate from crates/atoi_lanes/src/functions.rt. Do not edit. */ //! The ten public functions: each calls a method of its type, or another of the ten. atoi_simd and
 //! atoi_lanes each have this file and the three of the traits (`.ci/texts`).
 // ghost use Rattle.std.specs.Prelude.{◌≡◌, ◌≤◌, ◌↔◌, ℕ, ℤ, true, false, IsTrue, IsOk, IfOk, OnErr, length};
 // ghost use Rattle.atoi_core.specs.Answer.{typed_answer, typed_prefix_answer, whole_answer, prefix_answer, parse_answer, parse_prefix_answer};

@@ -1,4 +1,4 @@
-/* Made by .ci/erase from crates/atoi_lanes/src/lib.rt. Do not edit. */ //! The ten functions of `atoi_simd`, with the same results, computed with vectors of sixteen bytes.
+/* Made by .ci/translate from crates/atoi_lanes/src/lib.rt. Do not edit. */ //! The ten functions of `atoi_simd`, with the same results, computed with vectors of 16 and 32 bytes.
 //! Callers find them in the module `lanes` of `atoi_simd`.
 // #![tactic(auto)]
 

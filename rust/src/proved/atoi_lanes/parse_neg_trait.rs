@@ -1,10 +1,10 @@
-/* Made by .ci/erase from crates/atoi_lanes/src/parse_neg_trait.rt. Do not edit. */ //! Parses of the digits of a negative number, by the engine of this crate.
+/* Made by .ci/translate from crates/atoi_lanes/src/parse_neg_trait.rt. Do not edit. */ //! Parses of the digits of a negative number, by the engine of this crate.
 // ghost use Rattle.std.specs.Prelude.{◌≡◌, ◌≤◌, true, IfOk, length};
 // ghost use Rattle.atoi_core.specs.Answer.{typed_answer, typed_prefix_answer, whole_answer, prefix_answer};
 // ghost use Rattle.atoi_core.specs.Digit.{decimal_table};
 
-use crate::proved::atoi_lanes::default_engine::DefaultEngine;
-use crate::proved::atoi_core::{Parsed, Signed, Steps, prefix_neg, whole_neg};
+use crate::proved::atoi_lanes::default_engine::{DefaultEngine, prefix_neg, whole_neg};
+use crate::proved::atoi_core::{Parsed, Signed, Steps};
 
 /// A signed type that is parsed from the digits of a negative number.
 ///

@@ -1,4 +1,4 @@
-/* Made by .ci/erase from crates/atoi_simd/src/lib.rt. Do not edit. */ //! Decimal integers from byte slices, for the twelve integer types of Rust, exact and without
+/* Made by .ci/translate from crates/atoi_simd/src/lib.rt. Do not edit. */ //! Decimal integers from byte slices, for the twelve integer types of Rust, exact and without
 //! allocation.
 //!
 //! Names, flags, results and errors are as in the Rust crate `atoi_simd` 0.18.1, as compared by

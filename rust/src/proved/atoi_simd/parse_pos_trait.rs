@@ -1,10 +1,10 @@
-/* Made by .ci/erase from crates/atoi_simd/src/parse_pos_trait.rt. Do not edit. */ //! Parses of digits without a sign, by the engine of this crate.
+/* Made by .ci/translate from crates/atoi_simd/src/parse_pos_trait.rt. Do not edit. */ //! Parses of digits without a sign, by the engine of this crate.
 // ghost use Rattle.std.specs.Prelude.{◌≡◌, ◌≤◌, false, IfOk, length};
 // ghost use Rattle.atoi_core.specs.Answer.{typed_answer, typed_prefix_answer, whole_answer, prefix_answer};
 // ghost use Rattle.atoi_core.specs.Digit.{decimal_table};
 
-use crate::proved::atoi_simd::default_engine::DefaultEngine;
-use crate::proved::atoi_core::{Number, Parsed, Steps, prefix_pos, whole_pos};
+use crate::proved::atoi_simd::default_engine::{DefaultEngine, prefix_pos, whole_pos};
+use crate::proved::atoi_core::{Number, Parsed, Steps};
 
 /// An integer type that is parsed from digits without a sign. No other crate can name it.
 pub trait ParsePos: Number {

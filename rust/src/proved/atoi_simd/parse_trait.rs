@@ -1,10 +1,10 @@
-/* Made by .ci/erase from crates/atoi_simd/src/parse_trait.rt. Do not edit. */ //! Parses with a sign, by the engine of this crate.
+/* Made by .ci/translate from crates/atoi_simd/src/parse_trait.rt. Do not edit. */ //! Parses with a sign, by the engine of this crate.
 // ghost use Rattle.std.specs.Prelude.{◌≡◌, ◌≤◌, IfOk, length};
 // ghost use Rattle.atoi_core.specs.Answer.{typed_answer, typed_prefix_answer, parse_answer, parse_prefix_answer};
 
-use crate::proved::atoi_simd::default_engine::DefaultEngine;
+use crate::proved::atoi_simd::default_engine::{DefaultEngine, parse_prefix_text, parse_text};
 use crate::proved::atoi_simd::parse_pos_trait::ParsePos;
-use crate::proved::atoi_core::{Parsed, Steps, parse_prefix_text, parse_text};
+use crate::proved::atoi_core::{Parsed, Steps};
 
 /// An integer type that is parsed with a sign. No other crate can implement it. Its methods take
 /// [flags](crate::guide#choose-the-flags) that are known only at run time.

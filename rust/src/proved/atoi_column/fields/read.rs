@@ -1,4 +1,4 @@
-/* Made by .ci/erase from crates/atoi_column/src/fields/read.rt. Do not edit. */ //! Many numbers a call.
+/* Made by .ci/translate from crates/atoi_column/src/fields/read.rt. Do not edit. */ //! Many numbers a call.
 // ghost use Rattle.std.specs.Prelude.{◌≡◌, ◌+◌, ◌<◌, ◌≤◌, ◌∷◌, ◌++◌, true, Ok, length, take, drop, map, IsFalse, IfSome, IfNone};
 // ghost use Rattle.atoi_column.specs.Fields.{is_separator};
 // ghost use Rattle.atoi_column.specs.FieldItems.{field_items_left, after_first_field};

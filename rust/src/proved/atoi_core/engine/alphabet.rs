@@ -1,4 +1,4 @@
-/* Made by .ci/erase from crates/atoi_core/src/engine/alphabet.rt. Do not edit. */ //! Which bytes are digits. Each alphabet is an engine that reads its windows byte by byte.
+/* Made by .ci/translate from crates/atoi_core/src/engine/alphabet.rt. Do not edit. */ //! Which bytes are digits. Each alphabet is an engine that reads its windows byte by byte.
 // ghost use Rattle.std.specs.Prelude.{◌≡◌, ◌≤◌, length};
 // ghost use Rattle.atoi_core.specs.Digit.{Table, IsBelowTen};
 // ghost use Rattle.atoi_core.specs.Run.{run_len, run, value, zeros};

@@ -1,4 +1,4 @@
-/* Made by .ci/erase from crates/atoi_core/src/engine/plain.rt. Do not edit. */ //! Byte by byte: the reference engine and parse, which only tests run.
+/* Made by .ci/translate from crates/atoi_core/src/engine/plain.rt. Do not edit. */ //! Byte by byte: the reference engine and parse, which only tests run.
 // ghost use Rattle.std.specs.Prelude.{◌≡◌, ◌≤◌, false};
 // ghost use Rattle.atoi_core.specs.Digit.{decimal_table};
 // ghost use Rattle.atoi_core.specs.Refusal.{answer_of};

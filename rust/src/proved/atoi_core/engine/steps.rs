@@ -1,4 +1,4 @@
-/* Made by .ci/erase from crates/atoi_core/src/engine/steps.rt. Do not edit. */ //! A count that contracts see and that has no bytes.
+/* Made by .ci/translate from crates/atoi_core/src/engine/steps.rt. Do not edit. */ //! A count that contracts see and that has no bytes.
 // ghost use Rattle.std.specs.Prelude.{◌≡◌, ◌+◌, ℕ};
 // ghost use Rattle.std.specs.Borrow.{ftrue};
 

@@ -1,4 +1,4 @@
-/* Made by .ci/erase from crates/atoi_core/src/engine/window.rt. Do not edit. */ //! What a load reports.
+/* Made by .ci/translate from crates/atoi_core/src/engine/window.rt. Do not edit. */ //! What a load reports.
 // ghost use Rattle.std.specs.Prelude.{◌≡◌, ◌↔◌, IsTrue};
 
 use crate::proved::atoi_core::error::clones_are_the_same;

@@ -1,4 +1,4 @@
-/* Made by .ci/erase from crates/atoi_core/src/loops/wide_answer.rt. Do not edit. */ //! The answer of a wide parse, once its digits are read.
+/* Made by .ci/translate from crates/atoi_core/src/loops/wide_answer.rt. Do not edit. */ //! The answer of a wide parse, once its digits are read.
 // ghost use Rattle.std.specs.Prelude.{◌≡◌, ◌+◌, ◌*◌, ◌^◌, ◌<◌, ◌≤◌, ◌==◌, nat_lt, if◌then◌else◌, Ok, Err, length};
 // ghost use Rattle.atoi_core.specs.Magnitude.{HasDigits, wide64, wide128};
 // ghost use Rattle.atoi_core.specs.Reading.{answer_by_digits};

@@ -1,4 +1,4 @@
-/* Made by .ci/erase from crates/atoi_fast/src/vectors/bytes.rt. Do not edit. */ //! Vectors of sixteen bytes: loaded, counted, and summed.
+/* Made by .ci/translate from crates/atoi_fast/src/vectors/bytes.rt. Do not edit. */ //! Vectors of sixteen bytes: loaded, counted, and summed.
 // ghost use Rattle.std.specs.Prelude.{◌≡◌, ◌-◌, ◌*◌, ◌/◌, ◌%◌, ◌^◌, ◌≤◌, ◌<◌, ◌++◌, IfSome, None, not, length, map, take, drop, replicate};
 // ghost use Rattle.std.specs.Int.{trailing_zeros, w16};
 // ghost use Rattle.std.specs.Simd.Lanes.{Each1, mask_l, digits_l, number_l};

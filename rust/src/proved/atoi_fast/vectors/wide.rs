@@ -1,4 +1,4 @@
-/* Made by .ci/erase from crates/atoi_fast/src/vectors/wide.rt. Do not edit. */ //! How `Vectors` parses 64 and 128 bits after 16 digits. To skip zeros, it reads 32 bytes at once, from the start.
+/* Made by .ci/translate from crates/atoi_fast/src/vectors/wide.rt. Do not edit. */ //! How `Vectors` parses 64 and 128 bits after 16 digits. To skip zeros, it reads 32 bytes at once, from the start.
 // ghost use Rattle.std.specs.Prelude.{◌≡◌, ◌+◌, ◌*◌, ◌/◌, ◌<◌, ◌≤◌, MatchOption, length, take, drop, min, true, false};
 // ghost use Rattle.atoi_core.specs.Digit.{decimal_table};
 // ghost use Rattle.atoi_core.specs.Magnitude.{HasDigits, wide64, wide128, prefix_magnitude};

@@ -1,4 +1,4 @@
-/* Made by .ci/erase from crates/atoi_fast/src/vectors/window_32.rt. Do not edit. */ //! Windows of 32 bytes, in two vectors of sixteen.
+/* Made by .ci/translate from crates/atoi_fast/src/vectors/window_32.rt. Do not edit. */ //! Windows of 32 bytes, in two vectors of sixteen.
 // ghost use Rattle.std.specs.Prelude.{◌≡◌, ◌+◌, ◌==◌, if◌then◌else◌, drop};
 // ghost use Rattle.atoi_core.specs.Digit.{decimal_table};
 // ghost use Rattle.atoi_core.specs.Reading.{Reading};

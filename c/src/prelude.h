@@ -1,0 +1,373 @@
+#include <stddef.h>
+#include <stdint.h>
+#ifndef __cplusplus
+#include <stdbool.h>
+#endif
+
+#if SIZE_MAX < UINT64_MAX
+#error "Torkettle needs a 64-bit target: its proofs are for no others"
+#endif
+
+/* A cast, and a value of a struct, in C and in C++. */
+#ifdef __cplusplus
+#define TK_CAST(type, value) static_cast<type>(value)
+#define TK_MAKE(type, ...) (type{__VA_ARGS__})
+#define TK_TEXT(text) tk_bytes_of(reinterpret_cast<const uint8_t *>(text), sizeof(text) - 1)
+#else
+#define TK_CAST(type, value) ((type)(value))
+#define TK_MAKE(type, ...) ((type){__VA_ARGS__})
+#define TK_TEXT(text) tk_bytes_of((const uint8_t *)(text), sizeof(text) - 1)
+#endif
+
+/* What a compiler has to do with a function, as the attributes of the source say it, unless a library has its own. */
+#ifdef TK_INLINE
+#elif defined __GNUC__ || defined __clang__
+#if defined __OPTIMIZE__ && !defined __OPTIMIZE_SIZE__
+#define TK_INLINE static inline __attribute__((__always_inline__, __unused__))
+#define TK_HINTED static inline __attribute__((__always_inline__, __unused__))
+#else
+#define TK_INLINE static inline __attribute__((__unused__))
+#define TK_HINTED static inline __attribute__((__unused__))
+#endif
+#define TK_FAR __attribute__((__noinline__))
+#define TK_FAR_COLD __attribute__((__noinline__, __cold__))
+#define TK_NOINLINE static __attribute__((__noinline__, __unused__))
+#define TK_COLD static __attribute__((__noinline__, __cold__, __unused__))
+#elif defined _MSC_VER
+#include <intrin.h>
+#define TK_INLINE static __forceinline
+#define TK_HINTED static __forceinline
+#define TK_FAR __declspec(noinline)
+#define TK_FAR_COLD __declspec(noinline)
+#define TK_NOINLINE static __declspec(noinline)
+#define TK_COLD static __declspec(noinline)
+#else
+#define TK_INLINE static inline
+#define TK_HINTED static inline
+#define TK_FAR
+#define TK_FAR_COLD
+#define TK_NOINLINE static inline
+#define TK_COLD static inline
+#endif
+
+/* The symbol of a function that another file defines, as an attribute behind its declaration. */
+#ifndef TK_SYMBOL
+#define TK_SYMBOL(name)
+#endif
+
+/* A condition that is proved to hold. A test may define this as `assert`. */
+#ifndef TORKETTLE_CHECK
+#define TORKETTLE_CHECK(condition) ((void)0)
+#endif
+
+/* An index of so many elements. */
+TK_INLINE size_t tk_index(size_t index, size_t len)
+{
+    TORKETTLE_CHECK(index < len);
+    (void)len;
+    return index;
+}
+
+TK_INLINE bool tk_is_digit(uint8_t byte)
+{
+    return '0' <= byte && byte <= '9';
+}
+
+/* How many low bits of a word are zero. */
+TK_INLINE uint32_t tk_trailing_zeros_64(uint64_t word)
+{
+#if defined __GNUC__ || defined __clang__
+    return word == 0 ? 64 : TK_CAST(uint32_t, __builtin_ctzll(word));
+#elif defined _MSC_VER && (defined _M_X64 || defined _M_ARM64)
+    unsigned long place;
+    return _BitScanForward64(&place, word) ? TK_CAST(uint32_t, place) : 64;
+#else
+    uint32_t count = 0;
+    while (count < 64 && (word >> count & 1) == 0) {
+        count++;
+    }
+    return count;
+#endif
+}
+
+TK_INLINE uint32_t tk_trailing_zeros_32(uint32_t word)
+{
+    return tk_trailing_zeros_64(word | UINT64_C(1) << 32);
+}
+
+/* Words of bytes, the first one lowest, on every processor. Compilers make one load of it. */
+TK_INLINE uint16_t tk_load_16(const uint8_t *bytes)
+{
+    return TK_CAST(uint16_t, bytes[0] | bytes[1] << 8);
+}
+
+TK_INLINE uint32_t tk_load_32(const uint8_t *bytes)
+{
+#if defined __GNUC__ && __BYTE_ORDER__ == __ORDER_LITTLE_ENDIAN__
+    uint32_t word;
+    __builtin_memcpy(&word, bytes, sizeof word);
+    return word;
+#else
+    return TK_CAST(uint32_t, tk_load_16(bytes)) | TK_CAST(uint32_t, tk_load_16(bytes + 2)) << 16;
+#endif
+}
+
+TK_INLINE uint64_t tk_load_64(const uint8_t *bytes)
+{
+#if defined __GNUC__ && __BYTE_ORDER__ == __ORDER_LITTLE_ENDIAN__
+    uint64_t word;
+    __builtin_memcpy(&word, bytes, sizeof word);
+    return word;
+#else
+    return TK_CAST(uint64_t, tk_load_32(bytes)) | TK_CAST(uint64_t, tk_load_32(bytes + 4)) << 32;
+#endif
+}
+
+/* Numbers of 128 bits. Compilers without them compute with two words, and signed ones are in two's complement. */
+#if defined __SIZEOF_INT128__ && !defined TORKETTLE_NO_INT128
+__extension__ typedef __int128 tk_i128;
+__extension__ typedef unsigned __int128 tk_u128;
+
+TK_INLINE tk_u128 tk_u128_make(uint64_t high, uint64_t low)
+{
+    return TK_CAST(tk_u128, high) << 64 | low;
+}
+
+TK_INLINE tk_u128 tk_u128_of(uint64_t value)
+{
+    return value;
+}
+
+TK_INLINE uint64_t tk_u128_low(tk_u128 value)
+{
+    return TK_CAST(uint64_t, value);
+}
+
+TK_INLINE bool tk_u128_less(tk_u128 a, tk_u128 b)
+{
+    return a < b;
+}
+
+TK_INLINE tk_u128 tk_u128_wrapping_add(tk_u128 a, tk_u128 b)
+{
+    return a + b;
+}
+
+TK_INLINE tk_u128 tk_u128_wrapping_sub(tk_u128 a, tk_u128 b)
+{
+    return a - b;
+}
+
+TK_INLINE tk_u128 tk_u128_wrapping_mul(tk_u128 a, tk_u128 b)
+{
+    return a * b;
+}
+
+TK_INLINE bool tk_u128_product_fits(tk_u128 a, tk_u128 b)
+{
+    return b == 0 || a <= ~TK_CAST(tk_u128, 0) / b;
+}
+
+TK_INLINE tk_u128 tk_u128_shift_left(tk_u128 a, uint64_t count)
+{
+    return a << count;
+}
+
+TK_INLINE tk_u128 tk_u128_shift_right(tk_u128 a, uint64_t count)
+{
+    return a >> count;
+}
+
+TK_INLINE tk_i128 tk_u128_as_i128(tk_u128 value)
+{
+    return TK_CAST(tk_i128, value);
+}
+
+TK_INLINE tk_u128 tk_i128_as_u128(tk_i128 value)
+{
+    return TK_CAST(tk_u128, value);
+}
+#else
+typedef struct tk_u128 {
+    uint64_t low;
+    uint64_t high;
+} tk_u128;
+
+typedef struct tk_i128 {
+    tk_u128 bits;
+} tk_i128;
+
+TK_INLINE tk_u128 tk_u128_make(uint64_t high, uint64_t low)
+{
+    return TK_MAKE(tk_u128, low, high);
+}
+
+TK_INLINE tk_u128 tk_u128_of(uint64_t value)
+{
+    return TK_MAKE(tk_u128, value, 0);
+}
+
+TK_INLINE uint64_t tk_u128_low(tk_u128 value)
+{
+    return value.low;
+}
+
+TK_INLINE bool tk_u128_less(tk_u128 a, tk_u128 b)
+{
+    return a.high < b.high || (a.high == b.high && a.low < b.low);
+}
+
+TK_INLINE tk_u128 tk_u128_wrapping_add(tk_u128 a, tk_u128 b)
+{
+    uint64_t low = a.low + b.low;
+    return TK_MAKE(tk_u128, low, a.high + b.high + (low < a.low));
+}
+
+TK_INLINE tk_u128 tk_u128_wrapping_sub(tk_u128 a, tk_u128 b)
+{
+    return TK_MAKE(tk_u128, a.low - b.low, a.high - b.high - (a.low < b.low));
+}
+
+/* The product of two words, by halves. */
+TK_INLINE tk_u128 tk_u128_of_words(uint64_t a, uint64_t b)
+{
+    uint64_t a_low = a & 0xFFFFFFFF, a_high = a >> 32, b_low = b & 0xFFFFFFFF, b_high = b >> 32;
+    uint64_t low = a_low * b_low;
+    uint64_t middle = a_high * b_low + (low >> 32);
+    uint64_t other = a_low * b_high + (middle & 0xFFFFFFFF);
+    return TK_MAKE(tk_u128, other << 32 | (low & 0xFFFFFFFF), a_high * b_high + (middle >> 32) + (other >> 32));
+}
+
+TK_INLINE tk_u128 tk_u128_wrapping_mul(tk_u128 a, tk_u128 b)
+{
+    tk_u128 product = tk_u128_of_words(a.low, b.low);
+    return TK_MAKE(tk_u128, product.low, product.high + a.high * b.low + a.low * b.high);
+}
+
+TK_INLINE bool tk_u128_product_fits(tk_u128 a, tk_u128 b)
+{
+    tk_u128 cross = tk_u128_wrapping_add(tk_u128_of_words(a.high, b.low), tk_u128_of_words(a.low, b.high));
+    tk_u128 low = tk_u128_of_words(a.low, b.low);
+    return (a.high == 0 || b.high == 0) && cross.high == 0 && low.high + cross.low >= low.high;
+}
+
+TK_INLINE tk_u128 tk_u128_shift_left(tk_u128 a, uint64_t count)
+{
+    if (count >= 64) {
+        return TK_MAKE(tk_u128, 0, a.low << (count - 64));
+    }
+    return count == 0 ? a : TK_MAKE(tk_u128, a.low << count, a.high << count | a.low >> (64 - count));
+}
+
+TK_INLINE tk_u128 tk_u128_shift_right(tk_u128 a, uint64_t count)
+{
+    if (count >= 64) {
+        return TK_MAKE(tk_u128, a.high >> (count - 64), 0);
+    }
+    return count == 0 ? a : TK_MAKE(tk_u128, a.low >> count | a.high << (64 - count), a.high >> count);
+}
+
+TK_INLINE tk_i128 tk_u128_as_i128(tk_u128 value)
+{
+    return TK_MAKE(tk_i128, value);
+}
+
+TK_INLINE tk_u128 tk_i128_as_u128(tk_i128 value)
+{
+    return value.bits;
+}
+#endif
+
+TK_INLINE tk_u128 tk_u128_add(tk_u128 a, tk_u128 b)
+{
+    TORKETTLE_CHECK(!tk_u128_less(tk_u128_wrapping_add(a, b), a));
+    return tk_u128_wrapping_add(a, b);
+}
+
+TK_INLINE tk_u128 tk_u128_sub(tk_u128 a, tk_u128 b)
+{
+    TORKETTLE_CHECK(!tk_u128_less(a, b));
+    return tk_u128_wrapping_sub(a, b);
+}
+
+TK_INLINE tk_u128 tk_u128_mul(tk_u128 a, tk_u128 b)
+{
+    TORKETTLE_CHECK(tk_u128_product_fits(a, b));
+    return tk_u128_wrapping_mul(a, b);
+}
+
+TK_INLINE uint64_t tk_u128_high(tk_u128 value)
+{
+    return tk_u128_low(tk_u128_shift_right(value, 64));
+}
+
+TK_INLINE bool tk_u128_equal(tk_u128 a, tk_u128 b)
+{
+    return tk_u128_low(a) == tk_u128_low(b) && tk_u128_high(a) == tk_u128_high(b);
+}
+
+TK_INLINE tk_u128 tk_u128_not(tk_u128 a)
+{
+    return tk_u128_make(~tk_u128_high(a), ~tk_u128_low(a));
+}
+
+TK_INLINE tk_u128 tk_u128_and(tk_u128 a, tk_u128 b)
+{
+    return tk_u128_make(tk_u128_high(a) & tk_u128_high(b), tk_u128_low(a) & tk_u128_low(b));
+}
+
+TK_INLINE tk_u128 tk_u128_or(tk_u128 a, tk_u128 b)
+{
+    return tk_u128_make(tk_u128_high(a) | tk_u128_high(b), tk_u128_low(a) | tk_u128_low(b));
+}
+
+TK_INLINE tk_u128 tk_u128_xor(tk_u128 a, tk_u128 b)
+{
+    return tk_u128_make(tk_u128_high(a) ^ tk_u128_high(b), tk_u128_low(a) ^ tk_u128_low(b));
+}
+
+TK_INLINE tk_i128 tk_i128_make(uint64_t high, uint64_t low)
+{
+    return tk_u128_as_i128(tk_u128_make(high, low));
+}
+
+TK_INLINE tk_i128 tk_i128_of(uint64_t value)
+{
+    return tk_u128_as_i128(tk_u128_of(value));
+}
+
+TK_INLINE uint64_t tk_i128_low(tk_i128 value)
+{
+    return tk_u128_low(tk_i128_as_u128(value));
+}
+
+TK_INLINE bool tk_i128_less(tk_i128 a, tk_i128 b)
+{
+    tk_u128 sign = tk_u128_make(UINT64_C(0x8000000000000000), 0);
+    return tk_u128_less(tk_u128_xor(tk_i128_as_u128(a), sign), tk_u128_xor(tk_i128_as_u128(b), sign));
+}
+
+TK_INLINE bool tk_i128_equal(tk_i128 a, tk_i128 b)
+{
+    return tk_u128_equal(tk_i128_as_u128(a), tk_i128_as_u128(b));
+}
+
+TK_INLINE tk_i128 tk_i128_sub(tk_i128 a, tk_i128 b)
+{
+    return tk_u128_as_i128(tk_u128_wrapping_sub(tk_i128_as_u128(a), tk_i128_as_u128(b)));
+}
+
+TK_INLINE tk_i128 tk_i128_mul(tk_i128 a, tk_i128 b)
+{
+    return tk_u128_as_i128(tk_u128_wrapping_mul(tk_i128_as_u128(a), tk_i128_as_u128(b)));
+}
+
+TK_INLINE tk_i128 tk_i128_negate(tk_i128 a)
+{
+    return tk_u128_as_i128(tk_u128_wrapping_sub(tk_u128_of(0), tk_i128_as_u128(a)));
+}
+
+TK_INLINE tk_u128 tk_i128_unsigned_abs(tk_i128 a)
+{
+    return tk_i128_as_u128(tk_i128_less(a, tk_i128_of(0)) ? tk_i128_negate(a) : a);
+}

@@ -1,0 +1,27 @@
+/* Made by .ci/translate from crates/atoi_fast/src/in_range.rt. Do not edit. */ //! The number of a sign and a magnitude that one word spells, or two.
+// ghost use Rattle.std.specs.Prelude.{◌≡◌, ◌≤◌, IfSome, true};
+// ghost use Rattle.atoi_core.specs.IntType.{bound_of};
+// ghost use Rattle.atoi_core.specs.Sign.{with_sign};
+
+use crate::proved::atoi_core::Number;
+
+/// No word of digits spells more.
+pub(crate) const MOST_IN_WORD: u64 = 1_000_000_000;
+
+/// No two words of digits spell more.
+pub(crate) const MOST_IN_TWO_WORDS: u64 = 1_000_000_000_000_000_000;
+
+/// Returns the number of this sign and magnitude, if the type has it. The magnitude is at most `most`,
+/// a constant: for a type that has all numbers up to it, LLVM leaves out the test.
+#[inline(always)]
+pub(crate) fn number_in_range<T: Number>(most: u64, minus: bool, magnitude: u64) -> Option<T>
+    // requires signed { minus ≡ true → T.SIGNED ≡ true }
+    // requires most { magnitude ≤ most }
+    // ensures in_range { IfSome result (λ number. magnitude ≤ bound_of T.int_type minus) }
+    // ensures number { IfSome result (λ number. T.number number ≡ with_sign minus magnitude) }
+{
+    if u128::from(most) > T::GREATEST && magnitude > T::GREATEST as u64 + u64::from(minus) {
+        return None;
+    }
+    Some(T::from_parts(minus, u128::from(magnitude)))
+}

@@ -1,0 +1,136 @@
+/* Made by .ci/translate from crates/atoi_fast/src/short_prefix.rt. Do not edit. */ //! Prefixes of few digits: their sign is read together with the digits, from one word.
+// ghost use Rattle.std.specs.Prelude.{◌≡◌, ◌+◌, ◌%◌, ◌≤◌, IfSome, length, take, true};
+// ghost use Rattle.atoi_core.specs.Digit.{decimal_table};
+// ghost use Rattle.atoi_core.specs.Run.{run_len, value};
+// ghost use Rattle.atoi_fast.specs.Short.{BeginsWithNumber, HasMinus, zero_for_minus};
+
+use crate::proved::atoi_fast::digits::{ZEROS, digits_of, sum_of, value_by_product};
+use crate::proved::atoi_fast::in_range::{MOST_IN_TWO_WORDS, MOST_IN_WORD, number_in_range};
+use crate::proved::atoi_fast::loads::{load_from, load_full};
+use crate::proved::atoi_core::powers::{append_digits, power_of_ten};
+use crate::proved::atoi_core::{Number, Steps, greatest_magnitude};
+
+/// Returns the number at the start of `s` and its length, if that is below 8, or for signed types below 16.
+/// For `i64`, also that of up to 19 digits. Others may be `None`, too.
+#[inline(always)]
+pub(crate) fn short_prefix<T: Number>(s: &[u8], steps: &mut Steps) -> Option<(T, usize)>
+    // requires { 16 ≤ length s.now }
+    // ensures answer { IfSome result (λ found. BeginsWithNumber T.int_type s.now (T.number found.0) found.1) }
+    // ensures short { IfSome result (λ found. found.1 ≤ 20) }
+    // ensures one_step { steps.new ≡ steps.old + 1 }
+{
+    steps.tick();
+    if T::SIGNED {
+        signed_prefix(s)
+    } else {
+        unsigned_prefix(s)
+    }
+}
+
+#[inline(always)]
+fn signed_prefix<T: Number>(s: &[u8]) -> Option<(T, usize)>
+    // requires signed { T.SIGNED ≡ true }
+    // requires enough { 16 ≤ length s.now }
+    // ensures answer { IfSome result (λ found. BeginsWithNumber T.int_type s.now (T.number found.0) found.1) }
+    // ensures short { IfSome result (λ found. found.1 ≤ 20) }
+{
+    let word = load_full(s);
+    // A `-` borrows from the next byte, so that a `0` there looks like no digit.
+    let above = word.wrapping_add(0x4646_4646_4646_4646);
+    let below = word.wrapping_sub(ZEROS);
+    let marks = (above | below) & 0x8080_8080_8080_8000;
+    if marks & 0x8000 != 0 {
+        // Most numbers of many texts have one digit: the processor guesses that, and the next load waits
+        // for nothing.
+        let digit = lowest_byte(below);
+        if digit > 9 {
+            return None;
+        }
+        return Some((T::from_parts(false, u128::from(digit)), 1));
+    }
+    let minus = lowest_byte(word) == b'-';
+    // The digit of a `-` is 0, and takes the borrow back.
+    let digits = below.wrapping_add(3 * u64::from(minus));
+    if lowest_byte(digits) > 9 {
+        return None;
+    }
+    if marks == 0 {
+        return prefix_of_two_words(minus, sum_of(digits), s);
+    }
+    let len = marks.trailing_zeros() / 8;
+    let number = number_in_range::<T>(MOST_IN_WORD, minus, value_by_product(digits, len))?;
+    Some((number, len as usize))
+}
+
+#[inline] fn lowest_byte(word: u64) -> u8
+    // ensures { result ≡ word % 256 }
+{
+    (word & 0xFF) as u8
+}
+
+// The number of 8 to 15 bytes, of which the first eight spell `high`, with a zero for a minus.
+#[inline(always)]
+fn prefix_of_two_words<T: Number>(minus: bool, high: u64, s: &[u8]) -> Option<(T, usize)>
+    // requires enough { 16 ≤ length s.now }
+    // requires minus { minus ≡ true → HasMinus T.SIGNED s.now }
+    // requires full { 8 ≤ run_len decimal_table (zero_for_minus minus s.now) }
+    // requires high { high ≡ value decimal_table (take 8 (zero_for_minus minus s.now)) }
+    // requires most { high ≤ 166666665 }
+    // ensures answer { IfSome result (λ found. BeginsWithNumber T.int_type s.now (T.number found.0) found.1) }
+    // ensures short { IfSome result (λ found. found.1 ≤ 20) }
+{
+    let next = load_full(&s[8..]);
+    let more = digits_of(next);
+    if more == 8 {
+        if T::BITS != 64 {
+            return None;
+        }
+        let high = high * 100_000_000 + sum_of(next.wrapping_sub(ZEROS));
+        return prefix_of_three_words(minus, high, s);
+    }
+    let low = value_by_product(next.wrapping_sub(ZEROS), more);
+    let magnitude = high * power_of_ten(more) + low;
+    let number = number_in_range::<T>(MOST_IN_TWO_WORDS, minus, magnitude)?;
+    Some((number, 8 + more as usize))
+}
+
+// The number of 16 to 20 bytes, of which the first sixteen spell `high`, with a zero for a minus.
+#[inline(always)]
+fn prefix_of_three_words<T: Number>(minus: bool, high: u64, s: &[u8]) -> Option<(T, usize)>
+    // requires wide { T.BITS ≡ 64 }
+    // requires minus { minus ≡ true → HasMinus T.SIGNED s.now }
+    // requires enough { 16 ≤ length s.now }
+    // requires full { 16 ≤ run_len decimal_table (zero_for_minus minus s.now) }
+    // requires high { high ≡ value decimal_table (take 16 (zero_for_minus minus s.now)) }
+    // ensures answer { IfSome result (λ found. BeginsWithNumber T.int_type s.now (T.number found.0) found.1) }
+    // ensures short { IfSome result (λ found. found.1 ≤ 20) }
+{
+    let next = load_from(s, 16);
+    let more = digits_of(next);
+    // Not more than 19 digits, which no limit refuses.
+    if more > 3 + u32::from(minus) {
+        return None;
+    }
+    let low = value_by_product(next.wrapping_sub(ZEROS), more);
+    let magnitude = append_digits(high, more, low);
+    if magnitude > greatest_magnitude::<T>(minus) {
+        return None;
+    }
+    Some((T::from_parts(minus, magnitude), 16 + more as usize))
+}
+
+#[inline(always)]
+fn unsigned_prefix<T: Number>(s: &[u8]) -> Option<(T, usize)>
+    // requires { 16 ≤ length s.now }
+    // ensures answer { IfSome result (λ found. BeginsWithNumber T.int_type s.now (T.number found.0) found.1) }
+    // ensures short { IfSome result (λ found. found.1 ≤ 20) }
+{
+    let word = load_full(s);
+    let len = digits_of(word);
+    if len == 0 || len == 8 {
+        return None;
+    }
+    let magnitude = value_by_product(word.wrapping_sub(ZEROS), len);
+    let number = number_in_range::<T>(MOST_IN_WORD, false, magnitude)?;
+    Some((number, len as usize))
+}

@@ -1,0 +1,27 @@
+/* Made by .ci/translate from crates/atoi_fast/src/short_slice.rt. Do not edit. */ //! Whole slices of few bytes, whose sign is read together with the digits.
+// ghost use Rattle.std.specs.Prelude.{◌≡◌, ◌+◌, ◌≤◌, IfSome, length, true};
+// ghost use Rattle.atoi_fast.specs.Short.{IsNumber};
+
+use crate::proved::atoi_fast::digits::{digits_of_flipped, sum_of};
+use crate::proved::atoi_fast::in_range::{MOST_IN_WORD, number_in_range};
+use crate::proved::atoi_fast::loads::{factor_of, load_flipped};
+use crate::proved::atoi_core::{Number, Steps};
+
+/// Returns the number of a slice of 2 to 8 bytes, if all are digits after at most a minus.
+#[inline(always)]
+pub(crate) fn short_signed<T: Number>(s: &[u8], steps: &mut Steps) -> Option<T>
+    // requires signed { T.SIGNED ≡ true }
+    // requires some { 2 ≤ length s.now }
+    // requires few { length s.now ≤ 8 }
+    // ensures number { IfSome result (λ number. IsNumber T.int_type s.now (T.number number)) }
+    // ensures one_step { steps.new ≡ steps.old + 1 }
+{
+    steps.tick();
+    let minus = s[0] == b'-';
+    // A `-` that is flipped once more is the digit 0, without a branch.
+    let flipped = load_flipped(s) ^ factor_of(s.len()).wrapping_mul(0x1D * u64::from(minus));
+    if digits_of_flipped(flipped) != 8 {
+        return None;
+    }
+    number_in_range::<T>(MOST_IN_WORD, minus, sum_of(flipped))
+}

@@ -1,0 +1,490 @@
+//! Expressions as values. Operands are evaluated from left to right: what a later one could change is held first.
+
+use super::{Branch, Done, Lowering, Target, Value};
+use crate::c::ir::{Operation, Shape, Statement, Term, TermKind, Type};
+use crate::c::world::integer;
+use crate::tree::{
+    self, BinaryOperator, Expression, ExpressionKind, If, Literal, LiteralKind, Path,
+    StructExpression, TypeKind, UnaryOperator,
+};
+
+impl Lowering<'_> {
+    /// Evaluates an expression to a term of the wanted type, if one is wanted.
+    pub(super) fn term(&mut self, expression: &Expression, wanted: Option<&Type>) -> Done<Term> {
+        let value = self.value(expression, wanted)?;
+        let term = self.whole(value)?;
+        wanted.map_or(Ok(term.clone()), |wanted| self.coerce(term, wanted))
+    }
+
+    /// Evaluates an expression. What is wanted only helps to find its type.
+    pub(super) fn value(&mut self, expression: &Expression, wanted: Option<&Type>) -> Done<Value> {
+        let before = std::mem::replace(&mut self.at, expression.span);
+        let value = self.value_here(expression, wanted)?;
+        self.at = before;
+        Ok(value)
+    }
+
+    fn value_here(&mut self, expression: &Expression, wanted: Option<&Type>) -> Done<Value> {
+        let term = match &expression.kind {
+            ExpressionKind::Group(inner) => return self.value(inner, wanted),
+            ExpressionKind::Literal(literal) => self.literal(literal, wanted)?,
+            ExpressionKind::Path(path) => return self.path(path, wanted),
+            ExpressionKind::Tuple(parts) => return self.tuple(parts, wanted),
+            ExpressionKind::Array(parts) => self.array(parts, wanted)?,
+            ExpressionKind::Struct(tree) => self.structure(tree)?,
+            ExpressionKind::Unary { operator, operand } => {
+                self.unary(*operator, operand, wanted)?
+            }
+            ExpressionKind::Borrow { is_mutable, operand } => {
+                return self.borrow(*is_mutable, operand, wanted);
+            }
+            ExpressionKind::Binary { operator, left, right } => {
+                self.binary(*operator, left, right, wanted)?
+            }
+            ExpressionKind::Cast { value, target } => {
+                let of = self.world.type_in(&self.place, target)?;
+                let value = self.term(value, None)?;
+                self.make(TermKind::Cast(Box::new(value)), of)
+            }
+            ExpressionKind::Call { function, arguments } => {
+                return self.call(function, arguments, wanted);
+            }
+            ExpressionKind::Method(call) => return self.method(call),
+            ExpressionKind::Field { receiver, name } => return self.field(receiver, &name.text),
+            ExpressionKind::Index { receiver, index } => self.index(receiver, index)?,
+            ExpressionKind::Try(value) => return self.question(value),
+            ExpressionKind::If(tree) => return self.if_value(tree, wanted),
+            ExpressionKind::Match { value, arms } => return self.match_value(value, arms, wanted),
+            ExpressionKind::Block(block) => {
+                self.scopes.push(Default::default());
+                self.statements_of(block)?;
+                let value = self.block_value(block, wanted)?;
+                self.scopes.pop();
+                return Ok(value);
+            }
+            ExpressionKind::Matches { value, pattern, guard: None } => {
+                let found = self.value(value, None)?;
+                let found = self.keep(found, "found")?;
+                let (tests, _) = self.matched(pattern, &found)?;
+                self.joined(tests, BinaryOperator::And)
+            }
+            ExpressionKind::Return(_) | ExpressionKind::Break | ExpressionKind::Continue => {
+                self.to(expression, Target::Nothing)?;
+                return Ok(Value::Never);
+            }
+            _ => return self.refuse("this form has no rule"),
+        };
+        Ok(Value::Term(term))
+    }
+
+    pub(super) fn literal(&mut self, literal: &Literal, wanted: Option<&Type>) -> Done<Term> {
+        let (kind, of) = match &literal.kind {
+            LiteralKind::Boolean(value) => (TermKind::Boolean(*value), Type::Boolean),
+            LiteralKind::Byte(byte) => (TermKind::Byte(*byte), Type::BYTE),
+            LiteralKind::Text(bytes) | LiteralKind::ByteText(bytes) => {
+                (TermKind::Text(bytes.clone()), Type::slice(Type::BYTE, false))
+            }
+            LiteralKind::Integer { value, suffix } => {
+                let suffix = suffix.as_ref().and_then(|it| integer(it));
+                let wanted = wanted.map(|it| self.known(it));
+                let wanted = wanted.filter(|it| matches!(it, Type::Integer(_)));
+                let of = suffix.or(wanted).unwrap_or_else(|| self.fresh(true));
+                let digits = self.source.at(literal.span).strip_prefix("0x").unwrap_or_default();
+                let digits = digits.split(['u', 'i']).next().unwrap_or_default();
+                let hexadecimal = digits.chars().filter(|it| *it != '_').count();
+                (TermKind::Number { value: *value, hexadecimal }, of)
+            }
+        };
+        Ok(self.make(kind, of))
+    }
+
+    fn tuple(&mut self, parts: &[Expression], wanted: Option<&Type>) -> Done<Value> {
+        let types = match wanted.map(|it| self.known(it)) {
+            Some(Type::Tuple(types)) if types.len() == parts.len() => {
+                types.into_iter().map(Some).collect()
+            }
+            _ => vec![None; parts.len()],
+        };
+        let terms = self.operands(parts.iter().zip(types))?;
+        Ok(Value::Tuple(terms.into_iter().map(Value::Term).collect()))
+    }
+
+    fn array(&mut self, parts: &[Expression], wanted: Option<&Type>) -> Done<Term> {
+        let element = match wanted.map(|it| self.known(it)) {
+            Some(Type::Array { element, .. } | Type::Slice { element, .. }) => *element,
+            _ => self.fresh(false),
+        };
+        let terms = self.operands(parts.iter().map(|it| (it, Some(element.clone()))))?;
+        let of = Type::Array { element: Box::new(element), length: parts.len() as u128 };
+        Ok(self.make(TermKind::Elements(terms), of))
+    }
+
+    /// Evaluates operands from left to right. Those before one with statements are held in variables, and so
+    /// are results of calls that write.
+    pub(super) fn operands<'e>(
+        &mut self,
+        operands: impl Iterator<Item = (&'e Expression, Option<Type>)>,
+    ) -> Done<Vec<Term>> {
+        let mut terms: Vec<Term> = Vec::new();
+        let operands: Vec<_> = operands.collect();
+        for (operand, wanted) in &operands {
+            let (statements, term) = self.apart(|it| it.term(operand, wanted.as_ref()))?;
+            let has_effect = term.has_effect() && operands.len() > 1;
+            if has_effect || !statements.is_empty() {
+                for earlier in &mut terms {
+                    if !self.is_constant(earlier) {
+                        *earlier = self.hold(earlier.clone(), "before", false);
+                    }
+                }
+            }
+            self.statements.extend(statements);
+            terms.push(if has_effect { self.hold(term, "result", false) } else { term });
+        }
+        Ok(terms)
+    }
+
+    /// Says whether nothing that happens later changes what a term is.
+    pub(super) fn is_constant(&self, term: &Term) -> bool {
+        !term.has_effect()
+            && !term.any(&|it| match &it.kind {
+                TermKind::Local(local) => self.locals[*local].is_mutable,
+                TermKind::Follow(_) | TermKind::Elements(_) => true,
+                TermKind::Operation(Operation::At | Operation::Element, terms) => {
+                    matches!(self.known(&terms[0].of), Type::Slice { is_mutable: true, .. })
+                }
+                _ => false,
+            })
+    }
+
+    /// Returns a value as one term.
+    pub(super) fn whole(&mut self, value: Value) -> Done<Term> {
+        match value {
+            Value::Term(term) => Ok(term),
+            Value::Tuple(parts) => {
+                let terms =
+                    parts.into_iter().map(|it| self.whole(it)).collect::<Done<Vec<Term>>>()?;
+                let of = Type::Tuple(terms.iter().map(|it| it.of.clone()).collect());
+                Ok(self.shaped(Shape::Plain, terms, of))
+            }
+            Value::Option { is_some, value } => {
+                let term = self.whole(*value)?;
+                let of = Type::Option(Box::new(term.of.clone()));
+                let none = self.shaped(Shape::None, Vec::new(), of.clone());
+                self.choice(is_some, self.shaped(Shape::Some, vec![term], of), none)
+            }
+            Value::Never => self.refuse("no value"),
+        }
+    }
+
+    /// Returns a value that may be read more than once: what is computed is held in a variable.
+    pub(super) fn keep(&mut self, value: Value, name: &str) -> Done<Value> {
+        match value {
+            Value::Term(_) => Ok(Value::Term(self.keep_term(value, name)?)),
+            Value::Tuple(parts) => {
+                let parts = parts.into_iter().map(|it| self.keep(it, name));
+                Ok(Value::Tuple(parts.collect::<Done<_>>()?))
+            }
+            other => Ok(other),
+        }
+    }
+
+    pub(super) fn keep_term(&mut self, value: Value, name: &str) -> Done<Term> {
+        let term = self.whole(value)?;
+        Ok(if is_path(&term) { term } else { self.hold(term, name, false) })
+    }
+
+    /// Returns what a term refers to.
+    pub(super) fn followed(&self, term: Term) -> Term {
+        match self.known(&term.of) {
+            Type::Pointer(target) => self.make(TermKind::Follow(Box::new(term)), *target),
+            _ => term,
+        }
+    }
+
+    /// Returns the type and shape of the struct or variant that a path names. Types may be left out.
+    pub(super) fn made_type(&mut self, path: &Path) -> Done<(Type, Shape)> {
+        if let Some(found) = self.variant(path) {
+            return Ok(found);
+        }
+        let kind = TypeKind::Path(path.clone());
+        let mut of = self.world.type_in(&self.place, &tree::Type { span: path.span, kind })?;
+        if let Type::Item { id, arguments } = &mut of {
+            while arguments.len() < self.world.parameters(*id).len() {
+                arguments.push(self.fresh(false));
+            }
+        }
+        Ok((of, Shape::Plain))
+    }
+
+    fn structure(&mut self, tree: &StructExpression) -> Done<Term> {
+        let (of, shape) = self.made_type(&tree.path)?;
+        let fields = self.fields_of(&of, shape)?;
+        let mut places = Vec::new();
+        for given in &tree.fields {
+            let place = fields.iter().position(|(name, _)| *name == given.name.text);
+            places.push(place.ok_or_else(|| self.fault("no such field"))?);
+        }
+        let given = tree.fields.iter().map(|it| &it.value).chain(tree.base.as_deref());
+        let types = places.iter().map(|at| Some(fields[*at].1.clone())).chain([Some(of.clone())]);
+        let mut terms = self.operands(given.zip(types))?;
+        let mut base = None;
+        if tree.base.is_some() {
+            let found = terms.pop().map_or_else(|| self.refuse("no base"), Ok)?;
+            base = Some(Box::new(self.keep_term(Value::Term(found), "base")?));
+        }
+        let mut all = Vec::new();
+        for (number, (_, of)) in fields.into_iter().enumerate() {
+            let given = places.iter().position(|place| *place == number);
+            all.push(match (given, &base) {
+                (Some(at), _) => terms[at].clone(),
+                (None, Some(base)) => self.make(TermKind::Field(base.clone(), number), of),
+                (None, None) => return self.refuse("a field without a value"),
+            });
+        }
+        Ok(self.shaped(shape, all, of))
+    }
+
+    fn unary(
+        &mut self,
+        operator: UnaryOperator,
+        operand: &Expression,
+        wanted: Option<&Type>,
+    ) -> Done<Term> {
+        let term = self.term(operand, wanted)?;
+        let of = term.of.clone();
+        Ok(match operator {
+            UnaryOperator::Dereference => self.followed(term),
+            UnaryOperator::Not if self.known(&of) == Type::Boolean => term.negated(),
+            UnaryOperator::Not => self.operation(Operation::Not, vec![term], of),
+            UnaryOperator::Negate => self.operation(Operation::Negate, vec![term], of),
+        })
+    }
+
+    fn borrow(
+        &mut self,
+        is_mutable: bool,
+        operand: &Expression,
+        wanted: Option<&Type>,
+    ) -> Done<Value> {
+        let value = self.value(operand, wanted.filter(|_| !is_mutable))?;
+        let Value::Term(term) = value else { return Ok(value) };
+        Ok(Value::Term(match (self.known(&term.of), &term.kind) {
+            (Type::Slice { is_mutable: true, element }, _) if !is_mutable => {
+                self.operation(Operation::Shared, vec![term], Type::slice(*element, false))
+            }
+            (_, TermKind::Elements(_)) if !is_mutable => self.hold(term, "bytes", false),
+            (Type::Slice { is_mutable: true, .. } | Type::Pointer(_), _) => term,
+            (of, _) if is_mutable => {
+                self.make(TermKind::Address(Box::new(term)), Type::Pointer(Box::new(of)))
+            }
+            _ => term,
+        }))
+    }
+
+    fn binary(
+        &mut self,
+        operator: BinaryOperator,
+        left: &Expression,
+        right: &Expression,
+        wanted: Option<&Type>,
+    ) -> Done<Term> {
+        if matches!(operator, BinaryOperator::And | BinaryOperator::Or) {
+            return self.short_circuit(operator, left, right);
+        }
+        let is_comparison = is_comparison(operator);
+        let hint = wanted.filter(|_| !is_comparison).cloned();
+        let terms = self.operands([(left, hint), (right, None)].into_iter())?;
+        let terms: Vec<Term> = terms.into_iter().map(|term| self.followed(term)).collect();
+        if !is_shift(operator) {
+            self.unify(&terms[0].of, &terms[1].of)?;
+        }
+        let of = if is_comparison { Type::Boolean } else { terms[0].of.clone() };
+        Ok(self.operation(Operation::Binary(operator), terms, of))
+    }
+
+    fn short_circuit(
+        &mut self,
+        operator: BinaryOperator,
+        left: &Expression,
+        right: &Expression,
+    ) -> Done<Term> {
+        let first = self.term(left, Some(&Type::Boolean))?;
+        let (statements, second) = self.apart(|it| it.term(right, Some(&Type::Boolean)))?;
+        if statements.is_empty() {
+            return Ok(self.test(operator, first, second));
+        }
+        // The statements of the right side run only if it decides.
+        let is_or = operator == BinaryOperator::Or;
+        let known = self.make(TermKind::Boolean(is_or), Type::Boolean);
+        let condition = Some(if is_or { first.negated() } else { first });
+        let branches = vec![
+            Branch { condition, statements, value: Value::Term(second) },
+            Branch { condition: None, statements: Vec::new(), value: Value::Term(known) },
+        ];
+        let value = self.join(branches, Some(&Type::Boolean))?;
+        self.whole(value)
+    }
+
+    fn field(&mut self, receiver: &Expression, name: &str) -> Done<Value> {
+        let value = self.value(receiver, None)?;
+        let number = name.parse::<usize>().ok();
+        if let (Value::Tuple(parts), Some(number)) = (&value, number) {
+            return parts.get(number).cloned().ok_or_else(|| self.fault("no such field"));
+        }
+        let term = self.whole(value)?;
+        let term = self.followed(term);
+        let (number, of) = match (self.known(&term.of), number) {
+            (Type::Tuple(types), Some(number)) if number < types.len() => {
+                (number, types[number].clone())
+            }
+            (of @ Type::Item { .. }, _) => {
+                let fields = self.fields_of(&of, Shape::Plain)?;
+                let mut named = fields.into_iter().enumerate().filter(|(_, (own, _))| own == name);
+                let Some((place, (_, of))) = named.next() else {
+                    return self.refuse("no such field");
+                };
+                (place, of)
+            }
+            _ => return self.refuse("a field of an unknown type"),
+        };
+        Ok(Value::Term(self.make(TermKind::Field(Box::new(term), number), of)))
+    }
+
+    fn index(&mut self, receiver: &Expression, index: &Expression) -> Done<Term> {
+        let ends = match &index.kind {
+            ExpressionKind::Range { low, high, is_inclusive: false } => {
+                [low, high].map(|it| it.as_deref())
+            }
+            _ => [Some(index), None],
+        };
+        let operands = ends.iter().flatten().map(|it| (*it, Some(Type::SIZE)));
+        let operands = std::iter::once((receiver, None)).chain(operands);
+        let mut terms = self.operands(operands)?.into_iter();
+        let Some(outer) = terms.next() else { return self.refuse("no slice") };
+        let [low, high] = ends.map(|it| it.and_then(|_| terms.next()));
+        match (&index.kind, low) {
+            (ExpressionKind::Range { .. }, low) => self.part(outer, low, high),
+            (_, Some(at)) => self.element(outer, at, false),
+            _ => self.refuse("no index"),
+        }
+    }
+
+    /// Returns the element of a slice or an array, which is there if that was tested.
+    pub(super) fn element(&mut self, outer: Term, at: Term, is_tested: bool) -> Done<Term> {
+        let outer = self.followed(outer);
+        match self.known(&outer.of) {
+            Type::Slice { element, .. } | Type::Array { element, .. } => {
+                let operation = if is_tested { Operation::Element } else { Operation::At };
+                Ok(self.operation(operation, vec![outer, at], *element))
+            }
+            _ => self.refuse("an element of an unknown type"),
+        }
+    }
+
+    /// Returns a part of a slice, from an offset or its start to another or its end.
+    pub(super) fn part(
+        &mut self,
+        slice: Term,
+        low: Option<Term>,
+        high: Option<Term>,
+    ) -> Done<Term> {
+        let slice = match self.known(&slice.of) {
+            Type::Array { element, .. } => self.coerce(slice, &Type::slice(*element, false))?,
+            Type::Slice { .. } => slice,
+            _ => return self.refuse("a part of what is no slice"),
+        };
+        let of = slice.of.clone();
+        let operation = match (&low, &high) {
+            (None, None) => return Ok(slice),
+            (Some(_), None) => Operation::From,
+            (None, Some(_)) => Operation::To,
+            (Some(_), Some(_)) => Operation::Between,
+        };
+        let terms = std::iter::once(slice).chain(low).chain(high).collect();
+        Ok(self.operation(operation, terms, of))
+    }
+
+    // `VALUE?`: leaves with the error, or goes on with the value.
+    fn question(&mut self, value: &Expression) -> Done<Value> {
+        let name = self.hint.take().map_or("found".to_string(), |hint| format!("{hint}_found"));
+        let found = self.value(value, None)?;
+        let result = self.result.clone();
+        let (leaves, back, value) = match found {
+            Value::Option { is_some, value } => (is_some.negated(), None, *value),
+            found => {
+                let term = self.keep_term(found, &name)?;
+                let payload = |shape| TermKind::Payload(Box::new(term.clone()), shape, 0);
+                let (shape, of, error) = match self.known(&term.of) {
+                    Type::Option(of) => (Shape::Some, *of, None),
+                    Type::Result(of, error) => {
+                        (Shape::Ok, *of, Some(self.make(payload(Shape::Err), *error)))
+                    }
+                    _ => return self.refuse("`?` of an unknown type"),
+                };
+                let value = Value::Term(self.make(payload(shape), of));
+                (self.is(term.clone(), shape).negated(), error, value)
+            }
+        };
+        let back = match (back, &result) {
+            (None, Type::Option(_)) => self.shaped(Shape::None, Vec::new(), result),
+            (Some(error), Type::Result(_, wanted)) => {
+                self.unify(wanted, &error.of)?;
+                self.shaped(Shape::Err, vec![error], result)
+            }
+            (None, _) => return self.refuse("`?` of an option in another function"),
+            _ => return self.refuse("`?` of a result in another function"),
+        };
+        self.push_if(leaves, vec![Statement::Return(Some(back))], Vec::new());
+        Ok(value)
+    }
+
+    fn if_value(&mut self, tree: &If, wanted: Option<&Type>) -> Done<Value> {
+        let Some(otherwise) = &tree.otherwise else {
+            self.if_to(tree, Target::Nothing)?;
+            return Ok(Value::Tuple(Vec::new()));
+        };
+        let hint = self.hint.take();
+        let (condition, bindings) = self.condition(&tree.condition)?;
+        let (statements, value) = self.apart(|it| {
+            it.declare_all(bindings)?;
+            it.statements_of(&tree.then)?;
+            it.block_value(&tree.then, wanted)
+        })?;
+        let then = Branch { condition: Some(condition), statements, value };
+        let (statements, value) = self.apart(|it| it.value(otherwise, wanted))?;
+        self.hint = hint;
+        self.join(vec![then, Branch { condition: None, statements, value }], wanted)
+    }
+
+    // The value of a block behind its statements.
+    fn block_value(&mut self, block: &tree::Block, wanted: Option<&Type>) -> Done<Value> {
+        match &block.value {
+            Some(value) => self.value(value, wanted),
+            None if self.statements.last().is_some_and(super::leaves) => Ok(Value::Never),
+            None => Ok(Value::Tuple(Vec::new())),
+        }
+    }
+}
+
+// Whether a term can be read more than once at no cost.
+fn is_path(term: &Term) -> bool {
+    match &term.kind {
+        TermKind::Local(_) | TermKind::Number { .. } | TermKind::Constant(..) => true,
+        TermKind::Byte(_) | TermKind::Boolean(_) => true,
+        TermKind::Field(inner, _) | TermKind::Payload(inner, ..) | TermKind::Follow(inner) => {
+            is_path(inner)
+        }
+        TermKind::Operation(Operation::Length, terms) => is_path(&terms[0]),
+        _ => false,
+    }
+}
+
+fn is_comparison(operator: BinaryOperator) -> bool {
+    use BinaryOperator::{Equal, Greater, GreaterOrEqual, Less, LessOrEqual, NotEqual};
+    matches!(operator, Equal | NotEqual | Less | Greater | LessOrEqual | GreaterOrEqual)
+}
+
+/// Says whether the second operand may have another type.
+pub fn is_shift(operator: BinaryOperator) -> bool {
+    matches!(operator, BinaryOperator::ShiftLeft | BinaryOperator::ShiftRight)
+}

@@ -1,0 +1,390 @@
+//! What the sources declare: functions, constants, types and their members, by their numbers.
+
+use super::ir::{Bindings, Done, Id, Integer, Type};
+use crate::modules::{Module, Package};
+use crate::resolve::{Definition, Namespace, Resolved, Scopes};
+use crate::source::{Fault, Source, Span};
+use crate::tree::{
+    Bound, Constant, ExpressionKind, Field, Fields, Function, GenericArgument, GenericKind,
+    Generics, Implementation, Item, ItemKind, Literal, LiteralKind, Path, Segment, Trait,
+    Type as TreeType, TypeKind, Variant,
+};
+use std::collections::BTreeMap;
+
+pub struct World<'a> {
+    pub package: &'a Package,
+    pub scopes: &'a Scopes<'a>,
+    implementations: Vec<(Id, &'a Implementation)>,
+}
+
+/// Where a type is written: its module, and what `Self` and the parameters are.
+#[derive(Clone)]
+pub struct Place {
+    pub module: usize,
+    pub self_type: Option<Type>,
+    /// The traits that each parameter implements.
+    pub parameters: BTreeMap<String, Vec<Id>>,
+}
+
+impl<'a> World<'a> {
+    pub fn new(package: &'a Package, scopes: &'a Scopes<'a>) -> World<'a> {
+        let mut implementations = Vec::new();
+        // C has words only.
+        let of_words = |(_, it): &(usize, &Module)| it.crate_name != "atoi_lanes";
+        for (module, found) in package.modules.iter().enumerate().filter(of_words) {
+            for (item, it) in found.tree.items.iter().enumerate() {
+                if let ItemKind::Implementation(found) = &it.kind {
+                    implementations.push((Id { module, item, member: None }, found));
+                }
+            }
+        }
+        World { package, scopes, implementations }
+    }
+
+    pub fn module(&self, id: Id) -> &'a Module {
+        &self.package.modules[id.module]
+    }
+
+    pub fn source(&self, id: Id) -> &'a Source {
+        &self.module(id).source
+    }
+
+    /// Returns the item that holds a member, or the item itself.
+    pub fn owner(&self, id: Id) -> &'a Item {
+        &self.module(id).tree.items[id.item]
+    }
+
+    pub fn item(&self, id: Id) -> &'a Item {
+        let owner = self.owner(id);
+        match (id.member, &owner.kind) {
+            (Some(member), ItemKind::Trait(Trait { members, .. })) => &members[member],
+            (Some(member), ItemKind::Implementation(found)) => &found.members[member],
+            _ => owner,
+        }
+    }
+
+    pub fn function(&self, id: Id) -> Option<&'a Function> {
+        if let ItemKind::Function(function) = &self.item(id).kind { Some(function) } else { None }
+    }
+
+    pub fn constant(&self, id: Id) -> Option<&'a Constant> {
+        if let ItemKind::Constant(constant) = &self.item(id).kind { Some(constant) } else { None }
+    }
+
+    pub fn is_of_trait(&self, id: Id) -> bool {
+        id.member.is_some() && matches!(self.owner(id).kind, ItemKind::Trait(_))
+    }
+
+    /// Finds what the start of a path stands for.
+    pub fn resolve(&self, module: usize, space: Namespace, path: &Path) -> Option<Resolved> {
+        let names: Vec<&str> = path.segments.iter().map(|it| it.name.text.as_str()).collect();
+        self.scopes.resolve(module, space, &names)
+    }
+
+    fn trait_of(&self, module: usize, path: &Path) -> Option<Id> {
+        match self.resolve(module, Namespace::Types, path)?.definition {
+            Definition::Item { module, item } => Some(Id { module, item, member: None }),
+            _ => None,
+        }
+    }
+
+    /// Returns the place in a function or a constant: what its owner and its own generics declare.
+    pub fn place(&self, id: Id) -> Done<Place> {
+        let mut place = Place { module: id.module, self_type: None, parameters: BTreeMap::new() };
+        match &self.owner(id).kind {
+            ItemKind::Implementation(found) => {
+                self.declare(&mut place, &found.generics);
+                place.self_type = Some(self.type_in(&place, &found.target)?);
+            }
+            ItemKind::Trait(_) => {
+                let own = Id { member: None, ..id };
+                place.parameters.insert("Self".into(), vec![own]);
+                place.self_type = Some(Type::Parameter("Self".into()));
+            }
+            ItemKind::Struct(found) => self.declare(&mut place, &found.generics),
+            ItemKind::Enum(found) => self.declare(&mut place, &found.generics),
+            ItemKind::Alias(found) => self.declare(&mut place, &found.generics),
+            _ => {}
+        }
+        if let Some(function) = self.function(id) {
+            self.declare(&mut place, &function.generics);
+        }
+        Ok(place)
+    }
+
+    fn declare(&self, place: &mut Place, generics: &Generics) {
+        for parameter in &generics.parameters {
+            if let GenericKind::Type(bounds) = &parameter.kind {
+                let traits = bounds.iter().filter_map(|bound| match bound {
+                    Bound::Trait(path) => self.trait_of(place.module, path),
+                    Bound::Lifetime(_) => None,
+                });
+                place.parameters.insert(parameter.name.text.clone(), traits.collect());
+            }
+        }
+    }
+
+    /// Returns the type that is written at a place.
+    pub fn type_in(&self, place: &Place, tree: &TreeType) -> Done<Type> {
+        let source = &self.package.modules[place.module].source;
+        let boxed = |inner| Ok::<_, Fault>(Box::new(self.type_in(place, inner)?));
+        match &tree.kind {
+            TypeKind::Path(path) => self.named_type(place, path),
+            TypeKind::Tuple(parts) => {
+                let parts: Result<_, _> = parts.iter().map(|it| self.type_in(place, it)).collect();
+                Ok(Type::Tuple(parts?))
+            }
+            TypeKind::Reference { is_mutable, target, .. } => match &target.kind {
+                TypeKind::Slice(element) => {
+                    Ok(Type::Slice { element: boxed(element)?, is_mutable: *is_mutable })
+                }
+                _ if *is_mutable => Ok(Type::Pointer(boxed(target)?)),
+                _ => self.type_in(place, target),
+            },
+            TypeKind::Slice(_) => Err(source.fault(tree.span, "C: a slice without a reference")),
+            TypeKind::Array { element, length } => match &length.kind {
+                ExpressionKind::Literal(Literal {
+                    kind: LiteralKind::Integer { value, .. },
+                    ..
+                }) => Ok(Type::Array { element: boxed(element)?, length: *value }),
+                _ => Err(source.fault(tree.span, "C: the length of this array")),
+            },
+        }
+    }
+
+    /// Returns the types between `<` and `>`.
+    pub fn arguments(&self, place: &Place, segment: &Segment) -> Done<Vec<Type>> {
+        let types = segment.arguments.iter().filter_map(|argument| match argument {
+            GenericArgument::Type(argument) => Some(self.type_in(place, argument)),
+            _ => None,
+        });
+        types.collect()
+    }
+
+    fn named_type(&self, place: &Place, path: &Path) -> Done<Type> {
+        let source = &self.package.modules[place.module].source;
+        let first = &path.segments[0].name.text;
+        if path.segments.len() == 1 {
+            if let ("Self", Some(own)) = (first.as_str(), &place.self_type) {
+                return Ok(own.clone());
+            }
+            if place.parameters.contains_key(first) {
+                return Ok(Type::Parameter(first.clone()));
+            }
+        }
+        let unknown = || source.fault(path.span, "C: this type has no rule");
+        let found = self.resolve(place.module, Namespace::Types, path).ok_or_else(unknown)?;
+        let mut arguments = self.arguments(place, &path.segments[path.segments.len() - 1])?;
+        let id = match found.definition {
+            Definition::Foreign(name) => {
+                return foreign_type(&name, &mut arguments).ok_or_else(unknown);
+            }
+            Definition::Item { module, item } if found.used == path.segments.len() => {
+                Id { module, item, member: None }
+            }
+            _ => return Err(unknown()),
+        };
+        match &self.item(id).kind {
+            ItemKind::Struct(_) | ItemKind::Enum(_) => Ok(Type::Item { id, arguments }),
+            ItemKind::Alias(alias) => {
+                let bindings = type_names(&alias.generics).zip(arguments).collect();
+                Ok(self.type_in(&self.place(id)?, &alias.target)?.with(&bindings))
+            }
+            _ => Err(unknown()),
+        }
+    }
+
+    /// Returns the type parameters of a struct or an enum.
+    pub fn parameters(&self, id: Id) -> Vec<String> {
+        match &self.item(id).kind {
+            ItemKind::Struct(found) => type_names(&found.generics).collect(),
+            ItemKind::Enum(found) => type_names(&found.generics).collect(),
+            _ => Vec::new(),
+        }
+    }
+
+    /// Returns the fields of a struct, or of a variant of an enum, with their types.
+    pub fn fields(
+        &self,
+        id: Id,
+        variant: Option<usize>,
+        arguments: &[Type],
+    ) -> Done<Vec<(String, Type)>> {
+        let fields = match (&self.item(id).kind, variant) {
+            (ItemKind::Struct(found), None) => &found.fields,
+            (ItemKind::Enum(found), Some(variant)) => &found.variants[variant].fields,
+            _ => return Err(self.source(id).fault(self.item(id).span, "C: no fields")),
+        };
+        let place = self.place(id)?;
+        let bindings = self.parameters(id).into_iter().zip(arguments.iter().cloned()).collect();
+        let types = list(fields).iter().map(|field| {
+            let of = self.type_in(&place, &field.annotation)?;
+            Ok((field.name.text.clone(), of.with(&bindings)))
+        });
+        types.collect()
+    }
+
+    pub fn variants(&self, id: Id) -> &'a [Variant] {
+        if let ItemKind::Enum(found) = &self.item(id).kind { &found.variants } else { &[] }
+    }
+
+    /// Says whether values of a type have no bytes.
+    pub fn is_zero(&self, of: &Type) -> bool {
+        match of {
+            Type::Marker => true,
+            Type::Tuple(parts) => parts.iter().all(|part| self.is_zero(part)),
+            Type::Pointer(target) => self.is_zero(target),
+            Type::Item { id, arguments } => {
+                let is_struct = matches!(self.item(*id).kind, ItemKind::Struct(_));
+                let fields = self.fields(*id, None, arguments);
+                is_struct && fields.is_ok_and(|it| it.iter().all(|(_, of)| self.is_zero(of)))
+            }
+            _ => false,
+        }
+    }
+
+    /// Finds a member of a type by its name, and the generics of its `impl`.
+    pub fn member(&self, place: &Place, of: &Type, name: &str) -> Option<(Id, Bindings)> {
+        if let Type::Parameter(parameter) = of {
+            let traits = place.parameters.get(parameter)?;
+            return traits.iter().find_map(|it| self.member_of_trait(*it, of, name));
+        }
+        let fitting = || {
+            self.implementations
+                .iter()
+                .filter_map(|(id, found)| Some((*id, *found, self.matches(*id, found, of)?)))
+        };
+        for (id, found, bindings) in fitting() {
+            if let Some(member) = position(&found.members, name) {
+                return Some((Id { member: Some(member), ..id }, bindings));
+            }
+        }
+        fitting().find_map(|(id, found, _)| {
+            let of_trait = self.trait_of(id.module, found.of.as_ref()?)?;
+            self.member_of_trait(of_trait, of, name)
+        })
+    }
+
+    // Finds a member of a trait or of those before it.
+    fn member_of_trait(&self, id: Id, of: &Type, name: &str) -> Option<(Id, Bindings)> {
+        let ItemKind::Trait(found) = &self.item(id).kind else { return None };
+        if let Some(member) = position(&found.members, name) {
+            let bindings = Bindings::from([("Self".to_string(), of.clone())]);
+            return Some((Id { member: Some(member), ..id }, bindings));
+        }
+        found.bounds.iter().find_map(|bound| match bound {
+            Bound::Trait(path) => self.member_of_trait(self.trait_of(id.module, path)?, of, name),
+            Bound::Lifetime(_) => None,
+        })
+    }
+
+    /// Finds the member that stands for one of a trait, for a type without parameters.
+    pub fn dispatch(&self, id: Id, of: &Type) -> Option<(Id, Bindings)> {
+        let own = Id { member: None, ..id };
+        let name = name_of(self.item(id))?;
+        let found = self.implementations.iter().find_map(|(other, found)| {
+            let of_trait = self.trait_of(other.module, found.of.as_ref()?)?;
+            let bindings = self.matches(*other, found, of).filter(|_| of_trait == own)?;
+            Some((*other, position(&found.members, name), bindings))
+        });
+        let (other, member, bindings) = found?;
+        match member {
+            Some(member) => Some((Id { member: Some(member), ..other }, bindings)),
+            None => Some((id, Bindings::from([("Self".to_string(), of.clone())]))),
+        }
+    }
+
+    // Returns what the generics of an `impl` stand for if it is one of this type. An `impl` for each type with
+    // some trait is of none: only engines that read byte by byte have one.
+    fn matches(&self, id: Id, found: &Implementation, of: &Type) -> Option<Bindings> {
+        let place = self.place(id).ok()?;
+        let mut bindings = Bindings::new();
+        match (place.self_type?, of) {
+            (Type::Item { id, arguments }, Type::Item { id: own, arguments: known })
+                if id == *own && arguments.len() == known.len() =>
+            {
+                for (argument, known) in arguments.iter().zip(known) {
+                    let Type::Parameter(name) = argument else { return None };
+                    bindings.insert(name.clone(), known.clone());
+                }
+                Some(bindings)
+            }
+            (target, of) if found.generics.parameters.is_empty() && target == *of => Some(bindings),
+            _ => None,
+        }
+    }
+
+    /// Returns the types of all fields of a struct or an enum.
+    pub fn all_fields(&self, id: Id, arguments: &[Type]) -> Done<Vec<Type>> {
+        let variants = match self.variants(id).len() {
+            0 => vec![None],
+            count => (0..count).map(Some).collect(),
+        };
+        let fields = variants.into_iter().map(|variant| self.fields(id, variant, arguments));
+        let fields = fields.collect::<Result<Vec<_>, _>>()?;
+        Ok(fields.concat().into_iter().map(|(_, of)| of).collect())
+    }
+
+    /// Says why an item is refused.
+    pub fn fault_of(&self, id: Id, reason: impl std::fmt::Display) -> Fault {
+        self.fault(id, self.item(id).span, format!("C: {reason}"))
+    }
+
+    pub fn fault(&self, id: Id, span: Span, reason: impl Into<String>) -> Fault {
+        self.source(id).fault(span, reason)
+    }
+}
+
+/// Returns the name of a function or a constant.
+pub fn name_of(item: &Item) -> Option<&str> {
+    match &item.kind {
+        ItemKind::Function(function) => Some(&function.name.text),
+        ItemKind::Constant(constant) => Some(&constant.name.text),
+        ItemKind::Struct(found) => Some(&found.name.text),
+        ItemKind::Enum(found) => Some(&found.name.text),
+        _ => None,
+    }
+}
+
+// Returns the types among generic parameters.
+fn type_names(generics: &Generics) -> impl Iterator<Item = String> {
+    let names = generics.parameters.iter().filter(|it| matches!(it.kind, GenericKind::Type(_)));
+    names.map(|it| it.name.text.clone())
+}
+
+fn list(fields: &Fields) -> &[Field] {
+    match fields {
+        Fields::Unit => &[],
+        Fields::Tuple(fields) | Fields::Named(fields) => fields,
+    }
+}
+
+fn position(members: &[Item], name: &str) -> Option<usize> {
+    members.iter().position(|it| name_of(it) == Some(name))
+}
+
+/// Returns a type of integers by its name.
+pub fn integer(name: &str) -> Option<Type> {
+    let (is_signed, bits) = (name.starts_with('i'), name.get(1..)?);
+    let is_size = bits == "size";
+    let bits = match bits {
+        "8" | "16" | "32" | "64" | "128" => bits.parse().ok()?,
+        "size" => 64,
+        _ => return None,
+    };
+    let is_known = is_signed || name.starts_with('u');
+    is_known.then_some(Type::Integer(Integer { bits, is_signed, is_size }))
+}
+
+fn foreign_type(name: &str, arguments: &mut Vec<Type>) -> Option<Type> {
+    let mut next = || (!arguments.is_empty()).then(|| Box::new(arguments.remove(0)));
+    match name {
+        "bool" => Some(Type::Boolean),
+        "str" => Some(Type::slice(Type::BYTE, false)),
+        "Option" => Some(Type::Option(next()?)),
+        "Result" => Some(Type::Result(next()?, next()?)),
+        "std::marker::PhantomData" => Some(Type::Marker),
+        "std::num::IntErrorKind" => Some(Type::ErrorKind),
+        _ => integer(name),
+    }
+}

@@ -1,0 +1,274 @@
+//! Refuses names that stand for something else in Rust, hide another, or are not known in both languages.
+
+use crate::modules::{CRATES, Package};
+use crate::parser::is_capital;
+use crate::resolve::{Definition, Namespace, Scopes};
+use crate::source::{Fault, Source, Span};
+use crate::std_names::{self, has};
+use crate::tree::{
+    Bound, Fields, Function, GenericKind, Implementation, Import, ImportKind, Item, ItemKind, Name,
+    Path,
+};
+use crate::visit::{self, Part, Role};
+use std::collections::BTreeSet;
+
+// Our methods that are called. No type of `std` has a method of such a name.
+const OWN_METHODS: &str =
+    "index parts text tick guessed_number next_number read_guessed read_part read_plain";
+
+// Names with which Rust begins paths, and those of what the Rust leaves out or replaces.
+const RESERVED: &str = "std core alloc proved Model Formatter";
+
+/// Checks all modules.
+pub fn check(package: &Package, scopes: &Scopes) -> Result<(), Fault> {
+    let members = Members::new(package)?;
+    for (module, found) in package.modules.iter().enumerate() {
+        let (source, members, locals) = (&found.source, &members, Vec::new());
+        let mut names = Names { scopes, module, source, members, locals };
+        for part in found.tree.items.iter().flat_map(visit::parts) {
+            names.part(part)?;
+        }
+    }
+    Ok(())
+}
+
+// The names of what belongs to types of the package.
+#[derive(Default)]
+struct Members {
+    // All functions and constants, and which of these are methods.
+    all: BTreeSet<String>,
+    methods: BTreeSet<String>,
+}
+
+impl Members {
+    // Collects them. Refuses a method of a trait of ours that has the name of another method of ours: which
+    // one a call means depends on the type.
+    fn new(package: &Package) -> Result<Members, Fault> {
+        let mut members = Members::default();
+        for is_trait in [false, true] {
+            for module in &package.modules {
+                for item in &module.tree.items {
+                    let found = match &item.kind {
+                        ItemKind::Trait(item) if is_trait => &item.members,
+                        ItemKind::Implementation(item) if !is_trait && item.of.is_none() => {
+                            &item.members
+                        }
+                        _ => continue,
+                    };
+                    found.iter().try_for_each(|it| members.add(it, is_trait, &module.source))?;
+                }
+            }
+        }
+        Ok(members)
+    }
+
+    fn add(&mut self, member: &Item, is_trait: bool, source: &Source) -> Result<(), Fault> {
+        let (name, is_method) = match &member.kind {
+            ItemKind::Function(Function { name, receiver, .. }) => (name, receiver.is_some()),
+            ItemKind::Constant(constant) => (&constant.name, false),
+            _ => return Ok(()),
+        };
+        self.all.insert(name.text.clone());
+        if is_method && !self.methods.insert(name.text.clone()) && is_trait {
+            let reason = format!("a second method by the name `{}`", name.text);
+            return Err(source.fault(name.span, reason));
+        }
+        Ok(())
+    }
+}
+
+struct Names<'a> {
+    scopes: &'a Scopes<'a>,
+    module: usize,
+    source: &'a Source,
+    members: &'a Members,
+    // The local names of the scopes that are open, the innermost last.
+    locals: Vec<Vec<String>>,
+}
+
+impl Names<'_> {
+    fn part(&mut self, part: Part) -> Result<(), Fault> {
+        match part {
+            Part::Item(item) => return self.item(item),
+            Part::Path(path, role) if !self.is_known(path, role) => return self.refuse(path.span),
+            Part::Method(call) if !self.is_known_method(&call.name.text) => {
+                return self.refuse(call.name.span);
+            }
+            Part::Local(name) if self.hides(&name.text) => return self.refuse(name.span),
+            Part::Local(name) => self.locals.last_mut().into_iter().for_each(|scope| {
+                scope.push(name.text.clone());
+            }),
+            Part::Enter => self.locals.push(Vec::new()),
+            Part::Leave => drop(self.locals.pop()),
+            Part::Path(..) | Part::Method(_) => {}
+        }
+        Ok(())
+    }
+
+    fn item(&self, item: &Item) -> Result<(), Fault> {
+        match &item.kind {
+            ItemKind::Use(import) => import.imports.iter().try_for_each(|it| self.import(it)),
+            ItemKind::Module(name) => self.declare(name, false),
+            ItemKind::Constant(item) => self.declare(&item.name, true),
+            ItemKind::Function(item) => self.declare(&item.name, false),
+            ItemKind::Alias(item) => self.declare(&item.name, true),
+            ItemKind::Trait(item) => self.declare(&item.name, true),
+            ItemKind::Struct(item) => {
+                self.declare(&item.name, true)?;
+                self.declare_fields(&item.fields)
+            }
+            ItemKind::Enum(item) => {
+                self.declare(&item.name, true)?;
+                item.variants.iter().try_for_each(|variant| {
+                    self.check_case(&variant.name, true)?;
+                    self.declare_fields(&variant.fields)
+                })
+            }
+            ItemKind::Implementation(item) => self.implementation(item),
+            ItemKind::Ghost(_) => Ok(()),
+        }
+    }
+
+    // Refuses an import that hides what is built in, or gives a function another name: its conditions are found
+    // by its own.
+    fn import(&self, import: &Import) -> Result<(), Fault> {
+        let last = &import.path[import.path.len() - 1];
+        match &import.kind {
+            ImportKind::Alias(name) if import.path.len() > 1 => self.refuse(name.span),
+            ImportKind::Alias(name) => self.declare(name, false),
+            ImportKind::Name if std_names::is_built_in(&last.text) => self.refuse(last.span),
+            ImportKind::Name | ImportKind::All => Ok(()),
+        }
+    }
+
+    fn is_known_method(&self, name: &str) -> bool {
+        let is_own = self.members.methods.contains(name);
+        has(if is_own { OWN_METHODS } else { std_names::METHODS }, name)
+    }
+
+    // Whether a local name hides a type, or means something without being declared.
+    fn hides(&self, name: &str) -> bool {
+        let is_type = self.scopes.get(self.module, Namespace::Types, name).is_some();
+        is_type && is_capital(name) || is_reserved(name)
+    }
+
+    fn refuse(&self, span: Span) -> Result<(), Fault> {
+        let text = self.source.at(span).lines().next().unwrap_or_default();
+        let reason = format!("`{text}` is not known here, or means something else in Rust");
+        Err(self.source.fault(span, reason))
+    }
+
+    // Refuses a name of an item that hides another, or looks like one of another kind.
+    fn declare(&self, name: &Name, is_large: bool) -> Result<(), Fault> {
+        if is_reserved(&name.text) {
+            self.refuse(name.span)
+        } else {
+            self.check_case(name, is_large)
+        }
+    }
+
+    // Patterns are read by the case of their names: a small one binds.
+    fn check_case(&self, name: &Name, is_large: bool) -> Result<(), Fault> {
+        if is_capital(&name.text) == is_large { Ok(()) } else { self.refuse(name.span) }
+    }
+
+    fn declare_fields(&self, fields: &Fields) -> Result<(), Fault> {
+        let fields = if let Fields::Named(fields) = fields { fields.as_slice() } else { &[] };
+        fields.iter().try_for_each(|field| self.check_case(&field.name, false))
+    }
+
+    // Refuses an `impl` of a trait of ours for types that users can make: each parameter must have a trait of
+    // ours, which no type of theirs has.
+    fn implementation(&self, item: &Implementation) -> Result<(), Fault> {
+        let is_own = |path: &Path| self.is_own_trait(&path.names());
+        let is_own_bound = |bound: &Bound| matches!(bound, Bound::Trait(path) if is_own(path));
+        let mut parameters = item.generics.parameters.iter();
+        let is_open = |kind: &GenericKind| match kind {
+            GenericKind::Type(bounds) => !bounds.iter().any(is_own_bound),
+            GenericKind::Lifetime | GenericKind::Constant(_) => false,
+        };
+        match parameters.find(|parameter| is_open(&parameter.kind)) {
+            Some(open) if item.of.as_ref().is_some_and(is_own) => {
+                let reason = "an `impl` of a trait of ours for types that users can make";
+                Err(self.source.fault(open.name.span, reason))
+            }
+            _ => Ok(()),
+        }
+    }
+
+    fn is_own_trait(&self, names: &[&str]) -> bool {
+        let found = self.scopes.resolve(self.module, Namespace::Types, names);
+        let item = found.and_then(|found| self.scopes.item(&found.definition));
+        item.is_some_and(|item| matches!(item.kind, ItemKind::Trait(_)))
+    }
+
+    fn is_local(&self, name: &str) -> bool {
+        self.locals.iter().flatten().any(|local| local == name)
+    }
+
+    fn is_known(&self, path: &Path, role: Role) -> bool {
+        match *path.names() {
+            // A variable that is called would be a pointer to a function.
+            ["self" | "Self"] => role != Role::Callee,
+            [name] if self.is_local(name) => role != Role::Callee,
+            [first, name] if first == "Self" || self.is_local(first) => self.is_member(name, role),
+            ref names => self.is_resolved(names, role),
+        }
+    }
+
+    // Whether a name is that of a function or constant of one of our types, used as such.
+    fn is_member(&self, name: &str, role: Role) -> bool {
+        self.members.all.contains(name) && is_used(name, role)
+    }
+
+    fn is_resolved(&self, names: &[&str], role: Role) -> bool {
+        let spaces: &[Namespace] = match role {
+            Role::Value | Role::Callee | Role::Pattern => &[Namespace::Values],
+            // An argument may be a constant.
+            Role::Type => &[Namespace::Types, Namespace::Values],
+            Role::Bound | Role::Trait | Role::Struct => &[Namespace::Types],
+        };
+        let found = spaces.iter().find_map(|it| self.scopes.resolve(self.module, *it, names));
+        let Some(found) = found else { return false };
+        match (&names[found.used..], &found.definition) {
+            ([], Definition::Foreign(path)) => is_right(path, role),
+            ([], Definition::Module(_)) => false,
+            ([], Definition::Variant { .. }) => true,
+            ([], Definition::Item { .. }) => match (self.scopes.item(&found.definition), role) {
+                // What is called through a value need not meet its conditions.
+                (Some(Item { kind: ItemKind::Function(_), .. }), role) => role == Role::Callee,
+                (_, Role::Bound | Role::Trait) => self.is_own_trait(names),
+                _ => true,
+            },
+            ([name], Definition::Foreign(_)) => {
+                has(std_names::ASSOCIATED, name) && is_used(name, role)
+            }
+            ([name], _) => self.is_member(name, role),
+            _ => false,
+        }
+    }
+}
+
+// Whether something of `std` may have a role.
+fn is_right(path: &str, role: Role) -> bool {
+    match role {
+        Role::Bound => has(std_names::BOUNDS, path),
+        Role::Trait => has(std_names::IMPLEMENTED, path),
+        Role::Callee => has("Some Ok Err std::str::from_utf8", path),
+        _ => path != "std::str::from_utf8" && path != "std::fmt",
+    }
+}
+
+// Whether a member is used as its name says: a function is called, and a constant is a value.
+fn is_used(name: &str, role: Role) -> bool {
+    match role {
+        Role::Callee => !is_capital(name),
+        Role::Value | Role::Pattern => is_capital(name),
+        _ => false,
+    }
+}
+
+// Whether a name means something without being declared.
+fn is_reserved(name: &str) -> bool {
+    std_names::is_built_in(name) || CRATES.contains(&name) || has(RESERVED, name)
+}

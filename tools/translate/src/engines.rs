@@ -1,0 +1,55 @@
+//! The engines of the package. Which engine and which calls the ten functions run on is one file per crate,
+//! `src/default_engine.rt`. Here another file stands in its place, which names those that are tuned for
+//! compilers. The clauses are the same, and `.ci/kit` proves the crates with these files, too.
+
+use crate::tree::{Item, ItemKind};
+use std::path::{Path, PathBuf};
+
+/// The folder of the files that stand in place of `default_engine.rt`, one for each crate that has it. They end in
+/// `rs`, as the kit takes `rt` only in the folders of crates.
+pub const TWINS: &str = "rust/default_engine";
+
+/// The modules of `atoi_lanes` that only the engine `Lanes` needs, whose vectors `rust/src/simd` does not have.
+pub const LEFT_OUT: [&str; 4] = ["kernels", "lanes", "wide_lanes", "window_32"];
+
+// The module of `atoi_fast` that the package has only with the feature `lanes`.
+const WITH_LANES: &str = "vectors";
+
+/// Returns the file that stands in place of a module of a crate, if one does.
+pub fn twin(crate_name: &str, module: &[String]) -> Option<PathBuf> {
+    let is_named = texts(module) == ["default_engine"];
+    is_named.then(|| Path::new(TWINS).join(crate_name).with_extension("rs"))
+}
+
+/// Says whether the package leaves out this module.
+pub fn is_left_out(crate_name: &str, module: &[String]) -> bool {
+    crate_name == "atoi_lanes"
+        && module.first().is_some_and(|first| LEFT_OUT.contains(&first.as_str()))
+}
+
+/// Says whether the package leaves out an item of the root of a crate: it declares a module that is left out,
+/// or imports from one.
+pub fn leaves_out_item(crate_name: &str, item: &Item) -> bool {
+    crate_name == "atoi_lanes" && is_of_modules(item, &LEFT_OUT)
+}
+
+/// Says whether the package has an item of the root of a crate only with the feature `lanes`.
+pub fn needs_lanes(crate_name: &str, item: &Item) -> bool {
+    crate_name == "atoi_fast" && is_of_modules(item, &[WITH_LANES])
+}
+
+// Whether an item declares one of these modules of its crate, or imports from them alone.
+fn is_of_modules(item: &Item, modules: &[&str]) -> bool {
+    match &item.kind {
+        ItemKind::Module(name) => modules.contains(&name.text.as_str()),
+        ItemKind::Use(import) => import.imports.iter().all(|import| {
+            let mut path = import.path.iter().map(|name| name.text.as_str());
+            path.next() == Some("crate") && path.next().is_some_and(|name| modules.contains(&name))
+        }),
+        _ => false,
+    }
+}
+
+fn texts(names: &[String]) -> Vec<&str> {
+    names.iter().map(String::as_str).collect()
+}

@@ -1,0 +1,218 @@
+//! What `rust/src/lib.rs` exports of the proved crates. Conditions are tested in what is exported by name, so
+//! no export may be a module, all names of one, or another name of something. What is proved of a trait holds
+//! for our own types alone, so users must not be able to implement one.
+
+use crate::lexer::{Language, lex};
+use crate::modules::CRATES;
+use crate::parser::Parser;
+use crate::resolve::{Definition, Namespace, Scopes};
+use crate::source::{Fault, Source, Span};
+use crate::std_names::has;
+use crate::token::{Kind, Token};
+use crate::tree::{Bound, Import, ImportKind, ItemKind, Name, Trait};
+
+// The attributes that the facade may have.
+const ATTRIBUTES: &str = "allow cfg cfg_attr no_std rustfmt warn";
+
+// Words that no attribute of it may have: they take in files or names that are not read here.
+const REFUSED: &str = "path include macro_use proved";
+
+// The modules that depend on the feature `lanes`.
+const MODULES_OF_LANES: &str = "atoi_lanes lanes simd";
+
+/// A name that is exported, of a crate.
+pub struct Export {
+    pub crate_name: &'static str,
+    pub name: Name,
+}
+
+/// Reads what the facade exports. It names the proved crates only in `use proved::CRATE::NAME;` and
+/// `use proved::CRATE::{NAME, ..};`, where `crate::` may be in front. Its items are modules and exports.
+pub fn exports(source: &Source) -> Result<Vec<Export>, Fault> {
+    let parser = Parser::new(source, lex(source, Language::Rust)?);
+    let mut facade = Facade { source, parser, exports: Vec::new() };
+    facade.items(true)?;
+    Ok(facade.exports)
+}
+
+struct Facade<'a> {
+    source: &'a Source,
+    parser: Parser<'a>,
+    exports: Vec<Export>,
+}
+
+impl Facade<'_> {
+    // Reads items up to the end of the file, or up to the `}` of a module.
+    fn items(&mut self, is_top: bool) -> Result<(), Fault> {
+        loop {
+            let mut needs_lanes = false;
+            loop {
+                match self.parser.kind() {
+                    Kind::Doc | Kind::InnerDoc => drop(self.parser.step()),
+                    _ if self.parser.eat("#") => needs_lanes |= self.attribute()?,
+                    _ => break,
+                }
+            }
+            if is_top && self.parser.kind() == Kind::End || !is_top && self.parser.eat("}") {
+                return Ok(());
+            }
+            self.item(needs_lanes, is_top)?;
+        }
+    }
+
+    // Reads an attribute behind its `#`. Returns whether it says that its item needs the feature `lanes`.
+    fn attribute(&mut self) -> Result<bool, Fault> {
+        let is_inner = self.parser.eat("!");
+        self.parser.expect("[")?;
+        let name = self.parser.span();
+        let (mut depth, mut needs_lanes) = (1, false);
+        let mut is_known = has(ATTRIBUTES, self.parser.text());
+        while depth > 0 {
+            match self.parser.text() {
+                "[" => depth += 1,
+                "]" => depth -= 1,
+                "\"lanes\"" => needs_lanes = !is_inner,
+                text => is_known &= !has(REFUSED, text),
+            }
+            if !is_known || self.parser.kind() == Kind::End {
+                let reason = format!("this attribute `{}` is not known here", self.source.at(name));
+                return Err(self.source.fault(name, reason));
+            }
+            self.parser.step();
+        }
+        Ok(needs_lanes)
+    }
+
+    fn item(&mut self, needs_lanes: bool, is_top: bool) -> Result<(), Fault> {
+        let start = self.parser.span();
+        let is_public = self.parser.eat("pub");
+        if self.parser.eat("mod") {
+            let name = self.parser.name()?;
+            if has(MODULES_OF_LANES, &name.text) || !needs_lanes {
+                return self.module(is_top && !is_public, &name);
+            }
+        }
+        if needs_lanes {
+            return Err(self.source.fault(start, "an item that needs the feature `lanes`"));
+        }
+        if is_public && self.parser.eat("use") {
+            return self.export(start);
+        }
+        if self.parser.eat("extern") {
+            self.parser.expect("crate")?;
+            self.parser.expect("std")?;
+        } else {
+            self.parser.expect("compile_error")?;
+            self.parser.expect("!")?;
+            self.parser.expect("(")?;
+            self.parser.step();
+            self.parser.expect(")")?;
+        }
+        self.parser.expect(";").map(|_| ())
+    }
+
+    // Reads what follows the name of a module. The proved crates are in one alone.
+    fn module(&mut self, may_be_proved: bool, name: &Name) -> Result<(), Fault> {
+        let has_items = !self.parser.eat(";");
+        if name.text == "proved" && !(may_be_proved && has_items) {
+            return Err(self.source.fault(name.span, "`proved` outside of a known export"));
+        }
+        if has_items {
+            self.parser.expect("{")?;
+            self.items(false)?;
+        }
+        Ok(())
+    }
+
+    // Reads what follows `pub use`.
+    fn export(&mut self, start: Span) -> Result<(), Fault> {
+        for import in self.parser.use_()?.imports {
+            match exported(&import) {
+                Some(export) => self.exports.push(export),
+                None if import.path.iter().any(|name| name.text == "proved") => {
+                    return Err(self.source.fault(start, "this form of export is not known here"));
+                }
+                None => {}
+            }
+        }
+        Ok(())
+    }
+}
+
+// Returns what a path of `use` exports of the proved crates, if its form is known.
+fn exported(import: &Import) -> Option<Export> {
+    let names: Vec<&str> = import.path.iter().map(|name| name.text.as_str()).collect();
+    let ["proved", owner, _] = names.strip_prefix(&["crate"]).unwrap_or(&names) else {
+        return None;
+    };
+    let crate_name = CRATES.into_iter().find(|known| known == owner)?;
+    let name = import.path.last().filter(|_| matches!(import.kind, ImportKind::Name))?;
+    Some(Export { crate_name, name: name.clone() })
+}
+
+/// Refuses an export that is no function, struct, `enum` or sealed trait, or not only that.
+pub fn check(source: &Source, exports: &[Export], scopes: &Scopes) -> Result<(), Fault> {
+    for export in exports {
+        let Export { crate_name, name } = export;
+        let found = [Namespace::Types, Namespace::Values]
+            .map(|space| scopes.in_root(crate_name, space, &name.text));
+        let is_known = found.iter().any(Option::is_some)
+            && found.iter().flatten().all(|definition| is_item(definition, exports, scopes));
+        if !is_known {
+            let reason = format!("`{}` is no function, struct, `enum` or sealed trait", name.text);
+            return Err(source.fault(name.span, reason));
+        }
+    }
+    Ok(())
+}
+
+fn is_item(definition: &Definition, exports: &[Export], scopes: &Scopes) -> bool {
+    match scopes.item(definition).map(|item| &item.kind) {
+        Some(ItemKind::Function(_) | ItemKind::Struct(_) | ItemKind::Enum(_)) => true,
+        Some(ItemKind::Trait(item)) => is_sealed(definition, item, exports, scopes),
+        _ => false,
+    }
+}
+
+// Whether users cannot implement a trait: it has a supertrait of ours that is not exported, so that no path of
+// theirs names it.
+fn is_sealed(definition: &Definition, item: &Trait, exports: &[Export], scopes: &Scopes) -> bool {
+    let Definition::Item { module, .. } = definition else { return false };
+    let is_hidden = |bound: &Bound| {
+        let Bound::Trait(path) = bound else { return false };
+        let Some(found) = scopes.resolve(*module, Namespace::Types, &path.names()) else {
+            return false;
+        };
+        let is_exported = |export: &Export| {
+            let other = scopes.in_root(export.crate_name, Namespace::Types, &export.name.text);
+            other == Some(&found.definition)
+        };
+        scopes.item(&found.definition).is_some() && !exports.iter().any(is_exported)
+    };
+    item.bounds.iter().any(is_hidden)
+}
+
+/// Refuses a hand-written file that is not the facade if it names the proved crates: it could export what is
+/// in them, or call it where its conditions do not hold.
+pub fn check_other(source: &Source) -> Result<(), Fault> {
+    let tokens = lex(source, Language::Rust)?;
+    check_files(source, &tokens)?;
+    match tokens.iter().find(|token| source.at(token.span) == "proved") {
+        Some(token) => Err(source.fault(token.span, "`proved` outside of the facade")),
+        None => Ok(()),
+    }
+}
+
+// Refuses what takes in a file that may not be read here: one in another folder, or of another kind.
+fn check_files(source: &Source, tokens: &[Token]) -> Result<(), Fault> {
+    let is_read = |file: &str| file.ends_with(".rs\"") && !file.contains(['/', '\\']);
+    let is_unread = |tokens: &[Token]| match [0, 1, 2].map(|at| source.at(tokens[at].span)) {
+        ["include", "!", _] => true,
+        ["path", "=", file] => !is_read(file) || file.starts_with("\"."),
+        _ => false,
+    };
+    match tokens.windows(3).find(|tokens| is_unread(tokens)) {
+        Some(tokens) => Err(source.fault(tokens[0].span, "a file that is not read here")),
+        None => Ok(()),
+    }
+}

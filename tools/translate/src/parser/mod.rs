@@ -1,0 +1,193 @@
+//! Reads the tree of a module. Every form without a rule here is refused, at its first token.
+
+mod expressions;
+mod items;
+mod literals;
+mod patterns;
+mod statements;
+mod types;
+
+pub use items::is_model;
+
+use crate::lexer::{Language, lex};
+use crate::source::{Fault, Source, Span};
+use crate::token::{Kind, Token};
+use crate::tree::{Name, Tree};
+
+// Words that are no names: those of Rust, also for later use, and those of Rattle.
+const KEYWORDS: &[&str] = &[
+    "_", "as", "async", "await", "break", "const", "continue", "crate", "dyn", "else", "enum",
+    "extern", "false", "fn", "for", "if", "impl", "in", "let", "loop", "match", "mod", "move",
+    "mut", "pub", "ref", "return", "self", "Self", "static", "struct", "super", "trait", "true",
+    "type", "unsafe", "use", "where", "while", "abstract", "become", "box", "do", "final", "gen",
+    "macro", "override", "priv", "raw", "safe", "try", "typeof", "union", "unsized", "virtual",
+    "yield", "auto", "default", "ensures", "ghost", "requires",
+];
+
+/// Reads the tree of a proved source.
+pub fn parse(source: &Source) -> Result<Tree, Fault> {
+    Parser::new(source, lex(source, Language::Rattle)?).tree()
+}
+
+/// A place in the tokens of a source.
+pub struct Parser<'a> {
+    source: &'a Source,
+    tokens: Vec<Token>,
+    at: usize,
+    // Where what was read ends, which may be within a symbol.
+    end: usize,
+    // Whether `NAME {` begins a struct. Otherwise it is a name before a block.
+    takes_structs: bool,
+}
+
+impl<'a> Parser<'a> {
+    /// Begins at the first token. The last token is the end.
+    pub fn new(source: &'a Source, tokens: Vec<Token>) -> Parser<'a> {
+        Parser { source, tokens, at: 0, end: 0, takes_structs: true }
+    }
+
+    // The token after as many others, or the end.
+    fn ahead(&self, count: usize) -> &Token {
+        &self.tokens[(self.at + count).min(self.tokens.len() - 1)]
+    }
+
+    /// Returns the kind of the next token.
+    pub fn kind(&self) -> Kind {
+        self.ahead(0).kind
+    }
+
+    /// Returns the part of the next token.
+    pub fn span(&self) -> Span {
+        self.ahead(0).span
+    }
+
+    /// Returns the text of the next token.
+    pub fn text(&self) -> &'a str {
+        self.source.at(self.span())
+    }
+
+    /// Says whether the next token is this keyword or symbol.
+    pub fn is(&self, text: &str) -> bool {
+        self.is_ahead(0, text)
+    }
+
+    // Whether the token after `count` others is this keyword or symbol.
+    fn is_ahead(&self, count: usize, text: &str) -> bool {
+        let token = self.ahead(count);
+        matches!(token.kind, Kind::Name | Kind::Symbol) && self.source.at(token.span) == text
+    }
+
+    fn is_one_of(&self, texts: &[&str]) -> bool {
+        texts.iter().any(|text| self.is(text))
+    }
+
+    /// Steps over the next token, and returns its part.
+    pub fn step(&mut self) -> Span {
+        let span = self.span();
+        self.at = (self.at + 1).min(self.tokens.len() - 1);
+        self.end = span.end;
+        span
+    }
+
+    /// Steps over a keyword or symbol if it comes next.
+    pub fn eat(&mut self, text: &str) -> bool {
+        let is_next = self.is(text);
+        if is_next {
+            self.step();
+        }
+        is_next
+    }
+
+    // Steps over a sign if it comes next, also as the first half of a symbol: `>` of `>>`, `&` of `&&`, `|`
+    // of `||`.
+    fn eat_sign(&mut self, sign: &str) -> bool {
+        let is_half = self.kind() == Kind::Symbol && self.text() == sign.repeat(2);
+        if is_half {
+            self.tokens[self.at].span.start += sign.len();
+            self.end = self.span().start;
+        }
+        is_half || self.eat(sign)
+    }
+
+    /// Steps over a keyword or symbol, which must come next.
+    pub fn expect(&mut self, text: &str) -> Result<Span, Fault> {
+        let span = self.span();
+        if self.eat(text) { Ok(span) } else { self.refuse(&format!("`{text}`")) }
+    }
+
+    /// Refuses the next token, in whose place there should be something else.
+    pub fn refuse<T>(&self, expected: &str) -> Result<T, Fault> {
+        let found = match self.kind() {
+            Kind::End => "the end of the file".into(),
+            _ => format!("`{}`", self.text().lines().next().unwrap_or_default()),
+        };
+        Err(self.source.fault(self.span(), format!("{found}, and not {expected}")))
+    }
+
+    // Refuses a form.
+    fn refuse_form<T>(&self, span: Span, form: &str) -> Result<T, Fault> {
+        Err(self.source.fault(span, format!("{form} is not known here")))
+    }
+
+    // What was read from `start` on.
+    fn since(&self, start: Span) -> Span {
+        Span { start: start.start, end: self.end }
+    }
+
+    // Whether a name that is no keyword comes next.
+    fn is_name(&self) -> bool {
+        self.kind() == Kind::Name && !KEYWORDS.contains(&self.text())
+    }
+
+    /// Reads a name that is no keyword.
+    pub fn name(&mut self) -> Result<Name, Fault> {
+        if self.is_name() { Ok(self.word()) } else { self.refuse("a name") }
+    }
+
+    // Reads a name or a keyword as a name.
+    fn word(&mut self) -> Name {
+        let text = self.text().into();
+        Name { text, span: self.step() }
+    }
+
+    // Reads a lifetime if one comes next.
+    fn lifetime(&mut self) -> Option<Name> {
+        let text = self.text().trim_start_matches('\'').into();
+        (self.kind() == Kind::Lifetime).then(|| Name { text, span: self.step() })
+    }
+
+    // Takes the comments before the next token.
+    fn comments(&mut self) -> Vec<Span> {
+        std::mem::take(&mut self.tokens[self.at].comments)
+    }
+
+    // Reads something if a keyword or symbol comes next, which is before it.
+    fn after<T>(
+        &mut self,
+        text: &str,
+        read: impl FnOnce(&mut Self) -> Result<T, Fault>,
+    ) -> Result<Option<T>, Fault> {
+        if self.eat(text) { read(self).map(Some) } else { Ok(None) }
+    }
+
+    // Reads what has commas between it, up to a sign.
+    fn list<T>(
+        &mut self,
+        end: &str,
+        mut item: impl FnMut(&mut Self) -> Result<T, Fault>,
+    ) -> Result<Vec<T>, Fault> {
+        let mut items = Vec::new();
+        while !self.eat_sign(end) {
+            items.push(item(self)?);
+            if !self.eat(",") && !self.text().starts_with(end) {
+                return self.refuse(&format!("`,` or `{end}`"));
+            }
+        }
+        Ok(items)
+    }
+}
+
+/// Says whether a name is written as those of types, variants and constants are.
+pub fn is_capital(name: &str) -> bool {
+    name.starts_with(|first: char| first.is_ascii_uppercase())
+}

@@ -1,0 +1,250 @@
+//! What the names in a module stand for: its items, what its `use` lines import, and what is built in.
+
+use crate::modules::{CRATES, Module, Package};
+use crate::source::Fault;
+use crate::std_names;
+use crate::tree::{Fields, Import, ImportKind, Item, ItemKind, Name};
+use std::collections::BTreeMap;
+
+/// Types, traits and modules have other names than functions, constants and variants.
+#[derive(Clone, Copy, Debug, PartialEq, Eq, PartialOrd, Ord)]
+pub enum Namespace {
+    Types,
+    Values,
+}
+
+/// What a name stands for. Modules and items are numbered as in the package and in the tree of their module.
+#[derive(Clone, Debug, PartialEq, Eq)]
+pub enum Definition {
+    Module(usize),
+    Item {
+        module: usize,
+        item: usize,
+    },
+    /// A variant of the `enum` that this item is.
+    Variant {
+        module: usize,
+        item: usize,
+        variant: usize,
+    },
+    /// What is built in or of Rattle's `std`, by its whole path, such as `u8` or `std::fmt::Display`.
+    Foreign(String),
+}
+
+/// What the start of a path stands for, and how many of its names that start has. The others are names of
+/// what belongs to a type.
+#[derive(Clone, Debug, PartialEq, Eq)]
+pub struct Resolved {
+    pub definition: Definition,
+    pub used: usize,
+}
+
+/// The names of all modules.
+#[derive(Debug)]
+pub struct Scopes<'a> {
+    package: &'a Package,
+    modules: Vec<Scope>,
+}
+
+type Scope = BTreeMap<(Namespace, String), Definition>;
+
+impl<'a> Scopes<'a> {
+    /// Resolves all `use` lines. Refuses two items of one name, and imports of what is not there.
+    pub fn new(package: &'a Package) -> Result<Scopes<'a>, Fault> {
+        let mut scopes = Scopes { package, modules: Vec::new() };
+        for (number, module) in package.modules.iter().enumerate() {
+            scopes.modules.push(own_items(package, number, module)?);
+        }
+        // An import may be of what another module imports.
+        let mut open = scopes.all_imports();
+        while !open.is_empty() {
+            let before = open.len();
+            let mut unresolved = Vec::new();
+            for (module, import) in open {
+                if !scopes.add_import(module, import)? {
+                    unresolved.push((module, import));
+                }
+            }
+            open = unresolved;
+            if let Some((module, import)) = open.first().filter(|_| open.len() == before) {
+                return Err(not_there(&package.modules[*module], import));
+            }
+        }
+        Ok(scopes)
+    }
+
+    fn all_imports(&self) -> Vec<(usize, &'a Import)> {
+        let uses = self.package.modules.iter().enumerate().flat_map(|(number, module)| {
+            module.tree.items.iter().filter_map(move |item| match &item.kind {
+                ItemKind::Use(import) => Some((number, import)),
+                _ => None,
+            })
+        });
+        uses.flat_map(|(number, import)| import.imports.iter().map(move |it| (number, it)))
+            .collect()
+    }
+
+    // Adds what is imported to the names of a module. Returns whether it was found.
+    fn add_import(&mut self, module: usize, import: &Import) -> Result<bool, Fault> {
+        let (names, last) = (import.names(), &import.path[import.path.len() - 1]);
+        let mut found = Vec::new();
+        if let ImportKind::All = import.kind {
+            for name in std_names::names_of(&names.join("::")) {
+                let definition = foreign(&[&*names, &[name]].concat());
+                found.push(((Namespace::Types, name.to_string()), definition));
+            }
+        } else {
+            let name = if let ImportKind::Alias(name) = &import.kind { name } else { last };
+            for namespace in [Namespace::Types, Namespace::Values] {
+                let definition = self.imported(module, namespace, &names);
+                found.extend(definition.map(|it| ((namespace, name.text.clone()), it)));
+            }
+        }
+        let is_found = !found.is_empty();
+        for (key, definition) in found {
+            if self.modules[module].insert(key, definition).is_some() {
+                return Err(second_item(&self.package.modules[module], last));
+            }
+        }
+        Ok(is_found)
+    }
+
+    // Resolves the path of a `use`, which begins with `crate`, `std` or a crate.
+    fn imported(&self, module: usize, namespace: Namespace, names: &[&str]) -> Option<Definition> {
+        match names[0] {
+            "std" => return std_names::is_known(&names.join("::")).then(|| foreign(names)),
+            name if name != "crate" && !CRATES.contains(&name) => return None,
+            _ => {}
+        }
+        let found = self.resolve(module, namespace, names)?;
+        (found.used == names.len()).then_some(found.definition)
+    }
+
+    // Goes on from a definition by the names of a path from `used` on.
+    fn below(
+        &self,
+        mut definition: Definition,
+        namespace: Namespace,
+        names: &[&str],
+        mut used: usize,
+    ) -> Option<Resolved> {
+        while let Some(name) = names.get(used) {
+            let is_last = used + 1 == names.len();
+            let space = if is_last { namespace } else { Namespace::Types };
+            definition = match &definition {
+                Definition::Module(module) => self.get(*module, space, name)?.clone(),
+                Definition::Item { module, item } => match self.variant(*module, *item, name) {
+                    Some(variant) => Definition::Variant { module: *module, item: *item, variant },
+                    None => break,
+                },
+                Definition::Foreign(path) if std_names::is_known(&format!("{path}::{name}")) => {
+                    Definition::Foreign(format!("{path}::{name}"))
+                }
+                Definition::Foreign(_) | Definition::Variant { .. } => break,
+            };
+            used += 1;
+        }
+        Some(Resolved { definition, used })
+    }
+
+    /// Resolves a path in a module. Its first name must not be `Self`, a parameter or a variable.
+    pub fn resolve(&self, module: usize, namespace: Namespace, names: &[&str]) -> Option<Resolved> {
+        let first = *names.first()?;
+        let space = if names.len() == 1 { namespace } else { Namespace::Types };
+        let head = if first == "crate" { self.module(module).crate_name } else { first };
+        let definition = match self.get(module, space, head) {
+            Some(definition) => definition.clone(),
+            None if CRATES.contains(&head) && space == Namespace::Types => {
+                Definition::Module(self.package.find(head, &[])?)
+            }
+            None if std_names::is_built_in(head) => foreign(&[head]),
+            None => return None,
+        };
+        self.below(definition, namespace, names, 1)
+    }
+
+    /// Returns the item that a definition is.
+    pub fn item(&self, definition: &Definition) -> Option<&'a Item> {
+        match definition {
+            Definition::Item { module, item } => Some(&self.module(*module).tree.items[*item]),
+            _ => None,
+        }
+    }
+
+    /// Returns a module by its number.
+    pub fn module(&self, number: usize) -> &'a Module {
+        &self.package.modules[number]
+    }
+
+    /// Returns what a module declares or imports by a name.
+    pub fn get(&self, module: usize, namespace: Namespace, name: &str) -> Option<&Definition> {
+        self.modules[module].get(&(namespace, name.to_string()))
+    }
+
+    /// Returns what the root of a crate declares or imports by a name.
+    pub fn in_root(
+        &self,
+        crate_name: &str,
+        namespace: Namespace,
+        name: &str,
+    ) -> Option<&Definition> {
+        self.get(self.package.find(crate_name, &[])?, namespace, name)
+    }
+
+    // The number of a variant, if the item is an `enum` that has it.
+    fn variant(&self, module: usize, item: usize, name: &str) -> Option<usize> {
+        let ItemKind::Enum(item) = &self.module(module).tree.items[item].kind else { return None };
+        item.variants.iter().position(|variant| variant.name.text == name)
+    }
+}
+
+// Says that a path of a `use` leads nowhere.
+fn not_there(module: &Module, import: &Import) -> Fault {
+    let span = import.path[0].span.to(import.path[import.path.len() - 1].span);
+    module.source.fault(span, format!("`{}` is not known here", import.names().join("::")))
+}
+
+fn second_item(module: &Module, name: &Name) -> Fault {
+    module.source.fault(name.span, format!("a second item by the name `{}`", name.text))
+}
+
+fn foreign(names: &[&str]) -> Definition {
+    Definition::Foreign(names.join("::"))
+}
+
+// Returns what the items of a module declare.
+fn own_items(package: &Package, number: usize, module: &Module) -> Result<Scope, Fault> {
+    let mut scope = Scope::new();
+    for (item, kind) in module.tree.items.iter().map(|item| &item.kind).enumerate() {
+        let Some((name, namespaces)) = declared(kind) else { continue };
+        let definition = match kind {
+            ItemKind::Module(name) => package.below(module, &name.text).map(Definition::Module),
+            _ => Some(Definition::Item { module: number, item }),
+        };
+        for namespace in namespaces {
+            let key = (*namespace, name.text.clone());
+            if definition.clone().and_then(|definition| scope.insert(key, definition)).is_some() {
+                return Err(second_item(module, name));
+            }
+        }
+    }
+    Ok(scope)
+}
+
+/// Returns the name that an item of a module declares, and where.
+pub fn declared(kind: &ItemKind) -> Option<(&Name, &'static [Namespace])> {
+    use Namespace::{Types, Values};
+    match kind {
+        ItemKind::Module(name) => Some((name, &[Types])),
+        ItemKind::Constant(constant) => Some((&constant.name, &[Values])),
+        ItemKind::Function(function) => Some((&function.name, &[Values])),
+        ItemKind::Alias(alias) => Some((&alias.name, &[Types])),
+        ItemKind::Enum(item) => Some((&item.name, &[Types])),
+        ItemKind::Trait(item) => Some((&item.name, &[Types])),
+        ItemKind::Struct(item) => match item.fields {
+            Fields::Named(_) => Some((&item.name, &[Types])),
+            Fields::Unit | Fields::Tuple(_) => Some((&item.name, &[Types, Values])),
+        },
+        ItemKind::Use(_) | ItemKind::Implementation(_) | ItemKind::Ghost(_) => None,
+    }
+}

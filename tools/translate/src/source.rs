@@ -1,0 +1,71 @@
+//! A source, its parts, and what is wrong in it.
+
+use std::fmt;
+use std::path::{Path, PathBuf};
+
+/// The text of a file. Its path is the one that faults name.
+#[derive(Clone, Debug)]
+pub struct Source {
+    pub path: PathBuf,
+    pub text: String,
+}
+
+/// A part of a text, by the offsets of its first byte and of the byte after its last.
+#[derive(Clone, Copy, Debug, PartialEq, Eq, PartialOrd, Ord, Hash)]
+pub struct Span {
+    pub start: usize,
+    pub end: usize,
+}
+
+/// Why a file is refused: a sentence about one of its lines, or about all of it.
+#[derive(Clone, Debug, PartialEq, Eq)]
+pub struct Fault {
+    pub file: PathBuf,
+    pub line: Option<usize>,
+    pub reason: String,
+}
+
+impl Span {
+    /// Returns the part from the start of this one to the end of another.
+    pub fn to(self, last: Span) -> Span {
+        Span { start: self.start, end: last.end }
+    }
+}
+
+impl Source {
+    pub fn new(path: &Path, text: String) -> Source {
+        Source { path: path.into(), text }
+    }
+
+    /// Returns the text of a part.
+    pub fn at(&self, span: Span) -> &str {
+        &self.text[span.start..span.end]
+    }
+
+    /// Returns the number of the line in which a part begins, from 1.
+    pub fn line(&self, span: Span) -> usize {
+        1 + self.text[..span.start].matches('\n').count()
+    }
+
+    /// Says why a part is refused.
+    pub fn fault(&self, span: Span, reason: impl Into<String>) -> Fault {
+        Fault { file: self.path.clone(), line: Some(self.line(span)), reason: reason.into() }
+    }
+}
+
+impl Fault {
+    /// Says why a whole file is refused, or cannot be read or written.
+    pub fn of_file(file: &Path, reason: impl fmt::Display) -> Fault {
+        Fault { file: file.into(), line: None, reason: reason.to_string() }
+    }
+}
+
+impl fmt::Display for Fault {
+    fn fmt(&self, f: &mut fmt::Formatter<'_>) -> fmt::Result {
+        let Fault { file, line, reason } = self;
+        match line {
+            Some(line) => write!(f, "{}:{line}: {reason}", file.display()),
+            None => write!(f, "{}: {reason}", file.display()),
+        }
+    }
+}

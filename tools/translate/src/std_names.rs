@@ -1,0 +1,64 @@
+//! The names of Rattle's `std` that the sources use. Each is listed after a look at what differs silently between
+//! Rattle and Rust. No other is known.
+
+/// The types of whole numbers.
+pub const INTEGERS: [&str; 12] =
+    ["u8", "u16", "u32", "u64", "u128", "usize", "i8", "i16", "i32", "i64", "i128", "isize"];
+
+/// Other types, traits and variants that need no `use`.
+const BUILT_IN: &str = "bool str Clone Copy Debug Eq Iterator Ord PartialEq PartialOrd Option Some None \
+    Result Ok Err";
+
+/// Paths of `std`. Rust's `core` stands for it.
+const PATHS: &str = "std::cmp::Ordering std::error::Error std::fmt std::fmt::Display \
+    std::fmt::Formatter std::fmt::Result std::fmt::Write std::iter::FusedIterator std::marker::Model \
+    std::marker::PhantomData std::num::IntErrorKind std::num::IntErrorKind::Empty \
+    std::num::IntErrorKind::InvalidDigit std::num::IntErrorKind::NegOverflow \
+    std::num::IntErrorKind::PosOverflow std::str::from_utf8";
+
+/// The traits that Rust derives as Rattle does. `Drop` is left out.
+pub const DERIVED: &str = "Clone Copy Debug Drop Eq Ord PartialEq PartialOrd";
+
+/// The traits that may bound a type. Of others, such as `Eq` and `Ord`, Rattle proves laws of each type that has
+/// them, and a user's type need not keep these.
+pub const BOUNDS: &str = "Clone Copy";
+
+/// The traits that our types may have besides those that are derived.
+pub const IMPLEMENTED: &str =
+    "Iterator std::error::Error std::fmt::Display std::iter::FusedIterator std::marker::Model";
+
+/// Functions and constants of types. `from` is between integers.
+pub const ASSOCIATED: &str = "MIN MAX from from_le_bytes from_array from_slice splat";
+
+/// Methods. Only slices and ranges with an end are iterated, so that `count` and `enumerate` do not overflow.
+/// `cmp` and `partial_cmp` compare numbers, or are derived. `unwrap`, `split_at` and `copy_from_slice` panic in
+/// Rust alone, where proofs exclude it. No item of ours has such a name.
+pub const METHODS: &str = "len is_empty iter first first_chunk last_chunk split_at split_at_checked \
+    split_first copy_from_slice is_ascii_digit checked_add checked_mul checked_sub cmp max min \
+    partial_cmp saturating_add saturating_sub to_le_bytes trailing_ones trailing_zeros unsigned_abs \
+    wrapping_add wrapping_mul wrapping_sub \
+    count enumerate filter take_while ok unwrap write_str dot4 simd_eq simd_ge simd_le \
+    reduce_sum swizzle_dyn_within to_array to_bitmask";
+
+/// The vectors that `std::simd::prelude::*` imports. `rust/src/simd` stands for `std::simd`.
+const VECTORS: [&str; 3] = ["u8x16", "u16x8", "u64x2"];
+
+/// Says whether a name is built in.
+pub fn is_built_in(name: &str) -> bool {
+    INTEGERS.contains(&name) || has(BUILT_IN, name)
+}
+
+/// Says whether a path of `std` is known.
+pub fn is_known(path: &str) -> bool {
+    has(PATHS, path)
+}
+
+/// Returns the names of a module of `std` that may be imported as a whole.
+pub fn names_of(path: &str) -> &'static [&'static str] {
+    if path == "std::simd::prelude" { &VECTORS } else { &[] }
+}
+
+/// Says whether a name is in a list.
+pub fn has(list: &str, name: &str) -> bool {
+    list.split_whitespace().any(|listed| listed == name)
+}

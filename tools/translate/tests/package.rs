@@ -1,0 +1,293 @@
+//! Which files are read, what they export, what is written, and what `--check` compares.
+
+mod common;
+
+use common::rust;
+use std::fs;
+use std::path::{Path, PathBuf};
+use torkettle_translate::modules::CRATES;
+use torkettle_translate::{compare, made, write};
+
+/// A folder with the sources of a package, which goes away with it.
+struct Package(PathBuf);
+
+impl Package {
+    // Each crate has one function, and `atoi_core` a module `text` besides.
+    fn new(name: &str) -> Package {
+        let folder = Path::new(env!("CARGO_TARGET_TMPDIR")).join(name);
+        let _ = fs::remove_dir_all(&folder);
+        let package = Package(folder);
+        package.put("rust/src/lib.rs", "mod proved {}\npub use proved::atoi_simd::exported;");
+        for name in CRATES {
+            package.put(&format!("crates/{name}/src/lib.rt"), "pub fn a() -> u8 {\n    1\n}\n");
+        }
+        package.put("crates/atoi_simd/src/lib.rt", "pub fn exported() {}\n");
+        package.put("crates/atoi_core/src/lib.rt", "mod text;\n");
+        package.put("crates/atoi_core/src/text.rt", "fn size() -> u8 {\n    48\n}\n");
+        package
+    }
+
+    fn put(&self, file: &str, content: impl AsRef<[u8]>) {
+        let file = self.0.join(file);
+        fs::create_dir_all(file.parent().unwrap()).unwrap();
+        fs::write(file, content).unwrap();
+    }
+
+    // What is in the file of a module, without the comment that says of what it is made.
+    fn rust(&self, module: &str) -> String {
+        let text = fs::read_to_string(self.0.join("rust/src/proved").join(module)).unwrap();
+        assert!(text.starts_with("/* Made by .ci/translate from crates/"), "{text}");
+        text.split_once(" */ ").unwrap().1.into()
+    }
+
+    fn fault(&self) -> String {
+        made(&self.0).unwrap_err().to_string()
+    }
+}
+
+impl Drop for Package {
+    fn drop(&mut self) {
+        let _ = fs::remove_dir_all(&self.0);
+    }
+}
+
+#[test]
+fn check_names_each_file_that_differs() {
+    let package = Package::new("check");
+    write(&package.0).unwrap();
+    assert_eq!(compare(&package.0), Ok((7, vec![])));
+    let [other, simd, text, fast] =
+        ["atoi_core/other.rs", "atoi_simd/mod.rs", "atoi_core/text.rs", "atoi_fast/mod.rs"]
+            .map(|name| Path::new("rust/src/proved").join(name));
+    let read = |file: &Path| fs::read(package.0.join(file)).unwrap();
+    // One file has another byte, one a byte less, one is not there, and one should not be there.
+    let changed: Vec<u8> =
+        read(&text).iter().map(|&byte| if byte == b'8' { b'9' } else { byte }).collect();
+    assert_eq!(changed.len(), read(&text).len());
+    package.put(text.to_str().unwrap(), changed);
+    package.put(simd.to_str().unwrap(), &read(&simd)[..read(&simd).len() - 1]);
+    package.put(other.to_str().unwrap(), "");
+    fs::remove_file(package.0.join(&fast)).unwrap();
+    assert_eq!(compare(&package.0), Ok((7, vec![other.clone(), text, fast.clone(), simd])));
+    assert!(!package.0.join(&fast).exists(), "--check writes");
+    write(&package.0).unwrap();
+    assert_eq!(compare(&package.0), Ok((7, vec![])));
+    assert!(!package.0.join(&other).exists());
+}
+
+#[test]
+fn a_refusal_names_the_file_and_the_line() {
+    let package = Package::new("refusals");
+    let file = "crates/atoi_core/src/text.rt";
+    package.put(file, "fn b() {}\nfn c() { é }");
+    assert_eq!(package.fault(), format!("{file}:2: `é` outside of a clause"));
+    package.put(file, b"fn size() -> u8 {\n    b'\xFF'\n}\n");
+    assert!(package.fault().starts_with(&format!("{file}: ")) && package.fault().contains("UTF-8"));
+    package.put(file, "fn b() {}");
+    package.put("crates/atoi_core/src/other.rt", "");
+    assert_eq!(package.fault(), "crates/atoi_core/src/other.rt: no `mod` declares this module");
+    package.put("crates/atoi_core/src/lib.rt", "mod text;\nmod other;\nmod more;");
+    assert_eq!(package.fault(), "crates/atoi_core/src/lib.rt:3: a module without a file");
+}
+
+#[test]
+fn a_module_has_one_file() {
+    let package = Package::new("one_file");
+    package.put("crates/atoi_core/src/lib.rt", "mod text;\nmod deep;\n");
+    package.put("crates/atoi_core/src/deep/text.rt", "fn size() -> u8 {\n    48\n}\n");
+    package.put("crates/atoi_core/src/deep/mod.rt", "mod text;\n");
+    write(&package.0).unwrap();
+    assert_eq!(package.rust("atoi_core/deep.rs"), "mod text;\n");
+    assert!(package.rust("atoi_core/deep/text.rs").starts_with("#[inline] fn size()"));
+    package.put("crates/atoi_core/src/deep.rt", "mod text;\n");
+    for file in ["crates/atoi_core/src/deep.rt", "crates/atoi_core/src/deep/mod.rt"] {
+        assert!(package.fault().contains(file), "{}", package.fault());
+    }
+}
+
+#[test]
+fn other_files_change_nothing() {
+    let package = Package::new("other_files");
+    write(&package.0).unwrap();
+    for file in ["text.rt~", "text.bak", "text.rt.orig", "#text.rt#", "text.rs", "text"] {
+        package.put(&format!("crates/atoi_core/src/{file}"), "fn size() -> u8 {\n    49\n}\n");
+    }
+    for file in [".text.rt.swp", ".text.rt", "text.rt.swp", ".history/a.rt"] {
+        package.put(&format!("crates/atoi_core/src/{file}"), b"\xFF\x00");
+    }
+    assert_eq!(compare(&package.0), Ok((7, vec![])));
+}
+
+#[test]
+fn the_package_has_its_own_files_for_engines() {
+    let package = Package::new("engines");
+    package.put("crates/atoi_simd/src/lib.rt", "mod default_engine;\npub fn exported() {}\n");
+    package.put("crates/atoi_simd/src/default_engine.rt", "a form that is refused");
+    let fast = "pub struct Swar;\npub fn parse() {}\n";
+    package.put("crates/atoi_fast/src/lib.rt", fast);
+    let twin = "rust/default_engine/atoi_simd.rs";
+    let uses = "//! A.\n\npub(crate) use atoi_fast::parse;\n\npub(crate) type DefaultEngine = ";
+    package.put(twin, format!("{uses}atoi_fast::Swar;\n"));
+    write(&package.0).unwrap();
+    let file = package.0.join("rust/src/proved/atoi_simd/default_engine.rs");
+    let made = fs::read_to_string(file).unwrap();
+    assert!(made.starts_with(&format!("/* Made by .ci/translate from {twin}. ")), "{made}");
+    assert!(made.ends_with("pub(crate) type DefaultEngine = crate::proved::atoi_fast::Swar;\n"));
+    package.put(twin, "a form that is refused");
+    assert!(package.fault().starts_with(&format!("{twin}:1: ")), "{}", package.fault());
+}
+
+#[test]
+fn the_package_leaves_out_what_only_other_engines_need() {
+    let fast =
+        ("atoi_fast/lib.rt", "mod vectors;\npub use crate::vectors::Vectors;\npub struct Swar;\n");
+    let vectors = ("atoi_fast/vectors.rt", "pub struct Vectors;\n");
+    // Only the feature `lanes` has vectors.
+    let expected = "#[cfg(feature = \"lanes\")] mod vectors;\n\
+        #[cfg(feature = \"lanes\")] pub use crate::proved::atoi_fast::vectors::Vectors;\npub struct Swar;\n";
+    assert_eq!(rust("", &[vectors, fast]).as_deref(), Ok(expected));
+    let others = [("atoi_column/vectors.rt", ""), ("atoi_column/lib.rt", "mod vectors;\n")];
+    assert_eq!(rust("", &others).as_deref(), Ok("mod vectors;\n"));
+    let lib = "pub mod kernels;\nmod other;\npub use crate::lanes::Lanes;\nuse crate::{wide_lanes::{a}, window_32::b};\n";
+    let expected = "// pub mod kernels;\nmod other;\n// pub use crate::lanes::Lanes;\n// use crate::{wide_lanes::{a}, window_32::b};\n";
+    let files = [("atoi_lanes/other.rt", ""), ("atoi_lanes/lib.rt", lib)];
+    assert_eq!(rust("", &files).as_deref(), Ok(expected));
+    let mixed = [
+        ("atoi_lanes/other.rt", "pub fn a() {}"),
+        ("atoi_lanes/lib.rt", "mod other;\nuse crate::{other::a, lanes::b};"),
+    ];
+    assert!(rust("", &mixed).is_err_and(|fault| fault.contains("`crate::lanes::b`")));
+}
+
+const CORE: &str = "pub mod digits;\npub mod numbers;\npub use crate::digits::of;\npub const N: u8 = 1;\n\
+    pub type T = u8;\npub fn numbers() {}\npub struct S;\npub enum E { V }\n\
+    pub trait Parse: ParsePos {}\npub trait ParsePos {}\npub trait Open: Copy {}\n";
+
+// The fault of a facade over these crates, or none.
+fn facade(text: &str) -> Option<String> {
+    let files = [
+        ("atoi_core/digits.rt", "pub fn of() {}\n"),
+        ("atoi_core/numbers.rt", "fn a() {}\n"),
+        ("atoi_core/lib.rt", CORE),
+        (
+            "atoi_simd/lib.rt",
+            "pub use atoi_core::{E, Parse, S, digits, of};\npub use atoi_core as core_crate;\npub fn own() {}\n",
+        ),
+    ];
+    rust(text, &files).err()
+}
+
+// A function in an exported module, or by another name, would be called without its condition. What is proved of a
+// trait's methods holds for our own types, and no user's type may be called in their place.
+#[test]
+fn the_facade_exports_functions_and_sealed_types_by_name() {
+    for export in [
+        "proved::atoi_core::{S, E, Parse, of}",
+        "crate::proved::atoi_simd::{\n    S, E, Parse, of, own,\n}",
+        "proved::atoi_simd::own",
+        "crate::line_reader::Line",
+    ] {
+        assert_eq!(facade(&format!("mod proved {{}}\npub use {export};\n")), None, "{export}");
+    }
+    let form = "this form of export";
+    for (export, reason) in [
+        ("proved::atoi_core::digits", "`digits` is no"),
+        ("proved::atoi_core::numbers", "`numbers` is no"),
+        ("proved::atoi_core::{S, N}", "`N` is no"),
+        ("proved::atoi_core::T", "`T` is no"),
+        ("proved::atoi_core::none", "`none` is no"),
+        ("proved::atoi_core::Open", "`Open` is no"),
+        ("proved::atoi_core::ParsePos", "`ParsePos` is no"),
+        ("proved::atoi_core::{Parse, ParsePos}", "`Parse` is no"),
+        ("proved::atoi_simd::digits", "`digits` is no"),
+        ("proved::atoi_simd::core_crate", "`core_crate` is no"),
+        ("proved::atoi_column::S", "`S` is no"),
+        ("proved::atoi_core::*", form),
+        ("proved::atoi_core::of as other", form),
+        ("proved::atoi_core::{of as other}", form),
+        ("proved::atoi_core::digits::of", form),
+        ("proved::atoi_core::{digits::{of}}", form),
+        ("proved::other::of", form),
+        ("proved as other", form),
+        ("other::proved::atoi_core::of", form),
+        ("proved", form),
+    ] {
+        let fault = facade(&format!("mod proved {{}}\n\npub use {export};\n")).expect(export);
+        assert!(fault.starts_with(&format!("lib.rs:3: {reason}")), "{export}: {fault}");
+    }
+}
+
+#[test]
+fn the_facade_has_no_other_items() {
+    let outside = "`proved` outside of a known export";
+    let attribute = "is not known here";
+    for (text, reason) in [
+        ("pub fn a() {\n    proved::atoi_core::of()\n}\n", "`fn`"),
+        ("pub mod proved {}", outside),
+        ("mod proved;", outside),
+        ("pub mod a { mod proved {} }", outside),
+        ("macro_rules! a { () => {} }", "`macro_rules`"),
+        ("simd::a! { mod proved {} }", "`simd`"),
+        ("include!(\"debug.rs\");", "`include`"),
+        ("#[path = \"../other.rs\"]\npub mod a;", attribute),
+        ("#[cfg_attr(a, path = \"../other.rs\")]\npub mod a;", attribute),
+        ("#[macro_use]\nmod a;", attribute),
+        (
+            "#[cfg(feature = \"lanes\")]\npub use proved::atoi_core::of;",
+            "needs the feature `lanes`",
+        ),
+        ("#[cfg(feature = \"lanes\")]\npub mod column {}", "needs the feature `lanes`"),
+        ("extern crate other;", "`other`"),
+        ("use proved::atoi_core::of;", "`use`"),
+        ("pub use {proved::atoi_core::of};", "`{`"),
+        ("pub use self::proved::atoi_core::of;", "this form of export"),
+        ("mod a {", "the end of the file"),
+    ] {
+        let fault = facade(text).expect(text);
+        assert!(fault.starts_with("lib.rs:") && fault.contains(reason), "{text}: {fault}");
+    }
+    let known = "//! A.\n#![no_std]\n#![cfg_attr(feature = \"lanes\", deny(unsafe_code))]\ncompile_error!(\"a\");\n\
+        #[allow(b)] // A.\nmod proved { #[cfg(feature = \"lanes\")] pub mod atoi_lanes; }\n/* A. */ extern crate std;\n\
+        /// A.\n#[cfg_attr(doc, doc = include_str!(\"a\"))]\npub mod guide { pub use crate::proved::atoi_core::of; }\n";
+    assert_eq!(facade(known), None);
+}
+
+// Only the facade's exports are compared with the sources. A comment, a text or a file that this reading does not know
+// could hide one.
+#[test]
+fn no_other_file_names_what_is_proved() {
+    let package = Package::new("hand_written");
+    let outside = "`proved` outside of the facade";
+    let unread = "a file that is not read here";
+    for file in ["rust/src/debug.rs", "rust/src/simd/deep/a.rs"] {
+        for (text, line, reason) in [
+            ("// `proved`\n\npub use crate::proved::atoi_core::words;\n", 3, outside),
+            ("\npub(crate) use super::proved;\n", 2, outside),
+            ("pub fn a() {\n    crate::proved::atoi_core::words::a()\n}\n", 2, outside),
+            ("/*/ \" */ pub use crate::proved::a; // \"", 1, outside),
+            ("const A: char = '\"'; use crate::proved::a; // \"", 1, outside),
+            ("/* /* */ \" */ pub use crate::proved::a; // \"", 1, "a comment in a comment"),
+            ("const A: &CStr = cr#\"\"\"#; pub use crate::proved::a; // \"", 1, "a raw text"),
+            ("pub use crate::r#proved::a;", 1, "a raw name"),
+            ("include!(\"a.rs\");", 1, unread),
+            ("#[path = \"a/../../a.rs\"] mod a;", 1, unread),
+            ("#[cfg_attr(not(a), path = \"\\x2e.\\x2fa.rs\")] mod a;", 1, unread),
+            ("#[path = \"a.txt\"] mod a;", 1, unread),
+            ("#[path = \".a.rs\"] mod a;", 1, unread),
+        ] {
+            package.put(file, text);
+            let fault = package.fault();
+            let start = format!("{file}:{line}: {reason}");
+            assert!(fault.starts_with(&start) || fault.contains(reason), "{text}: {fault}");
+            assert!(fault.starts_with(&format!("{file}:{line}: ")), "{text}: {fault}");
+        }
+        let known = "//! `crate::proved`\nuse crate::Parse;\n/* proved */\nfn a<'a>() -> f64 { 1.5e3 }\n\
+            #[path = \"x86.rs\"] mod b;\nconst C: &str = include_str!(\"proved\");";
+        package.put(file, known);
+        made(&package.0).unwrap();
+    }
+    for other in [".debug.rs", ".old/debug.rs", "debug.rs~", "debug.orig", "proved/other.rs"] {
+        package.put(&format!("rust/src/{other}"), "pub use crate::proved::a;");
+    }
+    made(&package.0).unwrap();
+}
