@@ -45,8 +45,6 @@ impl Dependency {
 /// What cargo makes of a generated crate.
 #[derive(Clone, Copy)]
 pub enum Kind {
-    /// An archive of many units of code, built as cargo builds a program in release mode.
-    ArchiveOfUnits,
     /// A shared object, built as cargo builds a program in release mode.
     SharedObject,
     /// The same without optimisation, and with checks for overflow.
@@ -64,8 +62,8 @@ pub struct Generated {
 }
 
 impl Generated {
-    /// What everything is made of, with the compiler.
-    pub fn stamp(&self) -> Result<Stamp, String> {
+    // What everything is made of, with the compiler.
+    fn stamp(&self) -> Result<Stamp, String> {
         let version = run(Command::new("rustc").arg("--version"))?;
         let stamp = Stamp::new().with(self.manifest()).with(&self.flags).with(version);
         let files = self.files.iter();
@@ -74,18 +72,17 @@ impl Generated {
         Ok(contents.fold(stamp, |stamp, contents| stamp.with(contents)))
     }
 
-    /// Builds the crate in a folder, and returns the file that cargo made.
-    pub fn build(&self, folder: &Path) -> Result<PathBuf, String> {
+    // Builds the crate in a folder, and returns the file that cargo made.
+    fn build(&self, folder: &Path) -> Result<PathBuf, String> {
         write(&folder.join("Cargo.toml"), self.manifest())?;
         for (name, text) in &self.files {
             write(&folder.join("src").join(name), text)?;
         }
         let mut cargo = Command::new("cargo");
         cargo.args(["build", "--quiet"]).current_dir(folder);
-        let (profile, file) = match self.kind {
-            Kind::ArchiveOfUnits => ("release", "libtimed.a"),
-            Kind::SharedObject => ("release", OBJECT),
-            Kind::DebugSharedObject => ("debug", OBJECT),
+        let profile = match self.kind {
+            Kind::SharedObject => "release",
+            Kind::DebugSharedObject => "debug",
         };
         if profile == "release" {
             cargo.arg("--release");
@@ -93,7 +90,7 @@ impl Generated {
         cargo.env("CARGO_TARGET_DIR", folder.join("target")).env("CARGO_NET_RETRY", "0");
         cargo.env("RUSTFLAGS", &self.flags);
         run(&mut cargo)?;
-        Ok(folder.join("target").join(profile).join(file))
+        Ok(folder.join("target").join(profile).join(OBJECT))
     }
 
     /// Builds the shared object, unless the cache has it.
@@ -107,15 +104,11 @@ impl Generated {
     }
 
     fn manifest(&self) -> String {
-        let kind = match self.kind {
-            Kind::ArchiveOfUnits => "staticlib",
-            Kind::SharedObject | Kind::DebugSharedObject => "cdylib",
-        };
         let lines = self.dependencies.iter().map(|it| it.line.as_str());
         let dependencies = lines.collect::<Vec<_>>().join("\n");
         format!(
             "[package]\nname = \"timed\"\nversion = \"0.1.0\"\nedition = \"2024\"\n\n\
-             [lib]\ncrate-type = [\"{kind}\"]\n\n[profile.release]\ncodegen-units = 256\n\n\
+             [lib]\ncrate-type = [\"cdylib\"]\n\n[profile.release]\ncodegen-units = 256\n\n\
              [workspace]\n\n[dependencies]\n{dependencies}\n"
         )
     }

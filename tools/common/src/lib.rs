@@ -4,6 +4,7 @@
 pub mod arguments;
 pub mod cache;
 pub mod cargo;
+pub mod clock;
 pub mod command;
 pub mod integer;
 pub mod object;

@@ -1,0 +1,3 @@
+fn main() {
+    println!("cargo::rustc-link-arg-cdylib=-Wl,-T,{}/src/tables.ld", env!("CARGO_MANIFEST_DIR"));
+}
