@@ -1,4 +1,6 @@
 //! Compares each call over an engine with the plain rules.
+ghost use Rattle.std.specs.Prelude.{◌≡◌};
+ghost use Rattle.atoi_core.specs.Digit.{decimal_table};
 
 use crate::checks::{give, gives, on_each_engine};
 use crate::plain_rules::{self, Body, Class};
@@ -21,7 +23,7 @@ pub(crate) fn check(rt: &impl Abort, text: &[u8]) {
 pub(crate) fn check_all(rt: &impl Abort, text: &[u8]) {
     check(rt, text);
     let body = Body::of(text);
-    on_each_engine!(check_types(rt, body));
+    on_each_engine!(check_types(rt, body), check_texts(rt, text));
 }
 
 fn check_digit_loop(rt: &impl Abort, body: Body<'_>) {
@@ -170,20 +172,42 @@ fn check_pos<E: Engine, T: Number>(
         prefix_parts(prefix_pos::<E, T>(skip, body.bytes, &mut steps))
             => body.prefix(class, bound, skip).map(|(number, len)| (false, number, len));
     );
-    for skip_plus in [false, true] {
-        check_text::<E, T>(rt, skip, skip_plus, body.bytes);
+}
+
+// Checks the tuned calls for a text with a sign, with each flag and for each type. They are for decimal
+// digits alone.
+fn check_texts<E: Engine>(rt: &impl Abort, text: &[u8])
+    requires decimal { E.table ≡ decimal_table }
+{
+    for skip in [false, true] {
+        check_text::<E, u8>(rt, skip, text);
+        check_text::<E, u16>(rt, skip, text);
+        check_text::<E, u32>(rt, skip, text);
+        check_text::<E, u64>(rt, skip, text);
+        check_text::<E, usize>(rt, skip, text);
+        check_text::<E, u128>(rt, skip, text);
+        check_text::<E, i8>(rt, skip, text);
+        check_text::<E, i16>(rt, skip, text);
+        check_text::<E, i32>(rt, skip, text);
+        check_text::<E, i64>(rt, skip, text);
+        check_text::<E, isize>(rt, skip, text);
+        check_text::<E, i128>(rt, skip, text);
     }
 }
 
 // Checks that the tuned calls for a text with a sign return what the plain ones return.
-fn check_text<E: Engine, T: Number>(rt: &impl Abort, skip: bool, skip_plus: bool, text: &[u8]) {
+fn check_text<E: Engine, T: Number>(rt: &impl Abort, skip: bool, text: &[u8])
+    requires decimal { E.table ≡ decimal_table }
+{
     let mut steps = Steps::new();
-    give!(rt;
-        parts(atoi_fast::parse_text::<E, T>(skip, skip_plus, text, &mut steps))
-            => parts(atoi_core::parse_text::<E, T>(skip, skip_plus, text, &mut steps));
-        prefix_parts(atoi_fast::parse_prefix_text::<E, T>(skip, skip_plus, text, &mut steps))
-            => prefix_parts(atoi_core::parse_prefix_text::<E, T>(skip, skip_plus, text, &mut steps));
-    );
+    for skip_plus in [false, true] {
+        give!(rt;
+            parts(atoi_fast::parse_text::<E, T>(skip, skip_plus, text, &mut steps))
+                => parts(atoi_core::parse_text::<E, T>(skip, skip_plus, text, &mut steps));
+            prefix_parts(atoi_fast::parse_prefix_text::<E, T>(skip, skip_plus, text, &mut steps))
+                => prefix_parts(atoi_core::parse_prefix_text::<E, T>(skip, skip_plus, text, &mut steps));
+        );
+    }
 }
 
 // Checks all core calls of a signed type, whose smallest value has the magnitude `magnitude`.
