@@ -15,7 +15,7 @@ const LONGEST_LINE: usize = 1 << 20;
 ///
 /// [`next_numbers`](LineReader::next_numbers) gives the items of [`Fields::lines`] for the whole input, however
 /// many bytes each read returns. [`next_line`](LineReader::next_line) gives a line's bytes, for lines that are
-/// not one number. A line of more than 1 MiB is an error and is skipped.
+/// not one number. A line of more than 1 MiB, not counting its end, is an error and is skipped.
 ///
 /// ```
 /// use torkettle::column::LineReader;
@@ -117,13 +117,13 @@ pub struct Line<'a> {
 pub enum LineError<'a> {
     /// It is not a number of the type.
     Field(FieldError<'a>),
-    /// It has more bytes than the reader keeps, not counting its line feed.
+    /// It has more bytes than the limit, not counting its end, which is `\n` or `\r\n`.
     TooLong {
         /// How many lines precede it.
         index: usize,
         /// The offset of its first byte in the input.
         place: usize,
-        /// How many bytes the reader keeps.
+        /// The limit.
         longest_line: usize,
     },
 }
@@ -141,13 +141,15 @@ impl<R: Read> LineReader<R> {
         LineReader::with_longest_line(LONGEST_LINE, input)
     }
 
-    /// Makes a reader of lines of at most `longest_line` bytes. It needs as much memory if there is a line of
-    /// this length, and otherwise at most 256 KiB, or twice the length of the longest line if this is more.
+    /// Makes a reader of lines of at most `longest_line` bytes, not counting the `\n` or `\r\n` at their ends. It
+    /// needs as much memory if there is a line of this length, and otherwise at most 256 KiB, or twice the length of
+    /// the longest line if this is more.
     ///
     /// ```
     /// use torkettle::column::LineReader;
     ///
-    /// let mut reader = LineReader::with_longest_line(4, &b"12345\n6"[..]);
+    /// let mut reader = LineReader::with_longest_line(4, &b"1234\r\n12345\n"[..]);
+    /// assert!(reader.next_line().unwrap().unwrap().is_ok());
     /// assert!(reader.next_line().unwrap().unwrap().is_err());
     /// ```
     pub fn with_longest_line(longest_line: usize, input: R) -> LineReader<R> {
@@ -266,11 +268,7 @@ impl<R: Read> LineReader<R> {
         }
         let (start, (index, place)) = (self.start, self.position);
         self.step_over_line();
-        let text = match &self.text[start..self.start] {
-            [text @ .., b'\r', b'\n'] | [text @ .., b'\n'] => text,
-            text => text,
-        };
-        Ok(Some(Ok(Line { index, place, text })))
+        Ok(Some(Ok(Line { index, place, text: without_end(&self.text[start..self.start]) })))
     }
 
     // Reads until there are whole lines, unless there are some. At the end, the last needs no line feed.
@@ -285,6 +283,9 @@ impl<R: Read> LineReader<R> {
                 Some(offset) => self.end = new + offset + 1,
                 None if self.has_ended => self.end = self.read,
                 None => {}
+            }
+            if self.begins_with_too_long_a_line() {
+                self.forgotten.get_or_insert(0);
             }
         }
         let (longest_line, (index, place)) = (self.longest_line, self.position);
@@ -303,13 +304,24 @@ impl<R: Read> LineReader<R> {
             self.text.copy_within(self.start..self.read, 0);
             (self.start, self.end, self.read) = (0, 0, kept);
         }
-        if self.forgotten.is_some() || self.read > self.longest_line {
+        if self.forgotten.is_some() || self.read > self.longest_line.saturating_add(1) {
             *self.forgotten.get_or_insert(0) += self.read;
             self.read = 0;
         } else if self.read == self.text.len() {
             let room = FIRST_ROOM.max(2 * self.read);
-            self.text.resize(room.min(self.longest_line.saturating_add(1)), 0);
+            // The end of a line takes up to two bytes.
+            self.text.resize(room.min(self.longest_line.saturating_add(2)), 0);
         }
+    }
+
+    // Only the first of the lines that were read can be too long: it then takes all of the room, or has no line feed.
+    fn begins_with_too_long_a_line(&self) -> bool {
+        let lines = &self.text[self.start..self.end];
+        lines.len() > self.longest_line
+            && lines
+                .split_inclusive(|byte| *byte == b'\n')
+                .next()
+                .is_some_and(|line| without_end(line).len() > self.longest_line)
     }
 
     // Appends what one read returns to the text. Returns how many bytes this is: none at the end.
@@ -338,6 +350,14 @@ impl<R: Read> LineReader<R> {
             (Some(index), Some(place)) => (index, place),
             _ => panic!("the position after a line exceeds usize::MAX"),
         };
+    }
+}
+
+// The line without `\n` or `\r\n`.
+fn without_end(line: &[u8]) -> &[u8] {
+    match line {
+        [text @ .., b'\r', b'\n'] | [text @ .., b'\n'] => text,
+        text => text,
     }
 }
 

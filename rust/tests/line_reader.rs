@@ -14,7 +14,7 @@ use torkettle::column::{Fields, LineError, LineReader};
 
 // Line ends of every kind, lines that are empty, longer than most pieces or no number, and a last line
 // without a line feed.
-const TEXTS: [&[u8]; 12] = [
+const TEXTS: [&[u8]; 14] = [
     b"",
     b"\n",
     b"\r\n",
@@ -26,6 +26,8 @@ const TEXTS: [&[u8]; 12] = [
     b"9223372036854775807\r\n9223372036854775808\r\n-9223372036854775808\n-9223372036854775809",
     b"00000000000000000000000000000000000000000000000000000000000000001\n1\n",
     b"12345678901234567890123456789012345678901234567890\n\xff\xfe\n\0\n 1\n1 \n",
+    b"1\r\n12\r\n1234567\r\n12345678\r\n123456789\r\n12345678\r",
+    b"1234567\r8\n12345678\r\r\n12345678\rx\n12345678\r\n\r\n123456789",
     b"1\n22\n333\n4444\n55555\n666666\n7777777\n88888888\n999999999\n-1000000000\nx\n",
 ];
 
@@ -131,11 +133,13 @@ fn lines<R: Read>(mut reader: LineReader<R>) -> (Vec<String>, (usize, usize)) {
     }
 }
 
-// The items of the lines of a text, of which those of more than `longest` bytes are too long.
+// The items of the lines of a text, of which those of more than `longest` bytes, without `\n` or `\r\n`, are too long.
 fn expected(text: &[u8], longest: usize) -> (Vec<String>, (usize, usize)) {
     let (mut words, mut place) = (Vec::new(), 0);
     for (index, line) in text.split_inclusive(|byte| *byte == b'\n').enumerate() {
-        if line.strip_suffix(b"\n").unwrap_or(line).len() > longest {
+        let without_feed =
+            line.strip_suffix(b"\n").map(|line| line.strip_suffix(b"\r").unwrap_or(line));
+        if without_feed.unwrap_or(line).len() > longest {
             words.push(format!("{index} at {place} is too long"));
         } else {
             let fields = Fields::lines(line).starting_at(index, place);
@@ -174,7 +178,8 @@ fn whatever_a_read_gives_the_items_are_the_same() {
 #[test]
 fn the_lines_are_those_of_the_items() {
     each_text(|text| {
-        for (longest, most) in [(1 << 20, 1), (1 << 20, 7), (1 << 20, 200), (5, 3)] {
+        for (longest, most) in [(1 << 20, 1), (1 << 20, 7), (1 << 20, 200), (5, 3), (8, 1), (8, 99)]
+        {
             let (mut words, position) = expected(text, longest);
             let found = lines(LineReader::with_longest_line(longest, slow(text, most, ERRORS[2])));
             let empty = |word: &String| word.contains("text: []");
@@ -251,11 +256,15 @@ fn long_lines_take_no_more_memory_and_time() {
     let (words, position) = numbers(LineReader::new(io::BufReader::with_capacity(4096, input)));
     assert_eq!(words, ["0 at 0 is too long", "7"]);
     assert_eq!(position, (2, (100 << 20) + 2));
-    // The longest line that fits, and one byte more.
+    // The longest line that fits, and one byte more. A `\r` counts only if no line feed follows it.
     for (length, expected) in [(1 << 20, "0"), ((1 << 20) + 1, "0 at 0 is too long")] {
-        let (words, _) = numbers(LineReader::new(io::repeat(b'0').take(length)));
-        assert_eq!(words, [expected]);
+        for end in ["", "\n", "\r\n"] {
+            let input = io::repeat(b'0').take(length).chain(end.as_bytes());
+            assert_eq!(numbers(LineReader::new(input)).0, [expected], "{length} and {end:?}");
+        }
     }
+    let input = io::repeat(b'0').take(1 << 20).chain(&b"\r"[..]);
+    assert_eq!(numbers(LineReader::new(input)).0, ["0 at 0 is too long"]);
 }
 
 #[test]
