@@ -23,7 +23,7 @@
 //!
 //! Without the flag `SKIP_ZEROES` of `parse`, leading zeros are accepted too, but they count as digits, and
 //! some calls limit the number of digits ([`AtoiSimdError::Size`]). The [`guide`] has more: flags, errors,
-//! files, embedded systems, debug builds and platforms.
+//! files, embedded systems, debug builds and platforms. The [`recipes`] have code for common jobs.
 //!
 //! # In place of `atoi_simd`
 //!
@@ -111,11 +111,19 @@ pub use proved::atoi_simd::{
 /// [trust]: crate#what-is-proved-and-what-you-trust
 /// [commands]: https://docs.rs/crate/torkettle/latest/source/docs/CONTRIBUTING.md
 /// [readme]: https://docs.rs/crate/torkettle/latest
-/// [log]: https://docs.rs/crate/torkettle/latest/source/rust/examples/log.rs
+/// [recipes]: crate::recipes
 /// [threads]: https://docs.rs/crate/torkettle/latest/source/rust/examples/threads.rs
 ///
 #[cfg_attr(all(doc, not(doctest)), doc = include_str!("../../docs/GUIDE.md"))]
 pub mod guide {}
+
+/// Recipes for Rust, which are `docs/RECIPES.md`.
+///
+/// [guide]: crate::guide
+/// [lanes]: crate::guide#lanes
+///
+#[cfg_attr(all(doc, not(doctest)), doc = include_str!("../../docs/RECIPES.md"))]
+pub mod recipes {}
 
 /// The specification, which is `docs/SPECIFICATION.md`. It says, for example:
 ///

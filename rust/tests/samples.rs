@@ -2,7 +2,6 @@
 
 use std::error::Error;
 use std::io::{self, Read};
-use std::num::ParseIntError;
 use torkettle::column::{Column, ColumnError, FieldError, Fields, LineReader, is_separator};
 use torkettle::formats::digits_then;
 use torkettle::{
@@ -162,35 +161,6 @@ fn total_of_third_column(table: impl Read) -> io::Result<(u64, Vec<(usize, usize
     Ok((total, bad))
 }
 
-fn parse_as_std(text: &str) -> Result<u32, ParseIntError> {
-    parse::<u32, true, true>(text.as_bytes()).or_else(|_| text.parse())
-}
-
-fn number_at(text: &[u8]) -> Result<(u32, usize), AtoiSimdError<'_>> {
-    match text {
-        [digit @ b'0'..=b'9', next, ..] if !next.is_ascii_digit() => {
-            Ok((u32::from(digit - b'0'), 1))
-        }
-        _ => parse_prefix::<u32, true, true>(text),
-    }
-}
-
-#[test]
-fn a_number_at_the_start_by_a_test_for_one_digit() {
-    for text in ["7,8", "70,8", "7", "+7,", "4294967295;", "0,", "x", "", "7x"] {
-        let text = text.as_bytes();
-        assert_eq!(number_at(text), parse_prefix::<u32, true, true>(text));
-    }
-    assert_eq!(number_at(b"9 "), Ok((9, 1)));
-}
-
-// Returns the numbers of a row such as `1,2,3`. The row `1,2,` has three cells, of which the last is empty.
-fn row(line: &[u8]) -> Option<[u32; 3]> {
-    let mut fields = Fields::new(line, b',');
-    let row = [fields.next()?.ok()?, fields.next()?.ok()?, fields.next()?.ok()?];
-    (fields.next().is_none() && !line.ends_with(b",")).then_some(row)
-}
-
 #[test]
 fn totals() {
     assert_eq!(total(b"1,2,3"), Ok(6));
@@ -212,17 +182,6 @@ fn totals() {
     table.extend(b"\n;;2");
     let bad = vec![(3, 29), (4, 32), (5, 35)];
     assert_eq!(total_of_third_column(&table[..]).unwrap(), (342, bad));
-}
-
-#[test]
-fn recipes() {
-    for text in ["7", "+7", "", "-", "4294967296", "7 "] {
-        assert_eq!(parse_as_std(text), text.parse());
-    }
-    assert_eq!(row(b"1,2,3"), Some([1, 2, 3]));
-    for line in [&b"1,2"[..], b"1,2,", b",2,3", b"1,2,3,", b"1,2,3,4", b"1,2,x"] {
-        assert_eq!(row(line), None);
-    }
 }
 
 #[test]

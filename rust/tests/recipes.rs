@@ -1,0 +1,313 @@
+//! The recipes of docs/RECIPES.md, and what they return for more texts than the page shows.
+
+use std::num::{IntErrorKind, NonZero, ParseFloatError, ParseIntError, Wrapping};
+use torkettle::column::Fields;
+use torkettle::formats::{canonical, fixed_width};
+use torkettle::{
+    AtoiSimdError, IntError, Parse, from_ascii, from_ascii_prefix, parse, parse_pos, parse_prefix,
+};
+
+#[test]
+fn a_buffer_that_ends_within_a_number() {
+    // Reads a reply such as `:1234\r\n`, and returns the number and the rest. `Ok(None)` asks for more input.
+    fn integer_reply(buffer: &[u8]) -> Result<Option<(i64, &[u8])>, String> {
+        let text = match buffer {
+            [b':', text @ ..] => text,
+            [] => return Ok(None),
+            _ => return Err("a reply of another type".into()),
+        };
+        let (number, length) = match from_ascii_prefix::<i64>(text) {
+            Ok(found) => found,
+            Err(error) if error.kind() == IntErrorKind::Empty => return Ok(None),
+            Err(error) => return Err(error.to_string()),
+        };
+        match &text[length..] {
+            [] | [b'\r'] => Ok(None),
+            [b'\r', b'\n', rest @ ..] => Ok(Some((number, rest))),
+            _ => Err("a byte that is not part of a number".into()),
+        }
+    }
+
+    assert_eq!(integer_reply(b":-12").unwrap(), None);
+    assert_eq!(integer_reply(b":-1234\r\n+OK").unwrap(), Some((-1234, &b"+OK"[..])));
+
+    let reply = b":-1234\r\n+OK";
+    for end in 0..=reply.len() {
+        let expected = (end >= 8).then(|| (-1234, &reply[8..end]));
+        assert_eq!(integer_reply(&reply[..end]).unwrap(), expected, "{end} bytes");
+    }
+    let message = |buffer| integer_reply(buffer).unwrap_err();
+    assert_eq!(message(b"+OK"), "a reply of another type");
+    assert_eq!(message(b":-x"), "no digit at byte 1");
+    assert_eq!(message(b":1x"), "a byte that is not part of a number");
+    assert_eq!(message(b":1\rx"), "a byte that is not part of a number");
+    // More digits do not bring the number back into range, so there is no need to wait for them.
+    assert_eq!(message(b":9223372036854775808"), "number out of range");
+}
+
+#[test]
+fn the_length_of_an_http_message() {
+    // Takes the values of all `Content-Length` fields of a message.
+    fn content_length(values: &[&[u8]]) -> Result<Option<u64>, &'static str> {
+        let mut found = None;
+        for value in values.iter().flat_map(|value| value.split(|byte| *byte == b',')) {
+            let length = parse_pos::<u64, true>(value.trim_ascii());
+            let length = length.map_err(|_| "it is not a length")?;
+            if found.is_some_and(|found| found != length) {
+                return Err("two lengths differ");
+            }
+            found = Some(length);
+        }
+        Ok(found)
+    }
+
+    assert_eq!(content_length(&[b"42", b" 042 , 42"]), Ok(Some(42)));
+    assert_eq!(content_length(&[b"42", b"43"]), Err("two lengths differ"));
+    assert_eq!(canonical::<u64>(b"042"), None);
+
+    assert_eq!(content_length(&[]), Ok(None));
+    assert_eq!(content_length(&[b"0"]), Ok(Some(0)));
+    for value in [&b""[..], b"+5", b"-5", b"5 5", b"5,", b"0x5", b"5.0", b"18446744073709551616"] {
+        assert_eq!(content_length(&[value]), Err("it is not a length"));
+    }
+    let (zero, greatest) = (canonical(b"0"), canonical(b"18446744073709551615"));
+    assert_eq!((zero, greatest), (Some(0), Some(u64::MAX)));
+}
+
+#[test]
+fn columns_with_several_spaces_between_them() {
+    fn columns(line: &[u8]) -> Result<Vec<u64>, IntError> {
+        let words = line.split(u8::is_ascii_whitespace).filter(|word| !word.is_empty());
+        words.map(from_ascii).collect()
+    }
+
+    assert_eq!(columns(b"  1500   12\t0 "), Ok(vec![1500, 12, 0]));
+
+    assert_eq!(columns(b""), Ok(vec![]));
+    assert_eq!(
+        columns(b"1  x2").map_err(|error| error.to_string()),
+        Err("no digit at byte 0".into())
+    );
+}
+
+#[test]
+fn integers_and_floats() {
+    #[derive(Debug, PartialEq)]
+    enum Value {
+        Integer(i64),
+        Float(f64),
+    }
+
+    fn value(text: &str) -> Result<Value, ParseFloatError> {
+        match from_ascii(text.as_bytes()) {
+            Ok(number) => Ok(Value::Integer(number)),
+            // `1.5`, `.5` and `99999999999999999999.5` have different errors, so do not look at the kind.
+            Err(_) => text.parse().map(Value::Float),
+        }
+    }
+
+    assert_eq!(value("-15"), Ok(Value::Integer(-15)));
+    assert_eq!(value("1.5e3"), Ok(Value::Float(1500.0)));
+
+    for text in
+        ["1.5", ".5", "-.5", "1e3", "+1.", "inf", "-Infinity", "9223372036854775808", "-0.0"]
+    {
+        assert_eq!(value(text), text.parse().map(Value::Float));
+    }
+    assert!(matches!(value("NaN"), Ok(Value::Float(number)) if number.is_nan()));
+    for text in ["", "-", "x", "1,5", "1.5.2", "0x10", " 1"] {
+        assert!(value(text).is_err(), "{text:?}");
+    }
+}
+
+#[test]
+fn errors_for_anyhow() {
+    // In place of `anyhow::Error`, which has the same conversion.
+    #[derive(Debug)]
+    struct Anyhow(Box<dyn std::error::Error + Send + Sync + 'static>);
+
+    impl<E: std::error::Error + Send + Sync + 'static> From<E> for Anyhow {
+        fn from(error: E) -> Anyhow {
+            Anyhow(Box::new(error))
+        }
+    }
+
+    fn port(text: String) -> Result<u16, Anyhow> {
+        Ok(from_ascii(text.as_bytes())?)
+    }
+
+    assert_eq!(port("8080".to_string()).unwrap(), 8080);
+    let error = port("80x".to_string()).unwrap_err();
+    assert_eq!(error.0.to_string(), "unexpected byte at byte 2");
+    assert!(error.0.is::<IntError>());
+}
+
+#[test]
+fn errors_for_serde() {
+    // In place of `use serde::de;`
+    mod de {
+        pub trait Error: Sized {
+            fn custom<T: std::fmt::Display>(message: T) -> Self;
+        }
+    }
+
+    fn retries<E: de::Error>(text: &str) -> Result<u16, E> {
+        from_ascii(text.as_bytes()).map_err(E::custom)
+    }
+
+    #[derive(Debug, PartialEq)]
+    struct Message(String);
+
+    impl de::Error for Message {
+        fn custom<T: std::fmt::Display>(message: T) -> Message {
+            Message(message.to_string())
+        }
+    }
+
+    assert_eq!(retries::<Message>("3"), Ok(3));
+    assert_eq!(retries::<Message>("3x"), Err(Message("unexpected byte at byte 1".to_string())));
+}
+
+#[test]
+fn a_text_for_users() {
+    fn reason(text: &[u8], error: AtoiSimdError<'_>) -> String {
+        match (error, error.offset_in(text)) {
+            (AtoiSimdError::Empty, _) => "no digit".to_string(),
+            (AtoiSimdError::Invalid64(..) | AtoiSimdError::Invalid128(..), Some(offset)) => {
+                format!("unexpected byte at byte {offset}")
+            }
+            _ => "number out of range".to_string(),
+        }
+    }
+
+    let text = b"-12x";
+    let error = parse::<i32, true, true>(text).unwrap_err();
+    assert_eq!(reason(text, error), "unexpected byte at byte 3");
+
+    fn check<T: Parse + std::fmt::Debug>(text: &[u8], expected: &str) {
+        let error = parse::<T, true, true>(text).map(drop).unwrap_err();
+        assert_eq!(reason(text, error), expected);
+    }
+    check::<u8>(b"", "no digit");
+    check::<u8>(b"-5", "no digit");
+    check::<u8>(b"0256", "number out of range");
+    check::<u64>(b"99999999999999999999999", "number out of range");
+    check::<i128>(b"-00000000000000000000000007 ", "unexpected byte at byte 27");
+}
+
+#[test]
+fn errors_of_std() {
+    fn parse_as_std(text: &str) -> Result<u32, ParseIntError> {
+        parse::<u32, true, true>(text.as_bytes()).or_else(|_| text.parse())
+    }
+
+    for text in ["7", "+7", "", "-", "4294967296", "7 "] {
+        assert_eq!(parse_as_std(text), text.parse());
+    }
+}
+
+#[test]
+fn a_text_that_moves() {
+    struct Port {
+        number: u16,
+        text: Vec<u8>,
+    }
+
+    fn port(text: Vec<u8>) -> Option<Port> {
+        let number = parse::<u16, true, true>(&text).ok()?;
+        Some(Port { number, text })
+    }
+
+    let found = port(b"8080".to_vec()).unwrap();
+    assert_eq!((found.number, &found.text[..]), (8080, &b"8080"[..]));
+    assert!(port(b"80x".to_vec()).is_none());
+    // The error of `from_ascii` does not borrow, so here the text can move at once.
+    let text = b"8080".to_vec();
+    let found = from_ascii(&text).map(|number| Port { number, text }).unwrap();
+    assert_eq!((found.number, &found.text[..]), (8080, &b"8080"[..]));
+}
+
+#[test]
+fn a_fixed_width_of_a_short_text() {
+    // Reads a status such as 404. `Ok(None)` asks for more input.
+    fn status(text: &[u8]) -> Result<Option<(u16, &[u8])>, &'static str> {
+        match fixed_width(text, 3) {
+            Some(found) => Ok(Some(found)),
+            None if text.len() < 3 && text.iter().all(u8::is_ascii_digit) => Ok(None),
+            None => Err("no three digits"),
+        }
+    }
+
+    assert_eq!(status(b"404 Not Found"), Ok(Some((404, &b" Not Found"[..]))));
+    assert_eq!(status(b"40"), Ok(None));
+
+    for text in [&b""[..], b"4"] {
+        assert_eq!(status(text), Ok(None));
+    }
+    for text in [&b"x"[..], b"4x", b"40x", b"-40", b" 404"] {
+        assert_eq!(status(text), Err("no three digits"));
+    }
+}
+
+#[test]
+fn types_of_std_around_an_integer() {
+    fn workers(text: &[u8]) -> Option<NonZero<u32>> {
+        from_ascii(text).ok().and_then(NonZero::new)
+    }
+
+    fn checksum(text: &[u8]) -> Result<Wrapping<u32>, IntError> {
+        from_ascii(text).map(Wrapping)
+    }
+
+    assert_eq!(workers(b"8"), NonZero::new(8));
+    assert_eq!(checksum(b"8"), Ok(Wrapping(8)));
+
+    for text in ["0", "+8", "-1", "x", "", "4294967295", "4294967296"] {
+        assert_eq!(workers(text.as_bytes()), text.parse().ok(), "{text:?}");
+    }
+}
+
+#[test]
+fn a_row_with_a_fixed_number_of_cells() {
+    // Returns the numbers of a row such as `1,2,3`. The row `1,2,` has three cells, of which the last is empty.
+    fn row(line: &[u8]) -> Option<[u32; 3]> {
+        let mut fields = Fields::new(line, b',');
+        let row = [fields.next()?.ok()?, fields.next()?.ok()?, fields.next()?.ok()?];
+        (fields.next().is_none() && !line.ends_with(b",")).then_some(row)
+    }
+
+    assert_eq!(row(b"1,2,3"), Some([1, 2, 3]));
+    for line in [&b"1,2"[..], b"1,2,", b",2,3", b"1,2,3,", b"1,2,3,4", b"1,2,x"] {
+        assert_eq!(row(line), None);
+    }
+}
+
+#[test]
+fn a_number_at_the_start_by_a_test_for_one_digit() {
+    fn number_at(text: &[u8]) -> Result<(u32, usize), AtoiSimdError<'_>> {
+        match text {
+            [digit @ b'0'..=b'9', next, ..] if !next.is_ascii_digit() => {
+                Ok((u32::from(digit - b'0'), 1))
+            }
+            _ => parse_prefix::<u32, true, true>(text),
+        }
+    }
+
+    for text in ["7,8", "70,8", "7", "+7,", "4294967295;", "0,", "x", "", "7x"] {
+        let text = text.as_bytes();
+        assert_eq!(number_at(text), parse_prefix::<u32, true, true>(text));
+    }
+    assert_eq!(number_at(b"9 "), Ok((9, 1)));
+}
+
+#[cfg(feature = "lanes")]
+#[test]
+fn code_that_is_generic_over_words_and_lanes() {
+    fn both<T: Parse + torkettle::lanes::Parse>(text: &[u8]) -> (Option<T>, Option<T>) {
+        let by_lanes = torkettle::lanes::parse::<T, true, true>(text).ok();
+        (parse::<T, true, true>(text).ok(), by_lanes)
+    }
+
+    assert_eq!(both::<u64>(b"18446744073709551615"), (Some(u64::MAX), Some(u64::MAX)));
+    assert_eq!(both::<i8>(b"128"), (None, None));
+}
