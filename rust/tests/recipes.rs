@@ -299,15 +299,3 @@ fn a_number_at_the_start_by_a_test_for_one_digit() {
     }
     assert_eq!(number_at(b"9 "), Ok((9, 1)));
 }
-
-#[cfg(feature = "lanes")]
-#[test]
-fn code_that_is_generic_over_words_and_lanes() {
-    fn both<T: Parse + torkettle::lanes::Parse>(text: &[u8]) -> (Option<T>, Option<T>) {
-        let by_lanes = torkettle::lanes::parse::<T, true, true>(text).ok();
-        (parse::<T, true, true>(text).ok(), by_lanes)
-    }
-
-    assert_eq!(both::<u64>(b"18446744073709551615"), (Some(u64::MAX), Some(u64::MAX)));
-    assert_eq!(both::<i8>(b"128"), (None, None));
-}
