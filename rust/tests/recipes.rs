@@ -121,6 +121,28 @@ fn integers_and_floats() {
 }
 
 #[test]
+fn the_greatest_number_in_place_of_one_out_of_range() {
+    fn seconds(text: &[u8]) -> Result<u32, IntError> {
+        let only_digits = text.iter().all(u8::is_ascii_digit);
+        match from_ascii(text) {
+            Err(error) if error.kind() == IntErrorKind::PosOverflow && only_digits => Ok(u32::MAX),
+            result => result,
+        }
+    }
+
+    assert_eq!(seconds(b"99999999999"), Ok(u32::MAX));
+    assert!(seconds(b"99999999999s").is_err());
+
+    for text in ["0", "4294967294", "4294967295", "4294967296"] {
+        let expected = text.parse::<u64>().unwrap().min(u32::MAX.into());
+        assert_eq!(seconds(text.as_bytes()).map(u64::from), Ok(expected));
+    }
+    for text in ["", "-1", "-99999999999", "x", "9 "] {
+        assert!(seconds(text.as_bytes()).is_err(), "{text:?}");
+    }
+}
+
+#[test]
 fn errors_for_anyhow() {
     // In place of `anyhow::Error`, which has the same conversion.
     #[derive(Debug)]
