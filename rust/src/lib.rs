@@ -112,6 +112,11 @@ pub use proved::atoi_simd::{
 /// [commands]: https://docs.rs/crate/torkettle/latest/source/docs/CONTRIBUTING.md
 /// [readme]: https://docs.rs/crate/torkettle/latest
 /// [recipes]: crate::recipes
+/// [cut]: crate::recipes#a-buffer-that-ends-within-a-number
+/// [one digit]: crate::recipes#text-in-which-most-numbers-have-one-digit
+/// [error recipes]: crate::recipes#errors-for--anyhow-and-serde
+/// [rows]: crate::recipes#a-row-with-a-fixed-number-of-cells
+/// [spaces]: crate::recipes#several-spaces-between-columns
 /// [threads]: https://docs.rs/crate/torkettle/latest/source/rust/examples/threads.rs
 ///
 #[cfg_attr(all(doc, not(doctest)), doc = include_str!("../../docs/GUIDE.md"))]
