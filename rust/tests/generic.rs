@@ -1,10 +1,13 @@
 //! What generic code can call by the traits `Parse` and `ParseNeg`.
 
-use torkettle::ParseNeg;
+use torkettle::{Parse, ParseNeg};
 
-// `T: ParseNeg` brings functions whose contracts in Rattle have conditions.
+// The bounds bring functions whose contracts in Rattle have conditions.
 #[test]
-fn magnitudes_out_of_range_wrap() {
+fn numbers_out_of_range_do_not_panic() {
+    fn unsigned<T: Parse>(magnitude: u128) -> [T; 2] {
+        [T::from_pos(magnitude), T::from_parts(true, magnitude)]
+    }
     fn numbers<T: ParseNeg>(magnitude: u128) -> [T; 3] {
         [T::from_pos(magnitude), T::from_neg(magnitude), T::from_parts(true, magnitude)]
     }
@@ -15,6 +18,9 @@ fn magnitudes_out_of_range_wrap() {
             assert_eq!(numbers::<i32>(magnitude), [plus as i32, minus as i32, minus as i32]);
             assert_eq!(numbers::<i64>(magnitude), [plus as i64, minus as i64, minus as i64]);
             assert_eq!(numbers::<i128>(magnitude), [plus, minus, minus]);
+            assert_eq!(unsigned::<u8>(magnitude), [magnitude as u8; 2]);
+            assert_eq!(unsigned::<u64>(magnitude), [magnitude as u64; 2]);
+            assert_eq!(unsigned::<u128>(magnitude), [magnitude; 2]);
         }
     }
 }
