@@ -2,7 +2,7 @@
 
 use std::num::{IntErrorKind, NonZero, ParseFloatError, ParseIntError, Wrapping};
 use torkettle::column::Fields;
-use torkettle::formats::{canonical, fixed_width};
+use torkettle::formats::{canonical, digits_then, fixed_width};
 use torkettle::{
     AtoiSimdError, IntError, Parse, from_ascii, from_ascii_prefix, parse, parse_pos, parse_prefix,
 };
@@ -117,6 +117,33 @@ fn integers_and_floats() {
     assert!(matches!(value("NaN"), Ok(Value::Float(number)) if number.is_nan()));
     for text in ["", "-", "x", "1,5", "1.5.2", "0x10", " 1"] {
         assert!(value(text).is_err(), "{text:?}");
+    }
+}
+
+#[test]
+fn amounts_with_two_digits_after_the_point() {
+    // Returns an amount in cents. Two digits must follow the point.
+    fn cents(text: &[u8]) -> Option<i64> {
+        let (sign, amount) = match text {
+            [b'-', amount @ ..] => (-1, amount),
+            _ => (1, text),
+        };
+        let (whole, rest) = digits_then::<i64>(amount, b'.')?;
+        let (cents, rest) = fixed_width::<i64>(rest, 2)?;
+        let amount = whole.checked_mul(100)?.checked_add(cents)?;
+        rest.is_empty().then_some(sign * amount)
+    }
+
+    assert_eq!(cents(b"-0.50"), Some(-50));
+
+    for amount in [0_i64, 1, 99, 100, 1250, -1, -99, -100, -123_456, i64::MAX, -i64::MAX] {
+        let sign = if amount < 0 { "-" } else { "" };
+        let text = format!("{sign}{}.{:02}", amount.abs() / 100, amount.abs() % 100);
+        assert_eq!(cents(text.as_bytes()), Some(amount), "{text}");
+    }
+    let bad = ["", "-", "1", "1.", ".50", "1.5", "1.505", "--1.00", "-+1.00", "1.-5", " 1.00"];
+    for text in bad.into_iter().chain(["92233720368547758.08", "99999999999999999999.00"]) {
+        assert_eq!(cents(text.as_bytes()), None, "{text}");
     }
 }
 
