@@ -327,14 +327,17 @@ fn each_length() -> impl Iterator<Item = usize> {
     std::iter::successors(Some(usize::MAX), |number| (*number >= 10).then_some(number / 10))
 }
 
-// An error ignores the width, the fill and the rest of the format.
+// An error ignores the width, the fill and the rest of the format, with which `std` pads or cuts the same text.
 fn check_message(error: impl std::fmt::Display, message: &str) {
+    macro_rules! ignores {
+        ($($options:literal)*) => {$(
+            assert_eq!(format!(concat!("{:", $options, "}|"), error), format!("{message}|"));
+            assert_ne!(format!(concat!("{:", $options, "}|"), message), format!("{message}|"));
+        )*};
+    }
     assert_eq!(error.to_string(), message);
     assert_eq!(format!("{error:3}"), message);
-    assert_eq!(format!("{error:150}|"), format!("{message}|"));
-    assert_eq!(format!("{error:*>150}"), message);
-    assert_eq!(format!("{error:é^150.5}"), message);
-    assert_eq!(format!("{error:+#0150}"), message);
+    ignores!("150" "<150" "*>150" "é^150" ".5" "é^150.5" "+#0150");
 }
 
 #[test]

@@ -13,3 +13,4 @@ pub mod Pieces
 pub mod Reads
 pub mod Guesses
 pub mod Widths
+pub mod Messages

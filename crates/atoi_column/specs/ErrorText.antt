@@ -28,5 +28,5 @@ flaw_text (trailing index place) =
 
 abbrev pub bad_field_text : BadField → List ℕ
 bad_field_text bad =
-    codes "field " ++ decimal bad.index ++ codes " at byte " ++ decimal bad.place ++ codes " " ++ fault_text bad.reason
+    flaw_text (field bad.index bad.place bad.reason)
     ++ option_map_or (λ byte. codes " at byte " ++ decimal byte) (unexpected_place bad.place bad.text bad.reason) []

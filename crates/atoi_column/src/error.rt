@@ -1,12 +1,15 @@
 //! Why a field of a column has no value.
-ghost use Rattle.std.specs.Prelude.{◌≡◌, ◌+◌, ◌-◌, ◌^◌, ◌↔◌, IsTrue, min};
+ghost use Rattle.std.specs.Prelude.{◌≡◌, ◌+◌, ◌-◌, ◌^◌, ◌≤◌, ◌↔◌, IsTrue, IsAscii, min, take};
 ghost use Rattle.atoi_core.specs.Refusal.{refusal_of};
-ghost use Rattle.atoi_column.specs.ErrorText.{fault_text};
+ghost use Rattle.atoi_column.specs.ErrorText.{flaw_text};
+ghost use Rattle.atoi_column.specs.Items.{flaw_of};
 
+use crate::text::{MOST_BYTES, put_bytes, put_decimal, put_field};
 use atoi_core::clones_are_the_same;
 use atoi_simd::AtoiSimdError;
 use std::error::Error;
 use std::fmt;
+use std::str::from_utf8;
 
 /// Why a field of a column has no value. `index` counts the fields from 0, and `place` is an offset
 /// in the slice that the column was made from.
@@ -44,7 +47,7 @@ pub enum ColumnError<'a> {
 }
 
 impl ColumnError<'_> {
-    ghost use Rattle.atoi_column.specs.Items.{flaw_of, index_of, place_of};
+    ghost use Rattle.atoi_column.specs.Items.{index_of, place_of};
 
     /// Returns the index of the field, from 0 (see the [guide](crate::guide#read-columns-and-lines)).
     ///
@@ -111,45 +114,46 @@ impl ColumnError<'_> {
     {
         self == other
     }
+
+    // Writes the message to the start of `out`, and returns its length.
+    fn put_message(&self, out: &mut [u8; MOST_BYTES]) -> usize
+        ensures text { take result out.new ≡ flaw_text (flaw_of self.now) }
+        ensures fits { result ≤ MOST_BYTES }
+        ensures ascii { IsAscii (flaw_text (flaw_of self.now)) }
+    {
+        match *self {
+            ColumnError::Field {
+                index,
+                place,
+                cause,
+            } => put_field(index, place, cause, out),
+            ColumnError::Trailing { index, place } => {
+                let end = put_bytes(b"field ", out, 0);
+                let end = put_decimal(index as u128, out, end);
+                let end = put_bytes(b" has an unexpected byte at byte ", out, end);
+                put_decimal(place as u128, out, end)
+            }
+        }
+    }
 }
 
 fn clones() {
     clones_are_the_same::<ColumnError<'_>>();
 }
 
+// The width, fill and alignment of the caller's format are ignored.
 impl fmt::Display for ColumnError<'_> {
     ghost use Rattle.std.specs.Prelude.{Some};
-    ghost use Rattle.atoi_column.specs.ErrorText.{flaw_text};
-    ghost use Rattle.atoi_column.specs.Items.{flaw_of};
 
     ghost output = { λ error. Some (flaw_text (flaw_of error)) };
 
+    ghost styled_output = { λ error _. Some (flaw_text (flaw_of error)) };
+
     fn fmt<W: fmt::Write>(&self, f: &mut fmt::Formatter<W>) -> fmt::Result {
-        match *self {
-            ColumnError::Field {
-                index,
-                place,
-                cause,
-            } => {
-                let fault = fault(cause);
-                write!(f, "field {index} at byte {place} {fault}")
-            }
-            ColumnError::Trailing { index, place } => {
-                write!(f, "field {index} has an unexpected byte at byte {place}")
-            }
-        }
+        let mut out = [0; MOST_BYTES];
+        let length = self.put_message(&mut out);
+        f.write_str(from_utf8(&out[..length]).unwrap())
     }
 }
 
 impl Error for ColumnError<'_> {}
-
-// Says what is wrong with a field, in words that follow its place.
-pub(crate) fn fault(cause: AtoiSimdError<'_>) -> &'static str
-    ensures { result.now ≡ fault_text (refusal_of cause.entry) }
-{
-    match cause {
-        AtoiSimdError::Empty => "has no digit at its start",
-        AtoiSimdError::Size(..) | AtoiSimdError::Overflow(_) => "is out of range",
-        AtoiSimdError::Invalid64(..) | AtoiSimdError::Invalid128(..) => "has an unexpected byte",
-    }
-}

@@ -14,7 +14,7 @@ use std::collections::BTreeSet;
 
 // Our methods that are called. No type of `std` has a method of such a name.
 const OWN_METHODS: &str =
-    "index parts text tick guessed_number next_number read_guessed read_part read_plain";
+    "index parts put_message text tick guessed_number next_number read_guessed read_part read_plain";
 
 // Names with which Rust begins paths, and those of what the Rust leaves out or replaces.
 const RESERVED: &str = "std core alloc proved Model Formatter";

@@ -33,7 +33,7 @@ pub const ASSOCIATED: &str = "MIN MAX from from_le_bytes from_array from_slice s
 /// Methods. Only slices and ranges with an end are iterated, so that `count` and `enumerate` do not overflow.
 /// `cmp` and `partial_cmp` compare numbers, or are derived. `unwrap`, `split_at` and `copy_from_slice` panic in
 /// Rust alone, where proofs exclude it. No item of ours has such a name.
-pub const METHODS: &str = "len is_empty iter first first_chunk last_chunk split_at split_at_checked \
+pub const METHODS: &str = "len is_empty as_bytes iter first first_chunk last_chunk split_at split_at_checked \
     split_first copy_from_slice is_ascii_digit checked_add checked_mul checked_sub cmp max min \
     partial_cmp saturating_add saturating_sub to_le_bytes trailing_ones trailing_zeros unsigned_abs \
     wrapping_add wrapping_mul wrapping_sub \

@@ -1,14 +1,15 @@
 /* Made by .ci/translate from crates/atoi_column/src/field_error.rt. Do not edit. */ //! What is wrong with a field that `Fields` refuses.
-// ghost use Rattle.std.specs.Prelude.{◌≡◌, ◌+◌, ◌-◌, ◌^◌, ◌↔◌, IsTrue, min};
+// ghost use Rattle.std.specs.Prelude.{◌≡◌, ◌+◌, ◌-◌, ◌^◌, ◌≤◌, ◌↔◌, IsTrue, IsAscii, min, take};
 // ghost use Rattle.atoi_core.specs.Refusal.{refusal_of};
-// ghost use Rattle.atoi_column.specs.ErrorText.{fault_text, unexpected_place};
+// ghost use Rattle.atoi_column.specs.ErrorText.{fault_text, unexpected_place, bad_field_text};
 // ghost use Rattle.atoi_column.specs.FieldItems.{bad_field_of};
 
-use crate::proved::atoi_column::error::fault;
+use crate::proved::atoi_column::text::{MOST_BYTES, fault, put_bytes, put_decimal, put_field};
 use crate::proved::atoi_core::clones_are_the_same;
 use crate::proved::atoi_simd::AtoiSimdError;
 use core::error::Error;
 use core::fmt;
+use core::str::from_utf8;
 
 /// A field that is not a number of the type, and why.
 ///
@@ -69,31 +70,40 @@ impl FieldError<'_> {
     {
         self == other
     }
+
+    // Writes the message to the start of `out`, and returns its length.
+    #[inline] fn put_message(&self, out: &mut [u8; MOST_BYTES]) -> usize
+        // ensures text { take result out.new ≡ bad_field_text (bad_field_of self.now) }
+        // ensures fits { result ≤ MOST_BYTES }
+        // ensures ascii { IsAscii (bad_field_text (bad_field_of self.now)) }
+    {
+        let end = put_field(self.index, self.place, self.cause, out);
+        match unexpected_place(self.place, self.text, self.cause) {
+            Some(byte) => {
+                let end = put_bytes(b" at byte ", out, end);
+                put_decimal(byte, out, end)
+            }
+            None => end,
+        }
+    }
 }
 
 #[inline] fn clones() {
     clones_are_the_same::<FieldError<'_>>();
 }
 
+// The width, fill and alignment of the caller's format are ignored.
 impl fmt::Display for FieldError<'_> {
     // ghost use Rattle.std.specs.Prelude.{Some};
-    // ghost use Rattle.atoi_column.specs.ErrorText.{bad_field_text};
-    // ghost use Rattle.atoi_column.specs.FieldItems.{bad_field_of};
 
     // ghost output = { λ error. Some (bad_field_text (bad_field_of error)) };
 
+    // ghost styled_output = { λ error _. Some (bad_field_text (bad_field_of error)) };
+
     #[inline] fn fmt(&self, f: &mut fmt::Formatter<'_>) -> fmt::Result {
-        let FieldError {
-            index,
-            place,
-            text,
-            cause,
-        } = *self;
-        let fault = fault(cause);
-        match unexpected_place(place, text, cause) {
-            Some(byte) => write!(f, "field {index} at byte {place} {fault} at byte {byte}"),
-            None => write!(f, "field {index} at byte {place} {fault}"),
-        }
+        let mut out = [0; MOST_BYTES];
+        let length = self.put_message(&mut out);
+        f.write_str(from_utf8(&out[..length]).unwrap())
     }
 }
 

@@ -8,6 +8,7 @@ mod field_error;
 mod fields;
 mod guesses;
 pub mod laws;
+mod text;
 mod words;
 
 pub use crate::proved::atoi_column::column::{Column, is_separator};

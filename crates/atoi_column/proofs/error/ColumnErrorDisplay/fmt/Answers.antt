@@ -1,5 +1,7 @@
-use Rattle.std.proofs.Common.{append_assoc}
+use Rattle.std.proofs.Common.{rules}
+use Rattle.std.proofs.lemmas.Str.{IsUtf8-from_ascii}
 use Rattle.atoi_column.proofs.error.ColumnErrorDisplay.fmt.Goals as goal
 
-pub returns-in-Trailing-clause-writes : goal.returns-in-Trailing-clause-writes
-returns-in-Trailing-clause-writes g c = rw c.in-Trailing.is (simp append_assoc c.write-in-Trailing.ensures.writes)
+-- The message is ASCII, so it is valid UTF-8.
+pub unwrap-requires : goal.unwrap-requires
+unwrap-requires g c = search (rules, IsUtf8-from_ascii)
