@@ -13,8 +13,8 @@ use crate::visit::{self, Part, Role};
 use std::collections::BTreeSet;
 
 // Our methods that are called. No type of `std` has a method of such a name.
-const OWN_METHODS: &str =
-    "index parts put_message text tick guessed_number next_number read_guessed read_part read_plain";
+const OWN_METHODS: &str = "index parts put_message text tick guessed_number next_number read_guessed \
+    read_part read_plain";
 
 // Names with which Rust begins paths, and those of what the Rust leaves out or replaces.
 const RESERVED: &str = "std core alloc proved Model Formatter";
