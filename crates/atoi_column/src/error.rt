@@ -1,6 +1,5 @@
 //! Why a field of a column has no value.
 ghost use Rattle.std.specs.Prelude.{◌≡◌, ◌+◌, ◌-◌, ◌^◌, ◌≤◌, ◌↔◌, IsTrue, IsAscii, min, take};
-ghost use Rattle.atoi_core.specs.Refusal.{refusal_of};
 ghost use Rattle.atoi_column.specs.ErrorText.{flaw_text};
 ghost use Rattle.atoi_column.specs.Items.{flaw_of};
 
