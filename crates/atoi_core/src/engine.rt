@@ -14,8 +14,8 @@ pub mod window;
 use crate::engine::steps::Steps;
 use crate::engine::window::Window;
 use crate::error::AtoiSimdError;
-use crate::loops::powers::append_digits;
-use crate::loops::wide_answer::{answer_64, answer_128, found_or_empty};
+use crate::powers::append_digits;
+use crate::wide_answer::{answer_64, answer_128, found_or_empty};
 
 /// An *engine* reads windows, for one table of digits. Each read is one *load*. It may replace the
 /// provided methods by its own, with the same clauses.

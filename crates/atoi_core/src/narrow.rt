@@ -6,11 +6,11 @@ ghost use Rattle.atoi_core.specs.Refusal.{answer_of, empty, overflow};
 ghost use Rattle.atoi_core.specs.Run.{run_len};
 ghost use Rattle.atoi_core.specs.Reading.{window_of, decision};
 
+use crate::after_zeros::window_after_zeros;
 use crate::engine::Engine;
 use crate::engine::steps::Steps;
 use crate::engine::window::Window;
 use crate::error::AtoiSimdError;
-use crate::loops::window_after_zeros;
 
 /// Parses the digits at the start of `s`, and returns their value, at most `bound`, and their number.
 /// The errors are `Empty`, `Size(17, s)` for more than 16 digits without `skip`, and `Overflow`, whose

@@ -14,8 +14,8 @@ pub mod window;
 use crate::proved::atoi_core::engine::steps::Steps;
 use crate::proved::atoi_core::engine::window::Window;
 use crate::proved::atoi_core::error::AtoiSimdError;
-use crate::proved::atoi_core::loops::powers::append_digits;
-use crate::proved::atoi_core::loops::wide_answer::{answer_64, answer_128, found_or_empty};
+use crate::proved::atoi_core::powers::append_digits;
+use crate::proved::atoi_core::wide_answer::{answer_64, answer_128, found_or_empty};
 
 /// An *engine* reads windows, for one table of digits. Each read is one *load*. It may replace the
 /// provided methods by its own, with the same clauses.

@@ -6,11 +6,11 @@
 // ghost use Rattle.atoi_core.specs.Run.{run_len};
 // ghost use Rattle.atoi_core.specs.Reading.{window_of, decision};
 
+use crate::proved::atoi_core::after_zeros::window_after_zeros;
 use crate::proved::atoi_core::engine::Engine;
 use crate::proved::atoi_core::engine::steps::Steps;
 use crate::proved::atoi_core::engine::window::Window;
 use crate::proved::atoi_core::error::AtoiSimdError;
-use crate::proved::atoi_core::loops::window_after_zeros;
 
 /// Parses the digits at the start of `s`, and returns their value, at most `bound`, and their number.
 /// The errors are `Empty`, `Size(17, s)` for more than 16 digits without `skip`, and `Overflow`, whose

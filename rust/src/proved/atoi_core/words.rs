@@ -11,7 +11,7 @@
 use crate::proved::atoi_core::engine::Engine;
 use crate::proved::atoi_core::engine::steps::Steps;
 use crate::proved::atoi_core::engine::window::Window;
-use crate::proved::atoi_core::loops::powers::power_of_ten;
+use crate::proved::atoi_core::powers::power_of_ten;
 
 /// The engine for decimal digits that reads windows by the functions of this module.
 pub struct Words;

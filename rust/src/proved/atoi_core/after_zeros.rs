@@ -1,10 +1,7 @@
-/* Made by .ci/translate from crates/atoi_core/src/loops.rt. Do not edit. */ //! Loops over an engine's windows, the powers that join them, and the answers that they decide.
+/* Made by .ci/translate from crates/atoi_core/src/after_zeros.rt. Do not edit. */ //! The loop that skips zeros, over any engine's windows.
 // ghost use Rattle.std.specs.Prelude.{◌≡◌, ◌+◌, ◌*◌, ◌/◌, ◌<◌, ◌≤◌, nat_lt, if◌then◌else◌, length, drop};
 // ghost use Rattle.atoi_core.specs.Run.{run_len, zeros};
 // ghost use Rattle.atoi_core.specs.Reading.{window_of};
-
-pub mod powers;
-pub mod wide_answer;
 
 use crate::proved::atoi_core::engine::Engine;
 use crate::proved::atoi_core::engine::steps::Steps;

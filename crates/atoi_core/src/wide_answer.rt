@@ -5,7 +5,7 @@ ghost use Rattle.atoi_core.specs.Reading.{answer_by_digits};
 ghost use Rattle.atoi_core.specs.Refusal.{answer_of, empty};
 
 use crate::error::AtoiSimdError;
-use crate::loops::powers::power_of_ten;
+use crate::powers::power_of_ten;
 
 /// Returns `number`, which has `len` digits, with `len`. The error is `Empty` if `len` is 0.
 #[inline(always)]

@@ -3,7 +3,7 @@ use Rattle.std.proofs.Common.{◌≡◌, ◌+◌, ◌*◌, ◌^◌, ◌<◌, ℕ
 use Rattle.std.proofs.lemmas.Bool.Decides.{nat_tests}
 use Rattle.atoi_core.specs.Magnitude.{HasDigits}
 use Rattle.atoi_core.proofs.lemmas.Readings.{below_bound}
-use Rattle.atoi_core.proofs.loops.wide_answer.answer_128.Goals as goal
+use Rattle.atoi_core.proofs.wide_answer.answer_128.Goals as goal
 
 fewer : (bound high more low power : ℕ) → HasDigits 39 bound → high * 10 ^ more + low < 10 ^ (32 + more) → power ≡ 10 ^ more → more < 7
     → (high * power + low < bound) × (high * power ≡ high * 10 ^ more)

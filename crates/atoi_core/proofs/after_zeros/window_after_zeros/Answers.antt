@@ -2,7 +2,7 @@
 use Rattle.std.proofs.Common.{◌+◌, true, inr, refl, sym, arith}
 use Rattle.atoi_core.proofs.lemmas.Windows.{Skipping-first_window, Skipping-next, Skipped-end}
 use Rattle.atoi_core.proofs.lemmas.LoopAnswers.{dropped_is}
-use Rattle.atoi_core.proofs.loops.window_after_zeros.Goals as goal
+use Rattle.atoi_core.proofs.after_zeros.window_after_zeros.Goals as goal
 
 pub loop-window-init : goal.loop-window-init
 loop-window-init g c =

@@ -1,10 +1,7 @@
-//! Loops over an engine's windows, the powers that join them, and the answers that they decide.
+//! The loop that skips zeros, over any engine's windows.
 ghost use Rattle.std.specs.Prelude.{◌≡◌, ◌+◌, ◌*◌, ◌/◌, ◌<◌, ◌≤◌, nat_lt, if◌then◌else◌, length, drop};
 ghost use Rattle.atoi_core.specs.Run.{run_len, zeros};
 ghost use Rattle.atoi_core.specs.Reading.{window_of};
-
-pub mod powers;
-pub mod wide_answer;
 
 use crate::engine::Engine;
 use crate::engine::steps::Steps;

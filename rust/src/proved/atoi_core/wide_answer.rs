@@ -1,11 +1,11 @@
-/* Made by .ci/translate from crates/atoi_core/src/loops/wide_answer.rt. Do not edit. */ //! The answer of a wide parse, once its digits are read.
+/* Made by .ci/translate from crates/atoi_core/src/wide_answer.rt. Do not edit. */ //! The answer of a wide parse, once its digits are read.
 // ghost use Rattle.std.specs.Prelude.{◌≡◌, ◌+◌, ◌*◌, ◌^◌, ◌<◌, ◌≤◌, ◌==◌, nat_lt, if◌then◌else◌, Ok, Err, length};
 // ghost use Rattle.atoi_core.specs.Magnitude.{HasDigits, wide64, wide128};
 // ghost use Rattle.atoi_core.specs.Reading.{answer_by_digits};
 // ghost use Rattle.atoi_core.specs.Refusal.{answer_of, empty};
 
 use crate::proved::atoi_core::error::AtoiSimdError;
-use crate::proved::atoi_core::loops::powers::power_of_ten;
+use crate::proved::atoi_core::powers::power_of_ten;
 
 /// Returns `number`, which has `len` digits, with `len`. The error is `Empty` if `len` is 0.
 #[inline(always)]

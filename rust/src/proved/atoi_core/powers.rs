@@ -1,4 +1,4 @@
-/* Made by .ci/translate from crates/atoi_core/src/loops/powers.rt. Do not edit. */ //! Powers of ten from a table.
+/* Made by .ci/translate from crates/atoi_core/src/powers.rt. Do not edit. */ //! Powers of ten from a table.
 // ghost use Rattle.std.specs.Prelude.{◌≡◌, ◌+◌, ◌*◌, ◌^◌, ◌≤◌};
 
 // Indexed by the exponent.
