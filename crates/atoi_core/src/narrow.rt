@@ -106,13 +106,13 @@ pub fn narrow_answer(
     ensures { answer_of result ≡ decision narrow bound len number s.now }
 {
     if !is_whole {
-        let number = bounded(bound, len, number, s)?;
+        let number = within_bound(bound, len, number, s)?;
         return Err(AtoiSimdError::Invalid64(number, len, s));
     }
-    bounded(bound, len, number, s)
+    within_bound(bound, len, number, s)
 }
 
-fn bounded(bound: u64, len: usize, number: u64, s: &[u8]) -> Result<u64, AtoiSimdError<'_>>
+fn within_bound(bound: u64, len: usize, number: u64, s: &[u8]) -> Result<u64, AtoiSimdError<'_>>
     ensures { answer_of result ≡ (if len == 0 then Err empty
         else if nat_lt bound number then Err (overflow s.now) else Ok number) }
 {

@@ -62,7 +62,7 @@ fn answer_near_end<'a>(
     match last_four(s) {
         Some(low) => {
             let number = append_digits(high, s.len() as u32 - 16, u64::from(low));
-            bounded(bound, s.len(), number, s)
+            within_bound(bound, s.len(), number, s)
         }
         None => answer_by_word(bound, limit, high, s),
     }
@@ -85,7 +85,7 @@ fn last_four(s: &[u8]) -> Option<u32>
     Some(value_after(word, 20 - s.len()))
 }
 
-fn bounded(
+fn within_bound(
     bound: u128,
     len: usize,
     number: u128,
@@ -128,7 +128,7 @@ fn answer_by_word<'a>(
             let more = digits_of(load_from(s, 16));
             return Err(AtoiSimdError::Size(16 + more as usize, s));
         }
-        return bounded(bound, 20, number, s);
+        return within_bound(bound, 20, number, s);
     }
     // At most 19 digits fit in 64 bits.
     let number = high * power_of_ten(more) + u64::from(value_up_to_4(word, more));

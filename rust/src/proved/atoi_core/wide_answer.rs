@@ -74,13 +74,13 @@ pub fn answer_128<'a>(
         // Fewer than 39 digits are never above a bound of 39.
         return Ok((high * power + u128::from(low), len));
     }
-    match up_to(bound, high, power, low) {
+    match within_bound(bound, high, power, low) {
         Some(number) => Ok((number, len)),
         None => Err(AtoiSimdError::Overflow(&s[skipped..])),
     }
 }
 
-#[inline] fn up_to(bound: u128, high: u128, power: u128, low: u64) -> Option<u128>
+#[inline] fn within_bound(bound: u128, high: u128, power: u128, low: u64) -> Option<u128>
     // ensures { result ≡ (if nat_lt bound (high * power + low) then None
     //     else Some (high * power + low)) }
 {

@@ -131,7 +131,7 @@ returns-then-more-eq4 c =
     let after_20 : run_len decimal_table s ≡ 20 + run_len decimal_table (drop 20 s) = prefix_len-drop (is_digit decimal_table) 20 s full in
     let known = by_digits c.args.bound c.args.limit s 20 c.append_digits-number.result c.requires.bound.high
     (omega (arith, none, after_20)) number in
-    c.bounded.ensures ∙ (rw (le-ltb c.args.limit 20 (omega (arith, c.if-limit-lt20.false))) at known.2)
+    c.within_bound.ensures ∙ (rw (le-ltb c.args.limit 20 (omega (arith, c.if-limit-lt20.false))) at known.2)
 
 pub answer_64-requires : goal.answer_64-requires
 answer_64-requires c =

@@ -29,5 +29,5 @@ returns-in-Some c =
     ∙ rw (c.requires.number, c.from.ensures ∙ c.in-Some.ensures.1, ← rest)
     (sym (value-take-add decimal_table 16 more s (omega arith)) ∙ ap (λ n. value decimal_table (take n s)) len) in
     let known = by_digits c.args.bound c.args.limit s (length s) _ c.requires.bound.high (omega (arith, c.in-Some.ensures.0)) number in
-    c.bounded.ensures
+    c.within_bound.ensures
     ∙ (rw (zero-add (length s), ne_eqb (length s) 0 (omega arith), le-ltb c.args.limit (length s) c.requires.few) at known.2)
