@@ -84,11 +84,11 @@ pub(crate) fn limit_64<T: Number>() -> u32
     if T::SIGNED { 19 } else { 20 }
 }
 
-// A product, since the compiler would branch on the sign.
 fn with_sign_64(minus: bool, magnitude: u64) -> i128
     ensures { result ≡ with_sign minus magnitude }
 {
-    i128::from(magnitude) * (1 - 2 * i128::from(minus))
+    let number = i128::from(magnitude);
+    if minus { -number } else { number }
 }
 
 impl Number for u8 {

@@ -46,8 +46,7 @@ pub fn whole_128<'a, E: Engine>(
     ensures loads { ClassLoads E.table wide128 skip s.now steps.old steps.new }
 {
     let (number, len) = E::prefix_128(bound, skip, s, steps)?;
-    // In this order, LLVM drops the test where `prefix_128` returns a known length.
-    if s.len() == len {
+    if len == s.len() {
         Ok(number)
     } else {
         Err(AtoiSimdError::Invalid128(number, len, s))

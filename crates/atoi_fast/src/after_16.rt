@@ -56,8 +56,7 @@ fn answer_near_end<'a>(
     ensures { answer_of result ≡ prefix_magnitude decimal_table wide64 bound limit false s.now }
 {
     if s.len() == 16 {
-        // With `s.len()`, LLVM drops the caller's test.
-        return Ok((high, s.len()));
+        return Ok((high, 16));
     }
     match last_four(s) {
         Some(low) => {

@@ -166,8 +166,6 @@ fn read_lanes(s: &[u8]) -> Window
         };
     }
     let len = others.trailing_zeros();
-    // In this order, LLVM keeps both cases apart.
-    let number = sum_lanes(lanes, len);
     let zeroes = if size < 16 && len == size {
         zeroes_lanes(lanes)
     } else {
@@ -176,6 +174,6 @@ fn read_lanes(s: &[u8]) -> Window
     Window {
         len,
         zeroes,
-        number,
+        number: sum_lanes(lanes, len),
     }
 }

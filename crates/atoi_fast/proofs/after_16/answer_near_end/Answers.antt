@@ -1,5 +1,5 @@
 -- A slice that ends with the run decides, up to the limit.
-use Rattle.std.proofs.Common.{◌≡◌, ℕ, ◌+◌, ◌-◌, List, length, take, drop, Ok, sym, ◌∙◌, ap, arith, ne_eqb, le-ltb}
+use Rattle.std.proofs.Common.{◌≡◌, ℕ, ◌+◌, ◌-◌, List, length, take, drop, sym, ◌∙◌, ap, arith, ne_eqb, le-ltb}
 use Rattle.std.proofs.Math.Nat.{zero-add}
 use Rattle.std.proofs.lemmas.List.{length-drop, take_all}
 use Rattle.std.proofs.lemmas.List.Sums.{prefix_len-le-length}
@@ -14,8 +14,7 @@ returns-then-s-eq16 c =
     let s : List ℕ = c.args.s.now in
     let r = c.requires in
     let all : run_len decimal_table s ≡ 16 = omega (arith, prefix_len-le-length (is_digit decimal_table) s) in
-    ap (λ len. Ok (c.args.high, len)) c.if-s-eq16.true
-    ∙ ended_at_16 c.args.bound c.args.limit s _ r.bound.low r.bound.high r.bound.digits all r.number
+    ended_at_16 c.args.bound c.args.limit s _ r.bound.low r.bound.high r.bound.digits all r.number
 
 pub returns-in-Some : goal.returns-in-Some
 returns-in-Some c =
