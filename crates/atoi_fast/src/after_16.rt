@@ -6,7 +6,7 @@ ghost use Rattle.atoi_core.specs.Refusal.{answer_of, overflow};
 ghost use Rattle.atoi_core.specs.Run.{run_len, value};
 
 use crate::digits::{
-    digits_of, digits_of_four, starts_with_digit_of_four, value_after, value_up_to_4,
+    leading_digits, leading_digits_of_four, starts_with_digit_of_four, value_after, value_up_to_4,
 };
 use crate::loads::{load_four_from, load_from, load_last_four};
 use atoi_core::powers::{append_digits, power_of_ten};
@@ -77,7 +77,7 @@ fn last_four(s: &[u8]) -> Option<u32>
         × (low ≡ value decimal_table (drop 16 s.now))) }
 {
     let word = load_last_four(s);
-    if digits_of_four(word) < 4 {
+    if leading_digits_of_four(word) < 4 {
         return None;
     }
     // Some of these four may be among the first 16.
@@ -120,11 +120,11 @@ fn answer_by_word<'a>(
     if !starts_with_digit_of_four(word) {
         return Ok((high, 16));
     }
-    let more = digits_of_four(word);
+    let more = leading_digits_of_four(word);
     if more == 4 {
         let number = append_digits(high, 4, u64::from(value_up_to_4(word, 4)));
         if limit < 20 || begins_with_digit(&s[20..]) {
-            let more = digits_of(load_from(s, 16));
+            let more = leading_digits(load_from(s, 16));
             return Err(AtoiSimdError::Size(16 + more as usize, s));
         }
         return within_bound(bound, 20, number, s);

@@ -2,7 +2,7 @@
 ghost use Rattle.std.specs.Prelude.{◌≡◌, ◌+◌, ◌≤◌, IfSome, length, true};
 ghost use Rattle.atoi_fast.specs.Short.{IsNumber};
 
-use crate::digits::{digits_of_flipped, sum_of};
+use crate::digits::{leading_digits_flipped, sum_of};
 use crate::in_range::{MOST_IN_WORD, number_in_range};
 use crate::loads::{factor_of, load_flipped};
 use atoi_core::{Number, Steps};
@@ -20,7 +20,7 @@ pub(crate) fn short_signed<T: Number>(s: &[u8], steps: &mut Steps) -> Option<T>
     let minus = s[0] == b'-';
     // A `-` that is flipped once more is the digit 0, without a branch.
     let flipped = load_flipped(s) ^ factor_of(s.len()).wrapping_mul(0x1D * u64::from(minus));
-    if digits_of_flipped(flipped) != 8 {
+    if leading_digits_flipped(flipped) != 8 {
         return None;
     }
     number_in_range::<T>(MOST_IN_WORD, minus, sum_of(flipped))

@@ -10,7 +10,7 @@ ghost use Rattle.std.proofs.lemmas.Bool.Decides.{nat_tests};
 
 use crate::after_16::answer_after_16;
 use crate::digits::{
-    ZEROS, digits_of, digits_of_flipped, number_in_word, sum_of, value_below_8, value_of,
+    ZEROS, leading_digits, leading_digits_flipped, number_in_word, sum_of, value_below_8, value_of,
     zeroes_of, zeroes_of_two,
 };
 use crate::loads::{load_flipped, load_full, load_last};
@@ -45,7 +45,7 @@ impl Engine for Swar {
             return short_window(s);
         }
         let word = load_full(s);
-        let len = digits_of(word);
+        let len = leading_digits(word);
         if len != 8 {
             return Window::not_full(len, value_below_8(word, len));
         }
@@ -213,7 +213,7 @@ fn long_window(s: &[u8]) -> Window
     ensures { result ≡ window_of decimal_table 16 s.now }
 {
     let first = load_full(s);
-    let len = digits_of(first);
+    let len = leading_digits(first);
     // LLVM joins this test with the caller's.
     if len == 0 {
         return Window::not_full(0, 0);
@@ -222,7 +222,7 @@ fn long_window(s: &[u8]) -> Window
         return Window::not_full(len, value_below_8(first, len));
     }
     let next = load_full(&s[8..]);
-    let more = digits_of(next);
+    let more = leading_digits(next);
     if more != 8 {
         let high = value_of(first, 8) * power_of_ten(more);
         return Window::not_full(8 + more, high + value_below_8(next, more));
@@ -247,7 +247,7 @@ fn short_window(s: &[u8]) -> Window
         return window_of_one(s);
     }
     let flipped = load_flipped(s);
-    let digits = digits_of_flipped(flipped);
+    let digits = leading_digits_flipped(flipped);
     if digits == 8 {
         Window {
             len: s.len() as u32,
@@ -271,12 +271,12 @@ fn medium_window(s: &[u8]) -> Window
     ensures { result ≡ window_of decimal_table 16 s.now }
 {
     let first = load_full(s);
-    let len = digits_of(first);
+    let len = leading_digits(first);
     if len != 8 {
         return Window::not_full(len, value_below_8(first, len));
     }
     let last = load_last(s);
-    let more = digits_of(last);
+    let more = leading_digits(last);
     let size = s.len() as u32;
     let high = value_of(first, size - 8);
     if more == 8 {

@@ -35,7 +35,7 @@ lowered =
           omega arith;
     }
 
--- The marks of `digits_of`.
+-- The marks of `leading_digits`.
 abbrev pub marks_in : ℕ → ℕ → ℕ
 marks_in k word = bit_and (bit_or ((word + repeated 70 k) % 2 ^ (k * 8)) ((word + without_48 k) % 2 ^ (k * 8))) (repeated 128 k)
 

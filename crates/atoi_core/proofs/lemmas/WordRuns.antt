@@ -116,11 +116,11 @@ pub zeros_of_16 : (word : ℕ) → count_trailing_zeros 128 (bit_xor word 0x3030
 zeros_of_16 = zeros_counted 16
 
 -- In `check_len_8`, the mask comes before the shift.
-pub digits_of_8 : (val : ℕ)
+pub leading_digits_of_8 : (val : ℕ)
     → let high = bit_and ((val + 0x0606_0606_0606_0606) % 0x1_0000_0000_0000_0000) 0xF0F0_F0F0_F0F0_F0F0 / 16 in
     count_trailing_zeros 64 (bit_xor (bit_or high (bit_and val 0xF0F0_F0F0_F0F0_F0F0)) 0x3333_3333_3333_3333) / 8
     ≡ run_len decimal_table (low_bytes 8 val)
-digits_of_8 val =
+leading_digits_of_8 val =
     let halves = both bit_and and_shr and_mod unchanged (constant 240 (lit< tt)) in
     let marks = both bit_xor xor_shr xor_mod (both bit_or or_shr or_mod (upper (cut (added 6 (lit< tt)))) halves) (constant 51 (lit< tt)) in
     rw (and_shr ((val + 0x0606_0606_0606_0606) % 2 ^ 64) 0xF0F0_F0F0_F0F0_F0F0 4)

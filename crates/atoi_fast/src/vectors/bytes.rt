@@ -9,7 +9,7 @@ ghost use Rattle.atoi_core.specs.Reading.{window_of};
 ghost use Rattle.atoi_core.specs.Lanes.{padded_start};
 ghost use Rattle.atoi_fast.specs.Vectors.{itself, padded, paired};
 
-use crate::digits::{ZEROS, digits_of, digits_of_flipped};
+use crate::digits::{ZEROS, leading_digits, leading_digits_flipped};
 use crate::loads::{load_flipped, load_full, load_last};
 use crate::one_byte::window_of_one;
 use atoi_core::Window;
@@ -193,7 +193,7 @@ pub(crate) fn short_window(s: &[u8]) -> Window
         return window_of_one(s);
     }
     let flipped = load_flipped(s);
-    let digits = digits_of_flipped(flipped);
+    let digits = leading_digits_flipped(flipped);
     if digits == 8 {
         // The number need not wait for its length.
         return Window::not_full(s.len() as u32, number_in_half(half(flipped)));

@@ -108,7 +108,7 @@ impl Engine for Words {
 const UPPER_HALVES: u64 = 0xF0F0_F0F0_F0F0_F0F0;
 
 /// Returns how many bytes of `val`, from the lowest on, are digits.
-// #[tactic(auto, using(crate::proofs::lemmas::WordRuns::digits_of_8))]
+// #[tactic(auto, using(crate::proofs::lemmas::WordRuns::leading_digits_of_8))]
 #[inline] pub fn check_len_8(val: u64) -> u32
     // ensures len { result ≡ run_len decimal_table (low_bytes 8 val) }
     // ensures most { result ≤ 8 }

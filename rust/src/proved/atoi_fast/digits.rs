@@ -16,7 +16,7 @@ pub(crate) const FOUR_ZEROS: u32 = 0x3030_3030;
 // bytes above the first that is no digit.
 /// Returns how many digits the word begins with.
 // #[tactic(auto, using(atoi_core::proofs::lemmas::LoweredWords::marks_of_8, crate::proofs::lemmas::WordRuns::none_marked))]
-#[inline] pub(crate) fn digits_of(word: u64) -> u32
+#[inline] pub(crate) fn leading_digits(word: u64) -> u32
     // ensures len { result ≡ run_len decimal_table (low_bytes 8 word) }
     // ensures most { result ≤ 8 }
 {
@@ -30,9 +30,9 @@ pub(crate) const FOUR_ZEROS: u32 = 0x3030_3030;
     }
 }
 
-/// `digits_of` for a word xor `ZEROS`. Here, a byte is no digit if adding 118 sets its top bit.
+/// `leading_digits` for a word xor `ZEROS`. Here, a byte is no digit if adding 118 sets its top bit.
 // #[tactic(auto, using(crate::proofs::lemmas::WordRuns::flipped_marks, crate::proofs::lemmas::WordRuns::none_flipped))]
-#[inline] pub(crate) fn digits_of_flipped(flipped: u64) -> u32
+#[inline] pub(crate) fn leading_digits_flipped(flipped: u64) -> u32
     // ensures len { result ≡ run_len decimal_table (low_bytes 8 (bit_xor flipped 0x3030_3030_3030_3030)) }
     // ensures most { result ≤ 8 }
 {
@@ -44,7 +44,7 @@ pub(crate) const FOUR_ZEROS: u32 = 0x3030_3030;
     }
 }
 
-// `len_zeroes`, from the difference that `digits_of` and `value_of` compute, too.
+// `len_zeroes`, from the difference that `leading_digits` and `value_of` compute, too.
 // #[tactic(auto, using(crate::proofs::lemmas::WordRuns::lowered_zeros_of_8))]
 #[inline] pub(crate) fn zeroes_of(word: u64) -> u32
     // ensures zeroes { result ≡ zeros decimal_table (low_bytes 8 word) }
@@ -153,9 +153,9 @@ const FACTORS: [u64; 8] = [
     sum_of_product(digits.wrapping_mul(FACTORS[len as usize]))
 }
 
-/// `digits_of` for a word of four bytes.
+/// `leading_digits` for a word of four bytes.
 // #[tactic(auto, using(crate::proofs::lemmas::WordRuns::marks_of_4, crate::proofs::lemmas::WordRuns::none_marked_of_4))]
-#[inline] pub(crate) fn digits_of_four(word: u32) -> u32
+#[inline] pub(crate) fn leading_digits_of_four(word: u32) -> u32
     // ensures len { result ≡ run_len decimal_table (low_bytes 4 word) }
     // ensures most { result ≤ 4 }
 {

@@ -4,7 +4,7 @@
 // ghost use Rattle.atoi_core.specs.Run.{run_len, value};
 // ghost use Rattle.atoi_fast.specs.Short.{BeginsWithNumber, HasMinus, zero_for_minus};
 
-use crate::proved::atoi_fast::digits::{ZEROS, digits_of, sum_of, value_by_product};
+use crate::proved::atoi_fast::digits::{ZEROS, leading_digits, sum_of, value_by_product};
 use crate::proved::atoi_fast::in_range::{MOST_IN_TWO_WORDS, MOST_IN_WORD, number_in_range};
 use crate::proved::atoi_fast::loads::{load_from, load_full};
 use crate::proved::atoi_core::powers::{append_digits, power_of_ten};
@@ -80,7 +80,7 @@ fn prefix_of_two_words<T: Number>(minus: bool, high: u64, s: &[u8]) -> Option<(T
     // ensures short { IfSome result (λ found. found.1 ≤ 20) }
 {
     let next = load_full(&s[8..]);
-    let more = digits_of(next);
+    let more = leading_digits(next);
     if more == 8 {
         if T::BITS != 64 {
             return None;
@@ -106,7 +106,7 @@ fn prefix_of_three_words<T: Number>(minus: bool, high: u64, s: &[u8]) -> Option<
     // ensures short { IfSome result (λ found. found.1 ≤ 20) }
 {
     let next = load_from(s, 16);
-    let more = digits_of(next);
+    let more = leading_digits(next);
     // Not more than 19 digits, which no limit refuses.
     if more > 3 + u32::from(minus) {
         return None;
@@ -126,7 +126,7 @@ fn unsigned_prefix<T: Number>(s: &[u8]) -> Option<(T, usize)>
     // ensures short { IfSome result (λ found. found.1 ≤ 20) }
 {
     let word = load_full(s);
-    let len = digits_of(word);
+    let len = leading_digits(word);
     if len == 0 || len == 8 {
         return None;
     }

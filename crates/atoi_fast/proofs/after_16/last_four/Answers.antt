@@ -22,15 +22,15 @@ loaded c =
     (c.load_last_four-word.ensures ∙ ap word_of (sym all)) (omega arith) ∙ all in
     (is, rw is (prefix_len-drop (is_digit decimal_table) (length s - 4) s (omega arith)))
 
-pub returns-then-digits_of_four-lt4 : goal.returns-then-digits_of_four-lt4
-returns-then-digits_of_four-lt4 c =
-    omega (arith, (loaded (goal.at.returns-then-digits_of_four-lt4 c).After-load_last_four-word).1, c.digits_of_four.ensures.len)
+pub returns-then-leading_digits_of_four-lt4 : goal.returns-then-leading_digits_of_four-lt4
+returns-then-leading_digits_of_four-lt4 c =
+    omega (arith, (loaded (goal.at.returns-then-leading_digits_of_four-lt4 c).After-load_last_four-word).1, c.leading_digits_of_four.ensures.len)
 
 pub returns : goal.returns
 returns c =
     let s : List ℕ = c.args.s.now in
     let found = loaded (goal.at.returns c).After-load_last_four-word in
-    let whole : run_len decimal_table s ≡ length s = omega (arith, found.1, c.digits_of_four.ensures) in
+    let whole : run_len decimal_table s ≡ length s = omega (arith, found.1, c.leading_digits_of_four.ensures) in
     let rest : List ℕ = drop 16 s in
     let offset : length s - 4 + (20 - length s) ≡ 16 = omega arith in
     let digits : run_len decimal_table s ≡ 16 + run_len decimal_table rest = prefix_len-drop (is_digit decimal_table) 16 s (omega arith) in

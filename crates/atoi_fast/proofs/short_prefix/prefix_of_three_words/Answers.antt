@@ -8,13 +8,13 @@ use Rattle.atoi_fast.proofs.short_prefix.prefix_of_three_words.Goals as goal
 
 pub value_by_product-low-requires-clause-halves : goal.value_by_product-low-requires-clause-halves
 value_by_product-low-requires-clause-halves g c =
-    (lowered_at_top c.digits_of-more.result c.load_from-next.result _ (grind (arith, nat_tests, c.from.ensures)) (omega arith) refl).0
+    (lowered_at_top c.leading_digits-more.result c.load_from-next.result _ (grind (arith, nat_tests, c.from.ensures)) (omega arith) refl).0
 
 pub returns-clause-answer : goal.returns-clause-answer
 returns-clause-answer g c =
     let r = c.requires in
     let int = g.T.Number.int_type in
-    let more = c.digits_of-more.result in
+    let more = c.leading_digits-more.result in
     let next = c.load_from-next.result in
     let wide : int.bits ≡ 64 = g.met.T.Number.type_is.bits_are ∙ r.wide in
     let few : more < 8 = grind (arith, nat_tests, c.from.ensures) in
@@ -23,6 +23,6 @@ returns-clause-answer g c =
     let in_range = rw (c.append_digits-magnitude.ensures, c.greatest_magnitude.ensures.value) at c.if-magnitude-greatest_magnitude.false in
     let at_16 = next_word_prefix c.args.minus c.args.s.now 16 (omega arith) (λ i. (c.type_inv.s i).fits) r.full next
     c.load_from-next.ensures int (λ e. (g.met.T.Number.type_is.sign_is ∙ (r.minus e).0, (r.minus e).1)) (omega arith) in
-    rw (c.from_parts.ensures, c.append_digits-magnitude.ensures, c.digits_of-more.ensures.len)
-    (at_16 c.args.high _ r.high (rw c.digits_of-more.ensures.len at few) (rw c.digits_of-more.ensures.len at limit)
-    (rw c.digits_of-more.ensures.len at low_is) (omega (arith, rw c.digits_of-more.ensures.len at in_range)))
+    rw (c.from_parts.ensures, c.append_digits-magnitude.ensures, c.leading_digits-more.ensures.len)
+    (at_16 c.args.high _ r.high (rw c.leading_digits-more.ensures.len at few) (rw c.leading_digits-more.ensures.len at limit)
+    (rw c.leading_digits-more.ensures.len at low_is) (omega (arith, rw c.leading_digits-more.ensures.len at in_range)))

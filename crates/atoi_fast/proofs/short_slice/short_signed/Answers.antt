@@ -16,7 +16,7 @@ sum_of-requires g c =
     let flipped = bit_xor c.load_flipped.result (c.factor_of.result * (0x1D * c.from.result) % 2 ^ 64) in
     let fits : flipped < 2 ^ 64 = xor_lt 64 _ _ c.load_flipped.type_inv (mod-lt _ (lit< tt)) in
     let full : run_len decimal_table (low_bytes 8 (bit_xor flipped (repeated 48 8))) ≡ 8 =
-    sym c.digits_of_flipped.ensures.len ∙ c.if-digits_of_flipped-ne8.false in
+    sym c.leading_digits_flipped.ensures.len ∙ c.if-leading_digits_flipped-ne8.false in
     (lowered_eight _ _ full (flipped_lowered flipped fits full)).0
 
 pub returns-clause-number : goal.returns-clause-number
@@ -26,7 +26,7 @@ returns-clause-number g c =
     let flipped = bit_xor c.load_flipped.result (c.factor_of.result * (0x1D * c.from.result) % 2 ^ 64) in
     let fits : flipped < 2 ^ 64 = xor_lt 64 _ _ c.load_flipped.type_inv (mod-lt _ (lit< tt)) in
     let full : run_len decimal_table (low_bytes 8 (bit_xor flipped (repeated 48 8))) ≡ 8 =
-    sym c.digits_of_flipped.ensures.len ∙ c.if-digits_of_flipped-ne8.false in
+    sym c.leading_digits_flipped.ensures.len ∙ c.if-leading_digits_flipped-ne8.false in
     let back : c.from.result ≡ (if minus then 1 else 0) = grind (arith, nat_tests, c.from.ensures) in
     if_in_range g.T.Number.number int c.args.s.now minus c.sum_of.result c.number_in_range.result
     c.number_in_range.ensures.in_range c.number_in_range.ensures.number

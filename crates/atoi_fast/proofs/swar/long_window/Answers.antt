@@ -13,26 +13,26 @@ pub returns-then-len-eq0 : goal.returns-then-len-eq0
 returns-then-len-eq0 c =
     rw c.not_full.ensures
     (window_short c.args.s.now (λ i. (c.type_inv.s i).fits) _ c.load_full-first.ensures 0 _
-    (sym c.if-len-eq0.true ∙ c.digits_of-len.ensures.len) (omega arith) (sum_of_none _ 0 refl))
+    (sym c.if-len-eq0.true ∙ c.leading_digits-len.ensures.len) (omega arith) (sum_of_none _ 0 refl))
 
 pub returns-then-len-ne8 : goal.returns-then-len-ne8
 returns-then-len-ne8 c =
     rw c.not_full-then-len-ne8.ensures
     (window_short c.args.s.now (λ i. (c.type_inv.s i).fits) _ c.load_full-first.ensures _ _
-    c.digits_of-len.ensures.len (omega arith) c.value_below_8.ensures.sum)
+    c.leading_digits-len.ensures.len (omega arith) c.value_below_8.ensures.sum)
 
 pub returns-then-more-ne8 : goal.returns-then-more-ne8
 returns-then-more-ne8 c =
     rw (c.not_full-then-more-ne8.ensures, c.power_of_ten.ensures.power)
     (window_joined c.args.s.now (λ i. (c.type_inv.s i).fits) _ c.load_full-first.ensures
     c.load_full-next.result _ (rw take_rest at c.load_full-next.ensures)
-    (omega arith) c.digits_of-more.ensures.len _ _ _ (grind (arith, nat_tests)) c.value_of.ensures.sum
+    (omega arith) c.leading_digits-more.ensures.len _ _ _ (grind (arith, nat_tests)) c.value_of.ensures.sum
     c.value_below_8-then-more-ne8.ensures.sum)
 
 pub returns : goal.returns
 returns c =
     let next = c.load_full-next.result in
-    let more : 8 ≡ run_len decimal_table (low_bytes 8 next) = omega (arith, c.digits_of-more.ensures.len) in
+    let more : 8 ≡ run_len decimal_table (low_bytes 8 next) = omega (arith, c.leading_digits-more.ensures.len) in
     rw c.power_of_ten-2.ensures.power
     (window_joined c.args.s.now (λ i. (c.type_inv.s i).fits) _ c.load_full-first.ensures
     next 8 (rw take_rest at c.load_full-next.ensures) (omega arith) more

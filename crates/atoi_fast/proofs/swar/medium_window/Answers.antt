@@ -11,7 +11,7 @@ pub returns-then-len-ne8 : goal.returns-then-len-ne8
 returns-then-len-ne8 c =
     rw c.not_full.ensures
     (window_short c.args.s.now (λ i. (c.type_inv.s i).fits) _ c.load_full-first.ensures _ _
-    c.digits_of-len.ensures.len (omega arith) c.value_below_8.ensures.sum)
+    c.leading_digits-len.ensures.len (omega arith) c.value_below_8.ensures.sum)
 
 pub value_of-requires-else-more-eq8-clause-some : goal.value_of-requires-else-more-eq8-clause-some
 value_of-requires-else-more-eq8-clause-some c =
@@ -25,7 +25,7 @@ value_of-requires-else-more-eq8-clause-some c =
 pub returns-then-more-eq8 : goal.returns-then-more-eq8
 returns-then-more-eq8 c =
     let r = c.requires in
-    let more : 8 ≡ run_len decimal_table (low_bytes 8 c.load_last-last.result) = omega (arith, c.digits_of-more.ensures.len) in
+    let more : 8 ≡ run_len decimal_table (low_bytes 8 c.load_last-last.result) = omega (arith, c.leading_digits-more.ensures.len) in
     rw (c.not_full-then-more-eq8.ensures, c.power_of_ten.ensures.power)
     (window_of_ends c.args.s.now r.enough r.few (λ i. (c.type_inv.s i).fits) _ _
     c.load_full-first.ensures c.load_last-last.ensures (omega arith)
@@ -37,4 +37,4 @@ returns-else-more-eq8 c =
     rw (c.not_full-else-more-eq8.ensures, c.power_of_ten-else-more-eq8.ensures.power)
     (window_of_ends c.args.s.now r.enough r.few (λ i. (c.type_inv.s i).fits) _ _
     c.load_full-first.ensures c.load_last-last.ensures (omega arith)
-    _ _ _ _ c.digits_of-more.ensures.len refl c.value_of-high.ensures.sum c.value_of-else-more-eq8.ensures.sum)
+    _ _ _ _ c.leading_digits-more.ensures.len refl c.value_of-high.ensures.sum c.value_of-else-more-eq8.ensures.sum)

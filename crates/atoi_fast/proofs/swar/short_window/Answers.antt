@@ -12,13 +12,13 @@ use Rattle.atoi_fast.proofs.swar.short_window.Goals as goal
 pub sum_of-requires : goal.sum_of-requires
 sum_of-requires c =
     let full : 8 ≡ run_len decimal_table (low_bytes 8 (bit_xor c.load_flipped-flipped.result (repeated 48 8))) =
-    sym c.if-digits-eq8.true ∙ c.digits_of_flipped-digits.ensures.len in
+    sym c.if-digits-eq8.true ∙ c.leading_digits_flipped-digits.ensures.len in
     (lowered_eight _ _ (sym full) (flipped_lowered _ c.load_flipped-flipped.type_inv (sym full))).0
 
 pub returns-then-digits-eq8-clause-of_16 : goal.returns-then-digits-eq8-clause-of_16
 returns-then-digits-eq8-clause-of_16 c =
     let full : 8 ≡ run_len decimal_table (low_bytes 8 (bit_xor c.load_flipped-flipped.result (repeated 48 8))) =
-    sym c.if-digits-eq8.true ∙ c.digits_of_flipped-digits.ensures.len in
+    sym c.if-digits-eq8.true ∙ c.leading_digits_flipped-digits.ensures.len in
     filled_window c.args.s.now c.requires (λ i. (c.type_inv.s i).fits) _ 8 _ _
     (ap (λ x. bit_xor x (repeated 48 8)) c.load_flipped-flipped.ensures ∙ flipped_back _ _) full (omega arith)
     (c.sum_of.ensures.sum ∙ (lowered_eight _ _ (sym full) (flipped_lowered _ c.load_flipped-flipped.type_inv (sym full))).1)
@@ -30,7 +30,7 @@ pub returns-else-digits-eq8-clause-of_16 : goal.returns-else-digits-eq8-clause-o
 returns-else-digits-eq8-clause-of_16 c =
     filled_window c.args.s.now c.requires (λ i. (c.type_inv.s i).fits) _ _ _ _
     (ap (λ x. bit_xor x (repeated 48 8)) c.load_flipped-flipped.ensures ∙ flipped_back _ _)
-    c.digits_of_flipped-digits.ensures.len refl c.number_in_word.ensures.sum
+    c.leading_digits_flipped-digits.ensures.len refl c.number_in_word.ensures.sum
 
 pub returns-else-digits-eq8-clause-of_8 : goal.returns-else-digits-eq8-clause-of_8
 returns-else-digits-eq8-clause-of_8 c = λ fewer. returns-else-digits-eq8-clause-of_16 c ∙ few_in_both c.args.s.now fewer

@@ -9,15 +9,15 @@ use Rattle.atoi_fast.proofs.swar.SwarEngine.window_8.Goals as goal
 
 pub returns-then-len-ne8-clause-window : goal.returns-then-len-ne8-clause-window
 returns-then-len-ne8-clause-window c =
-    let few : 0 ≡ (if c.digits_of-len.result == 8 then zeros decimal_table (low_bytes 8 c.load_full-word.result) else 0) =
+    let few : 0 ≡ (if c.leading_digits-len.result == 8 then zeros decimal_table (low_bytes 8 c.load_full-word.result) else 0) =
     grind (arith, nat_tests) in
     rw c.not_full.ensures
     (loaded_window c.args.s.now (λ i. (c.type_inv.s i).fits) _ _ c.load_full-word.ensures
-    c.digits_of-len.ensures.len few c.value_below_8.ensures.sum)
+    c.leading_digits-len.ensures.len few c.value_below_8.ensures.sum)
 
 pub returns-clause-window : goal.returns-clause-window
 returns-clause-window c =
-    let full : c.zeroes_of.result ≡ (if c.digits_of-len.result == 8 then zeros decimal_table (low_bytes 8 c.load_full-word.result) else 0) =
+    let full : c.zeroes_of.result ≡ (if c.leading_digits-len.result == 8 then zeros decimal_table (low_bytes 8 c.load_full-word.result) else 0) =
     grind (arith, nat_tests, c.zeroes_of.ensures.zeroes) in
     loaded_window c.args.s.now (λ i. (c.type_inv.s i).fits) _ _ c.load_full-word.ensures
-    c.digits_of-len.ensures.len full c.value_of.ensures.sum
+    c.leading_digits-len.ensures.len full c.value_of.ensures.sum

@@ -13,13 +13,13 @@ use Rattle.atoi_fast.proofs.vectors.bytes.short_window.Goals as goal
 pub number_in_half-requires : goal.number_in_half-requires
 number_in_half-requires c =
     let full : 8 ≡ run_len decimal_table (low_bytes 8 (bit_xor c.load_flipped-flipped.result (repeated 48 8))) =
-    sym c.if-digits-eq8.true ∙ c.digits_of_flipped-digits.ensures.len in
+    sym c.if-digits-eq8.true ∙ c.leading_digits_flipped-digits.ensures.len in
     (flipped_half _ _ c.load_flipped-flipped.type_inv (sym full) c.half.ensures).1
 
 pub returns-then-digits-eq8 : goal.returns-then-digits-eq8
 returns-then-digits-eq8 c =
     let full : 8 ≡ run_len decimal_table (low_bytes 8 (bit_xor c.load_flipped-flipped.result (repeated 48 8))) =
-    sym c.if-digits-eq8.true ∙ c.digits_of_flipped-digits.ensures.len in
+    sym c.if-digits-eq8.true ∙ c.leading_digits_flipped-digits.ensures.len in
     c.not_full.ensures
     ∙ filled_window c.args.s.now (omega arith) (λ i. (c.type_inv.s i).fits) _ 8 _ _
     (ap (λ x. bit_xor x (repeated 48 8)) c.load_flipped-flipped.ensures ∙ flipped_back _ _) full (omega arith)
@@ -30,4 +30,4 @@ returns c =
     c.not_full-2.ensures
     ∙ filled_window c.args.s.now (omega arith) (λ i. (c.type_inv.s i).fits) _ _ _ _
     (ap (λ x. bit_xor x (repeated 48 8)) c.load_flipped-flipped.ensures ∙ flipped_back _ _)
-    c.digits_of_flipped-digits.ensures.len refl c.value_in_half.ensures
+    c.leading_digits_flipped-digits.ensures.len refl c.value_in_half.ensures
