@@ -32,9 +32,9 @@ impl Engine for Swar {
         if s.len() >= 16 {
             long_window(s)
         } else if s.len() <= 8 {
-            short_window(s)
+            window_up_to_8(s)
         } else {
-            medium_window(s)
+            window_9_to_15(s)
         }
     }
 
@@ -42,7 +42,7 @@ impl Engine for Swar {
     fn window_8(s: &[u8], steps: &mut Steps) -> Window {
         steps.tick();
         if s.len() < 8 {
-            return short_window(s);
+            return window_up_to_8(s);
         }
         let word = load_full(s);
         let len = leading_digits(word);
@@ -238,7 +238,7 @@ fn long_window(s: &[u8]) -> Window
 // most frequent length, or none has a branch.
 #[inline(always)]
 #[tactic(auto, using(crate::proofs::lemmas::WordWindows::filled_digits, crate::proofs::lemmas::WordRuns::flipped_back))]
-fn short_window(s: &[u8]) -> Window
+fn window_up_to_8(s: &[u8]) -> Window
     requires { length s.now ≤ 8 }
     ensures of_16 { result ≡ window_of decimal_table 16 s.now }
     ensures of_8 { length s.now < 8 → result ≡ window_of decimal_table 8 s.now }
@@ -265,7 +265,7 @@ fn short_window(s: &[u8]) -> Window
 
 // The window of 9 to 15 bytes. The last eight overlap the first eight.
 #[inline(always)]
-fn medium_window(s: &[u8]) -> Window
+fn window_9_to_15(s: &[u8]) -> Window
     requires enough { 8 < length s.now }
     requires few { length s.now < 16 }
     ensures { result ≡ window_of decimal_table 16 s.now }

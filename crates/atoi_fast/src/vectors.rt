@@ -14,7 +14,7 @@ use crate::after_16::answer_after_16;
 use crate::digits::number_in_word;
 use crate::loads::load_full;
 use crate::vectors::bytes::{
-    load_lanes, others, read_medium, short_window, sum_lanes, zeroes_lanes,
+    load_lanes, number_of_8_to_15, others, sum_lanes, window_below_8, zeroes_lanes,
 };
 use crate::vectors::wide::{answer_128_after_16, prefix_64_after_zeros, prefix_128_after_zeros};
 use atoi_core::wide_answer::found_or_empty;
@@ -124,12 +124,12 @@ pub(crate) fn window_below_16(s: &[u8]) -> Window
     ensures { result ≡ window_of decimal_table 16 s.now }
 {
     if s.len() >= 8 {
-        return match read_medium(s) {
+        return match number_of_8_to_15(s) {
             Some(number) => Window::not_full(s.len() as u32, number),
             None => read_lanes(s),
         };
     }
-    short_window(s)
+    window_below_8(s)
 }
 
 #[inline(always)]

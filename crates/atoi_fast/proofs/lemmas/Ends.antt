@@ -101,9 +101,9 @@ module _ (s : List ℕ) (enough : 8 ≤ length s) where
       (each_from (λ n. Moved (map (λ i. get_or s i 0) (range_with_len 0 n))) 8 8 (search rules) (length s) enough few)
 
   -- Less 48 and moved so, digits spell their value.
-  pub medium_values : length s < 16 → run_len decimal_table s ≡ length s → (v lanes : List ℕ) → v ≡ ends s
+  pub values_of_8_to_15 : length s < 16 → run_len decimal_table s ≡ length s → (v lanes : List ℕ) → v ≡ ends s
       → lanes ≡ to_end (length s) (zip2 less v (replicate 16 48)) → (value itself lanes ≡ value decimal_table s) × Each1 (λ x. x < 16) lanes
-  medium_values few all v lanes is lanes_are =
+  values_of_8_to_15 few all v lanes is lanes_are =
       let n = length s in
       let whole = take_all n (map above_zero s) (omega (arith, length-map s above_zero)) in
       let known = end_values (16 - n) n s lanes (omega arith)

@@ -104,7 +104,7 @@ fn to_end(v: u8x16, len: usize) -> u8x16
 
 // Returns the number that 8 to 15 bytes spell, if all are digits.
 #[inline(always)]
-pub(crate) fn read_medium(s: &[u8]) -> Option<u64>
+pub(crate) fn number_of_8_to_15(s: &[u8]) -> Option<u64>
     requires enough { 8 ≤ length s.now }
     requires few { length s.now < 16 }
     ensures some { IfSome result (λ number. (run_len decimal_table s.now ≡ length s.now)
@@ -185,7 +185,7 @@ pub(crate) fn shuffle(v: u8x16, p: usize) -> u8x16
 /// Returns the window of fewer than 8 bytes.
 #[inline(always)]
 #[tactic(auto, using(crate::proofs::lemmas::WordWindows::filled_digits, crate::proofs::lemmas::WordRuns::flipped_back))]
-pub(crate) fn short_window(s: &[u8]) -> Window
+pub(crate) fn window_below_8(s: &[u8]) -> Window
     requires few { length s.now < 8 }
     ensures { result ≡ window_of decimal_table 16 s.now }
 {

@@ -8,7 +8,7 @@ use Rattle.atoi_core.proofs.lemmas.WordFields.{repeated}
 use Rattle.atoi_fast.proofs.lemmas.ShortLanes.{flipped_half}
 use Rattle.atoi_fast.proofs.lemmas.WordRuns.{flipped_back}
 use Rattle.atoi_fast.proofs.lemmas.WordWindows.{filled_window}
-use Rattle.atoi_fast.proofs.vectors.bytes.short_window.Goals as goal
+use Rattle.atoi_fast.proofs.vectors.bytes.window_below_8.Goals as goal
 
 pub number_in_half-requires : goal.number_in_half-requires
 number_in_half-requires c =

@@ -5,7 +5,7 @@ use Rattle.atoi_core.specs.Run.{run_len}
 use Rattle.atoi_core.specs.Words.{low_bytes}
 use Rattle.atoi_core.proofs.lemmas.WordWindows.{window_short}
 use Rattle.atoi_fast.proofs.lemmas.WordWindows.{run_of_ends, window_of_ends}
-use Rattle.atoi_fast.proofs.swar.medium_window.Goals as goal
+use Rattle.atoi_fast.proofs.swar.window_9_to_15.Goals as goal
 
 pub returns-then-len-ne8 : goal.returns-then-len-ne8
 returns-then-len-ne8 c =

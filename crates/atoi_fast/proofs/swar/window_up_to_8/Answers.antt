@@ -7,7 +7,7 @@ use Rattle.atoi_core.specs.Words.{low_bytes}
 use Rattle.atoi_core.proofs.lemmas.WordFields.{repeated}
 use Rattle.atoi_fast.proofs.lemmas.WordRuns.{flipped_back, flipped_lowered, lowered_eight}
 use Rattle.atoi_fast.proofs.lemmas.WordWindows.{few_in_both, filled_window}
-use Rattle.atoi_fast.proofs.swar.short_window.Goals as goal
+use Rattle.atoi_fast.proofs.swar.window_up_to_8.Goals as goal
 
 pub sum_of-requires : goal.sum_of-requires
 sum_of-requires c =

@@ -3,9 +3,9 @@ use Rattle.std.proofs.Common.{length, ap, sym, ◌≡◌, ◌∙◌, arith}
 use Rattle.std.proofs.lemmas.List.Sums.{prefix_len-le-length}
 use Rattle.atoi_core.specs.Digit.{decimal_table, is_digit}
 use Rattle.atoi_core.specs.Run.{run_len}
-use Rattle.atoi_fast.proofs.lemmas.Ends.{ends_run, medium_values}
-use Rattle.atoi_fast.proofs.vectors.bytes.read_medium.Goals as goal
-use Rattle.atoi_fast.proofs.vectors.bytes.read_medium.Goals.{After-to_end}
+use Rattle.atoi_fast.proofs.lemmas.Ends.{ends_run, values_of_8_to_15}
+use Rattle.atoi_fast.proofs.vectors.bytes.number_of_8_to_15.Goals as goal
+use Rattle.atoi_fast.proofs.vectors.bytes.number_of_8_to_15.Goals.{After-to_end}
 
 pub returns-then-others-ne0-clause-none : goal.returns-then-others-ne0-clause-none
 returns-then-others-ne0-clause-none c = λ _.
@@ -21,9 +21,9 @@ digits c =
     (sym (ap (run_len decimal_table) c.ends-bytes.ensures) ∙ c.others.ensures.none c.if-others-ne0.false)
 
 pub number_in_lanes-requires : goal.number_in_lanes-requires
-number_in_lanes-requires c = (medium_values _ c.requires.enough c.requires.few (digits c) _ _ c.ends-bytes.ensures c.to_end.ensures).1
+number_in_lanes-requires c = (values_of_8_to_15 _ c.requires.enough c.requires.few (digits c) _ _ c.ends-bytes.ensures c.to_end.ensures).1
 
 pub returns-clause-some : goal.returns-clause-some
 returns-clause-some c =
     let all = digits (goal.at.returns-clause-some c).After-to_end in
-    (all, c.number_in_lanes.ensures ∙ (medium_values _ c.requires.enough c.requires.few all _ _ c.ends-bytes.ensures c.to_end.ensures).0)
+    (all, c.number_in_lanes.ensures ∙ (values_of_8_to_15 _ c.requires.enough c.requires.few all _ _ c.ends-bytes.ensures c.to_end.ensures).0)
