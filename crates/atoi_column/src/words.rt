@@ -54,7 +54,7 @@ pub(crate) fn number_before(s: &[u8], width: usize, ends: u64, count: usize) -> 
 
 /// Whether `s` has two bytes or more, and begins with the `count` bytes of the word `bytes`.
 #[inline(always)]
-pub(crate) fn begins_with(s: &[u8], bytes: u64, count: usize) -> bool
+pub(crate) fn starts_with(s: &[u8], bytes: u64, count: usize) -> bool
     requires few { count ≤ 2 }
     ensures two { result ≡ true → 2 ≤ length s.now }
     ensures bytes { 2 ≤ length s.now → result ≡ (word_of (take count s.now) == bytes) }

@@ -10,7 +10,7 @@ use crate::guesses::{
     Guess, NO_GUESS, end_of, guess_after, is_short, number_of_digits, number_with_end,
 };
 use crate::laws::fields_are_prefixes;
-use crate::words::begins_with;
+use crate::words::starts_with;
 use atoi_core::laws::{accepted_texts, prefix_is_whole};
 use atoi_simd::Parse;
 
@@ -241,7 +241,7 @@ fn guessed_field<T: Parse>(
         return Some((value, &rest[count + tail..]));
     }
     let (value, count) = number_of_digits::<T>(rest, guess.width)?;
-    if !begins_with(&rest[count..], ends, tail) {
+    if !starts_with(&rest[count..], ends, tail) {
         return None;
     }
     Some((value, &rest[count + tail..]))

@@ -6,7 +6,7 @@ ghost use Rattle.atoi_core.specs.Refusal.{answer_of};
 ghost use Rattle.atoi_core.specs.Run.{run_len, value, zeros};
 ghost use Rattle.atoi_fast.specs.Vectors.{ReadsAfterZeros};
 
-use crate::after_16::begins_with_digit;
+use crate::after_16::starts_with_digit;
 use crate::swar::answer_after_32;
 use crate::vectors::bytes::{load_lanes, others, sum_lanes, sum_last_lanes};
 use crate::vectors::read_window;
@@ -39,7 +39,7 @@ pub(crate) fn answer_128_after_16<'a>(
             return Ok((append_digits(high, s.len() as u32 - 16, low), s.len()));
         }
     }
-    if !begins_with_digit(&s[16..]) {
+    if !starts_with_digit(&s[16..]) {
         return Ok((u128::from(high), 16));
     }
     steps.tick();

@@ -123,7 +123,7 @@ fn answer_by_word<'a>(
     let more = leading_digits_of_four(word);
     if more == 4 {
         let number = append_digits(high, 4, u64::from(value_up_to_4(word, 4)));
-        if limit < 20 || begins_with_digit(&s[20..]) {
+        if limit < 20 || starts_with_digit(&s[20..]) {
             let more = leading_digits(load_from(s, 16));
             return Err(AtoiSimdError::Size(16 + more as usize, s));
         }
@@ -134,7 +134,7 @@ fn answer_by_word<'a>(
     answer_64(bound as u64, limit, 0, 16 + more, u128::from(number), s)
 }
 
-#[inline] pub(crate) fn begins_with_digit(s: &[u8]) -> bool
+#[inline] pub(crate) fn starts_with_digit(s: &[u8]) -> bool
     // ensures { result ≡ nat_lt 0 (run_len decimal_table s.now) }
 {
     matches!(s, [b'0'..=b'9', ..])

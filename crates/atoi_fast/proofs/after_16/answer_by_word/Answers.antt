@@ -11,7 +11,7 @@ use Rattle.atoi_core.proofs.lemmas.LoadedWords.{loaded_part}
 use Rattle.atoi_core.proofs.lemmas.Runs.{prefix_len-drop, value-take-add}
 use Rattle.atoi_fast.proofs.lemmas.After16.{by_digits, counted_after, ended_at_16}
 use Rattle.atoi_fast.proofs.after_16.answer_by_word.Goals as goal
-use Rattle.atoi_fast.proofs.after_16.answer_by_word.Goals.{After-leading_digits_of_four-more, then-limit-lt20-via-then-limit-lt20, then-limit-lt20-via-else-limit-lt20+then-begins_with_digit}
+use Rattle.atoi_fast.proofs.after_16.answer_by_word.Goals.{After-leading_digits_of_four-more, then-limit-lt20-via-then-limit-lt20, then-limit-lt20-via-else-limit-lt20+then-starts_with_digit}
 
 pub returns-then-not-starts_with_digit_of_four : goal.returns-then-not-starts_with_digit_of_four
 returns-then-not-starts_with_digit_of_four c =
@@ -57,13 +57,13 @@ twenty c four = omega (arith, (following c).0, has_more c, four)
 inside : (c : After-leading_digits_of_four-more) → c.leading_digits_of_four-more.result ≡ 4 → 20 ≤ length c.args.s.now
 inside c four = omega (arith, twenty c four, prefix_len-le-length (is_digit decimal_table) c.args.s.now)
 
-pub slice_bounds-begins_with_digit-count : goal.slice_bounds-begins_with_digit-count
-slice_bounds-begins_with_digit-count c =
-    inside (goal.at.slice_bounds-begins_with_digit-count c).After-leading_digits_of_four-more c.if-more-eq4.true
+pub slice_bounds-starts_with_digit-count : goal.slice_bounds-starts_with_digit-count
+slice_bounds-starts_with_digit-count c =
+    inside (goal.at.slice_bounds-starts_with_digit-count c).After-leading_digits_of_four-more c.if-more-eq4.true
 
-pub slice_bounds-begins_with_digit-start : goal.slice_bounds-begins_with_digit-start
-slice_bounds-begins_with_digit-start c =
-    inside (goal.at.slice_bounds-begins_with_digit-start c).After-leading_digits_of_four-more c.if-more-eq4.true
+pub slice_bounds-starts_with_digit-start : goal.slice_bounds-starts_with_digit-start
+slice_bounds-starts_with_digit-start c =
+    inside (goal.at.slice_bounds-starts_with_digit-start c).After-leading_digits_of_four-more c.if-more-eq4.true
 
 pub returns-then-limit-lt20 : goal.returns-then-limit-lt20
 returns-then-limit-lt20 c =
@@ -76,9 +76,9 @@ returns-then-limit-lt20 c =
     let many : c.args.limit < 16 + more =
     elim c.then-limit-lt20.branch [
       | then-limit-lt20-via-then-limit-lt20 w ↦ omega (arith, w.if-limit-lt20.true, full)
-      | then-limit-lt20-via-else-limit-lt20+then-begins_with_digit w ↦
+      | then-limit-lt20-via-else-limit-lt20+then-starts_with_digit w ↦
           (let next : 0 < run_len decimal_table (drop 20 s) =
-          rw take_rest at (ltb-true 0 _ (sym w.begins_with_digit.ensures ∙ w.if-begins_with_digit.true)) in
+          rw take_rest at (ltb-true 0 _ (sym w.starts_with_digit.ensures ∙ w.if-starts_with_digit.true)) in
           omega (arith, c.requires.bound.high, next, prefix_len-drop (is_digit decimal_table) 20 s full))
     ] in
     let counts : min (16 + more) 24 ≡ 16 + more = omega (arith, c.leading_digits-more.ensures.most) in
@@ -124,7 +124,7 @@ returns-then-more-eq4 c =
     let s : List ℕ = c.args.s.now in
     let at = (goal.at.returns-then-more-eq4 c).After-leading_digits_of_four-more in
     let full = twenty at c.if-more-eq4.true in
-    let none = rw take_rest at (ltb-false 0 _ (sym c.begins_with_digit.ensures ∙ c.if-begins_with_digit.false)) in
+    let none = rw take_rest at (ltb-false 0 _ (sym c.starts_with_digit.ensures ∙ c.if-starts_with_digit.false)) in
     let number : c.append_digits-number.result ≡ value decimal_table (take 20 s) =
     c.append_digits-number.ensures
     ∙ (following at).1 4 c.from.result (omega (arith, c.if-more-eq4.true)) (c.from.ensures ∙ c.value_up_to_4.ensures) in

@@ -20,7 +20,7 @@ returns-clause-accepted g c = λ separates.
     let count = c.in_ok-value-2.count in
     let tail = c.end_of-ends.result.1 in
     let found = c.in_ok-value-2.ensures in
-    let end = rw (take_rest rest count) at c.if-not-begins_with.ensures in
+    let end = rw (take_rest rest count) at c.if-not-starts_with.ensures in
     rw (take_rest rest (count + tail)) (accepted_text c.args.trims c.args.separator rest count tail
     c.fields_are_prefixes.ensures c.prefix_is_whole.ensures c.accepted_texts.ensures separates c.end_of-ends.ensures.ends
     (λ i. (c.type_inv.rest i).fits)

@@ -33,15 +33,15 @@ returns-in-Some-clause-answer c =
     (omega arith) (omega (arith, c.if-s-lt32.true)) c.append_digits.ensures
     (omega (arith, all, c.in-Some.ensures.0))
 
-pub returns-then-not-begins_with_digit-clause-answer :
-    goal.returns-then-not-begins_with_digit-clause-answer
-returns-then-not-begins_with_digit-clause-answer c =
+pub returns-then-not-starts_with_digit-clause-answer :
+    goal.returns-then-not-starts_with_digit-clause-answer
+returns-then-not-starts_with_digit-clause-answer c =
     let s = c.args.s.now in
     let none : run_len decimal_table (drop 16 s) ≤ 0 =
-    ltb-false 0 _ (sym (rw take_rest at c.begins_with_digit.ensures) ∙ c.if-not-begins_with_digit.true) in
+    ltb-false 0 _ (sym (rw take_rest at c.starts_with_digit.ensures) ∙ c.if-not-starts_with_digit.true) in
     let ends : 16 ≡ min 32 (run_len decimal_table s) = omega (arith, none, prefix_len-drop (is_digit decimal_table) 16 s c.requires.full) in
     ended_in_32 c.args.bound c.requires.digits (reading_of_run 32 s {len = 16} ends c.requires.number) (omega arith) (omega arith)
-    c.from-then-not-begins_with_digit.ensures refl
+    c.from-then-not-starts_with_digit.ensures refl
 
 -- The 16 bytes after the first 16.
 following : (c : After-read_window-second) → let second = c.read_window-second.result in let rest = drop 16 c.args.s.now in

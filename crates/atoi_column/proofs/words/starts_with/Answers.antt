@@ -1,6 +1,6 @@
 use Rattle.std.proofs.Common.{◌==◌, sym, ap, ◌∙◌, rules}
 use Rattle.atoi_column.proofs.lemmas.Guesses.{first_of_two}
-use Rattle.atoi_column.proofs.words.begins_with.Goals as goal
+use Rattle.atoi_column.proofs.words.starts_with.Goals as goal
 
 pub returns-in-Some-clause-bytes : goal.returns-in-Some-clause-bytes
 returns-in-Some-clause-bytes c = λ two.
