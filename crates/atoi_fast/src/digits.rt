@@ -67,7 +67,7 @@ pub(crate) fn zeroes_of_two(first: u64, next: u64) -> u32
 
 /// Returns the number that the leading digits of the word spell; there may be none.
 #[tactic(auto, using(atoi_core::proofs::lemmas::LoadedWords::sum_of_none))]
-pub(crate) fn number_in_word(word: u64, len: u32) -> u64
+pub(crate) fn value_in_word(word: u64, len: u32) -> u64
     requires few { len ≤ 8 }
     requires digits { len ≡ run_len decimal_table (low_bytes 8 word) }
     ensures sum { result ≡ low_value (low_bytes len word) }

@@ -10,7 +10,7 @@
 
 use crate::proved::atoi_fast::after_16::answer_after_16;
 use crate::proved::atoi_fast::digits::{
-    ZEROS, leading_digits, leading_digits_flipped, number_in_word, sum_of, value_below_8, value_of,
+    ZEROS, leading_digits, leading_digits_flipped, sum_of, value_below_8, value_in_word, value_of,
     zeroes_of, zeroes_of_two,
 };
 use crate::proved::atoi_fast::loads::{load_flipped, load_full, load_last};
@@ -258,7 +258,7 @@ fn window_up_to_8(s: &[u8]) -> Window
         Window {
             len: digits - (8 - s.len() as u32),
             zeroes: 0,
-            number: number_in_word(flipped ^ ZEROS, digits),
+            number: value_in_word(flipped ^ ZEROS, digits),
         }
     }
 }

@@ -11,7 +11,7 @@ pub(crate) mod wide;
 pub(crate) mod window_32;
 
 use crate::proved::atoi_fast::after_16::answer_after_16;
-use crate::proved::atoi_fast::digits::number_in_word;
+use crate::proved::atoi_fast::digits::value_in_word;
 use crate::proved::atoi_fast::loads::load_full;
 use crate::proved::atoi_fast::vectors::bytes::{
     load_lanes, number_of_8_to_15, others, sum_lanes, window_below_8, zeroes_lanes,
@@ -110,7 +110,7 @@ fn long_window(s: &[u8]) -> Window
     }
     let len = others.trailing_zeros();
     let number = if len <= 8 {
-        number_in_word(load_full(s), len)
+        value_in_word(load_full(s), len)
     } else {
         sum_lanes(lanes, len)
     };

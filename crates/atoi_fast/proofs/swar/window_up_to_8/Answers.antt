@@ -30,7 +30,7 @@ pub returns-else-digits-eq8-clause-of_16 : goal.returns-else-digits-eq8-clause-o
 returns-else-digits-eq8-clause-of_16 c =
     filled_window c.args.s.now c.requires (λ i. (c.type_inv.s i).fits) _ _ _ _
     (ap (λ x. bit_xor x (repeated 48 8)) c.load_flipped-flipped.ensures ∙ flipped_back _ _)
-    c.leading_digits_flipped-digits.ensures.len refl c.number_in_word.ensures.sum
+    c.leading_digits_flipped-digits.ensures.len refl c.value_in_word.ensures.sum
 
 pub returns-else-digits-eq8-clause-of_8 : goal.returns-else-digits-eq8-clause-of_8
 returns-else-digits-eq8-clause-of_8 c = λ fewer. returns-else-digits-eq8-clause-of_16 c ∙ few_in_both c.args.s.now fewer

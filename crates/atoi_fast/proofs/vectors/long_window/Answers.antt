@@ -23,7 +23,7 @@ returns c =
     let number : c.if-len-le8.number ≡ value decimal_table (take len s) =
     elim c.if-len-le8.branch [
       | then-len-le8 w ↦
-          w.number-is ∙ w.number_in_word-number.ensures.sum
+          w.number-is ∙ w.value_in_word-number.ensures.sum
           ∙ loaded_part 8 s (λ i. (c.type_inv.s i).fits) _ w.load_full.ensures len
           (omega (arith, shown, w.if-len-le8, few_counted s (λ i. (c.type_inv.s i).fits) _ w.load_full.ensures))
       | else-len-le8 w ↦

@@ -116,7 +116,7 @@ pub(crate) fn number_of_8_to_15(s: &[u8]) -> Option<u64>
         return None;
     }
     let digit_values = bytes - u8x16::splat(b'0');
-    Some(number_in_lanes(to_end(digit_values, s.len())))
+    Some(value_of_lanes(to_end(digit_values, s.len())))
 }
 
 /// Returns how many digits (48 to 57) the lanes begin with.
@@ -159,18 +159,18 @@ pub(crate) fn sum_lanes(v: u8x16, len: u32) -> u64
 {
     let digit_values = v - u8x16::splat(b'0');
     // No branch on the length: if lengths vary, it is mispredicted.
-    number_in_lanes(shuffle(digit_values, len as usize))
+    value_of_lanes(shuffle(digit_values, len as usize))
 }
 
 /// Returns the number that the last `len` of sixteen digits spell.
 #[inline(always)]
-pub(crate) fn sum_last_lanes(v: u8x16, len: usize) -> u64
+pub(crate) fn value_of_last_lanes(v: u8x16, len: usize) -> u64
     // requires within { len ≤ 16 }
     // requires digits { run_len decimal_table v ≡ 16 }
     // ensures { result ≡ value decimal_table (drop (16 - len) v) }
 {
     let digit_values = v - u8x16::splat(b'0');
-    number_in_lanes(digit_values & u8x16::from_slice(&LAST_LANES[len..]))
+    value_of_lanes(digit_values & u8x16::from_slice(&LAST_LANES[len..]))
 }
 
 // Returns 16 of 48 lanes, from lane `p` on: 16 lanes of 0, the lanes of `v`, and 16 lanes of 0.
@@ -196,20 +196,20 @@ pub(crate) fn window_below_8(s: &[u8]) -> Window
     let digits = leading_digits_flipped(flipped);
     if digits == 8 {
         // The number need not wait for its length.
-        return Window::not_full(s.len() as u32, number_in_half(half(flipped)));
+        return Window::not_full(s.len() as u32, value_of_half(half(flipped)));
     }
     let len = digits - (8 - s.len() as u32);
-    Window::not_full(len, value_in_half(flipped ^ ZEROS, digits))
+    Window::not_full(len, value_by_half(flipped ^ ZEROS, digits))
 }
 
 // `value_of` of the words, by half a vector: in a loop, fewer constants need registers.
-#[inline] fn value_in_half(word: u64, len: u32) -> u64
+#[inline] fn value_by_half(word: u64, len: u32) -> u64
     // requires some { 1 ≤ len }
     // requires few { len ≤ 8 }
     // requires digits { len ≤ run_len decimal_table (low_bytes 8 word) }
     // ensures { result ≡ low_value (low_bytes len word) }
 {
-    number_in_half(half(word.wrapping_sub(ZEROS) << (64 - 8 * len)))
+    value_of_half(half(word.wrapping_sub(ZEROS) << (64 - 8 * len)))
 }
 
 // Returns the bytes of a word in the first eight lanes, the lowest first. The others are 0.
@@ -220,7 +220,7 @@ pub(crate) fn window_below_8(s: &[u8]) -> Window
 }
 
 // #[tactic(auto, using(crate::proofs::lemmas::JoinedDigits::half_joined))]
-#[inline] pub(crate) fn number_in_half(digits: u8x16) -> u64
+#[inline] pub(crate) fn value_of_half(digits: u8x16) -> u64
     // requires { Each1 (λ digit. digit < 16) digits }
     // ensures { result ≡ value itself (take 8 digits) }
 {
@@ -230,7 +230,7 @@ pub(crate) fn window_below_8(s: &[u8]) -> Window
 }
 
 // #[tactic(auto, using(crate::proofs::lemmas::JoinedDigits::lanes_joined))]
-#[inline] pub(crate) fn number_in_lanes(digits: u8x16) -> u64
+#[inline] pub(crate) fn value_of_lanes(digits: u8x16) -> u64
     // requires { Each1 (λ digit. digit < 16) digits }
     // ensures { result ≡ value itself digits }
 {

@@ -8,7 +8,7 @@
 
 use crate::proved::atoi_fast::after_16::starts_with_digit;
 use crate::proved::atoi_fast::swar::answer_after_32;
-use crate::proved::atoi_fast::vectors::bytes::{load_lanes, others, sum_lanes, sum_last_lanes};
+use crate::proved::atoi_fast::vectors::bytes::{load_lanes, others, sum_lanes, value_of_last_lanes};
 use crate::proved::atoi_fast::vectors::read_window;
 use crate::proved::atoi_fast::vectors::window_32::{Window32, window_32};
 use crate::proved::atoi_core::powers::append_digits;
@@ -66,7 +66,7 @@ fn number_after_16(s: &[u8]) -> Option<u64>
         return None;
     }
     // The first of these lanes are among the first 16, too.
-    Some(sum_last_lanes(last, more))
+    Some(value_of_last_lanes(last, more))
 }
 
 // `prefix_64` of `Vectors` with `skip`.

@@ -20,10 +20,10 @@ digits c =
     (ends_run c.args.s.now c.requires.enough c.requires.few).0
     (sym (ap (run_len decimal_table) c.ends-bytes.ensures) ∙ c.others.ensures.none c.if-others-ne0.false)
 
-pub number_in_lanes-requires : goal.number_in_lanes-requires
-number_in_lanes-requires c = (values_of_8_to_15 _ c.requires.enough c.requires.few (digits c) _ _ c.ends-bytes.ensures c.to_end.ensures).1
+pub value_of_lanes-requires : goal.value_of_lanes-requires
+value_of_lanes-requires c = (values_of_8_to_15 _ c.requires.enough c.requires.few (digits c) _ _ c.ends-bytes.ensures c.to_end.ensures).1
 
 pub returns-clause-some : goal.returns-clause-some
 returns-clause-some c =
     let all = digits (goal.at.returns-clause-some c).After-to_end in
-    (all, c.number_in_lanes.ensures ∙ (values_of_8_to_15 _ c.requires.enough c.requires.few all _ _ c.ends-bytes.ensures c.to_end.ensures).0)
+    (all, c.value_of_lanes.ensures ∙ (values_of_8_to_15 _ c.requires.enough c.requires.few all _ _ c.ends-bytes.ensures c.to_end.ensures).0)

@@ -29,5 +29,5 @@ returns c =
         c.requires.full,
         prefix_len-le-length (is_digit decimal_table) c.args.s.now,
       ),
-      c.sum_last_lanes.ensures ∙ ap (value decimal_table) shown.1,
+      c.value_of_last_lanes.ensures ∙ ap (value decimal_table) shown.1,
     )
