@@ -14,7 +14,7 @@ use crate::proved::atoi_fast::after_16::answer_after_16;
 use crate::proved::atoi_fast::digits::value_in_word;
 use crate::proved::atoi_fast::loads::load_full;
 use crate::proved::atoi_fast::vectors::bytes::{
-    load_lanes, number_of_8_to_15, others, sum_lanes, window_below_8, zeroes_lanes,
+    load_lanes, non_digits, number_of_8_to_15, sum_lanes, window_below_8, zeroes_lanes,
 };
 use crate::proved::atoi_fast::vectors::wide::{answer_128_after_16, prefix_64_after_zeros, prefix_128_after_zeros};
 use crate::proved::atoi_core::wide_answer::found_or_empty;
@@ -55,9 +55,9 @@ impl Engine for Vectors {
         // In this order, LLVM puts no jump before long slices.
         if s.len() >= 16 {
             let first = load_lanes(s);
-            let others = others(first);
-            if others != 0 {
-                let len = others.trailing_zeros();
+            let mask = non_digits(first);
+            if mask != 0 {
+                let len = mask.trailing_zeros();
                 return found_or_empty(sum_lanes(first, len), len as usize);
             }
             if skip && s[0] == b'0' {
@@ -79,9 +79,9 @@ impl Engine for Vectors {
         steps.tick();
         if s.len() >= 16 {
             let first = load_lanes(s);
-            let others = others(first);
-            if others != 0 {
-                let len = others.trailing_zeros();
+            let mask = non_digits(first);
+            if mask != 0 {
+                let len = mask.trailing_zeros();
                 return found_or_empty(u128::from(sum_lanes(first, len)), len as usize);
             }
             if skip && s[0] == b'0' {
@@ -104,11 +104,11 @@ fn long_window(s: &[u8]) -> Window
     // ensures { result ≡ window_of decimal_table 16 s.now }
 {
     let lanes = load_lanes(s);
-    let others = others(lanes);
-    if others == 0 {
+    let mask = non_digits(lanes);
+    if mask == 0 {
         return lane_window(lanes, 16);
     }
-    let len = others.trailing_zeros();
+    let len = mask.trailing_zeros();
     let number = if len <= 8 {
         value_in_word(load_full(s), len)
     } else {
@@ -156,8 +156,8 @@ fn read_lanes(s: &[u8]) -> Window
 #[inline] fn lane_window(lanes: u8x16, size: u32) -> Window
     // ensures { result ≡ lane_window size lanes }
 {
-    let others = others(lanes);
-    if others == 0 {
+    let mask = non_digits(lanes);
+    if mask == 0 {
         // Sixteen digits need no shuffle.
         return Window {
             len: 16,
@@ -165,7 +165,7 @@ fn read_lanes(s: &[u8]) -> Window
             number: sum_lanes(lanes, 16),
         };
     }
-    let len = others.trailing_zeros();
+    let len = mask.trailing_zeros();
     let zeroes = if size < 16 && len == size {
         zeroes_lanes(lanes)
     } else {

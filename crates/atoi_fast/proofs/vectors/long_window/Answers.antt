@@ -16,9 +16,9 @@ pub returns : goal.returns
 returns c =
     let s = c.args.s.now in
     let lanes = c.load_lanes-lanes.ensures in
-    let len = trailing_zeros w16 c.others-others.result in
-    let shown = c.others-others.ensures.some (omega arith) ∙ ap (run_len decimal_table) lanes in
-    let few : len < 16 = omega (arith, c.others-others.ensures.some (omega arith), c.others-others.ensures.fewer (omega arith)) in
+    let len = trailing_zeros w16 c.non_digits-mask.result in
+    let shown = c.non_digits-mask.ensures.some (omega arith) ∙ ap (run_len decimal_table) lanes in
+    let few : len < 16 = omega (arith, c.non_digits-mask.ensures.some (omega arith), c.non_digits-mask.ensures.fewer (omega arith)) in
     let run : len ≡ run_len decimal_table s = omega (arith, shown, few, digits_shown 16 s, prefix_len-take (is_digit decimal_table) 16 s) in
     let number : c.if-len-le8.number ≡ value decimal_table (take len s) =
     elim c.if-len-le8.branch [

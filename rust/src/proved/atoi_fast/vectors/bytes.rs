@@ -112,7 +112,7 @@ pub(crate) fn number_of_8_to_15(s: &[u8]) -> Option<u64>
     // ensures none { result ≡ None → run_len decimal_table s.now < length s.now }
 {
     let bytes = ends(s);
-    if others(bytes) != 0 {
+    if non_digits(bytes) != 0 {
         return None;
     }
     let digit_values = bytes - u8x16::splat(b'0');
@@ -124,12 +124,12 @@ pub(crate) fn number_of_8_to_15(s: &[u8]) -> Option<u64>
     // ensures len { result ≡ run_len decimal_table v }
     // ensures most { result ≤ 16 }
 {
-    others(v).trailing_zeros()
+    non_digits(v).trailing_zeros()
 }
 
 // Returns one bit for each lane, the lowest for the first: 1 if the lane is no digit.
 #[inline(always)]
-pub(crate) fn others(v: u8x16) -> u16
+pub(crate) fn non_digits(v: u8x16) -> u16
     // ensures mask { result ≡ mask_l (map (λ byte. not (is_digit decimal_table byte)) v) }
     // ensures none { result ≡ 0 → run_len decimal_table v ≡ 16 }
     // ensures some { 0 < result → trailing_zeros w16 result ≡ run_len decimal_table v }

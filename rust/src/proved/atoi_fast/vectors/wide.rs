@@ -8,7 +8,7 @@
 
 use crate::proved::atoi_fast::after_16::starts_with_digit;
 use crate::proved::atoi_fast::swar::answer_after_32;
-use crate::proved::atoi_fast::vectors::bytes::{load_lanes, others, sum_lanes, value_of_last_lanes};
+use crate::proved::atoi_fast::vectors::bytes::{load_lanes, non_digits, sum_lanes, value_of_last_lanes};
 use crate::proved::atoi_fast::vectors::read_window;
 use crate::proved::atoi_fast::vectors::window_32::{Window32, window_32};
 use crate::proved::atoi_core::powers::append_digits;
@@ -62,7 +62,7 @@ fn number_after_16(s: &[u8]) -> Option<u64>
 {
     let more = s.len() - 16;
     let last = load_lanes(&s[more..]);
-    if others(last) != 0 {
+    if non_digits(last) != 0 {
         return None;
     }
     // The first of these lanes are among the first 16, too.

@@ -10,34 +10,34 @@ use Rattle.atoi_fast.proofs.lemmas.VectorAnswers.{ended_in_16, first_decides, on
 use Rattle.atoi_fast.proofs.vectors.VectorsEngine.prefix_64.Goals as goal
 use Rattle.atoi_fast.proofs.vectors.VectorsEngine.prefix_64.Goals.{else-skip-via-then-skip+else-s-eq48, else-skip-via-else-skip}
 
-pub returns-then-others-ne0-clause-answer : goal.returns-then-others-ne0-clause-answer
-returns-then-others-ne0-clause-answer c =
-    let others = c.others-others.ensures in
-    let some : 0 < c.others-others.result = omega (arith, c.if-others-ne0.true) in
+pub returns-then-mask-ne0-clause-answer : goal.returns-then-mask-ne0-clause-answer
+returns-then-mask-ne0-clause-answer c =
+    let mask = c.non_digits-mask.ensures in
+    let some : 0 < c.non_digits-mask.result = omega (arith, c.if-mask-ne0.true) in
     let first = reading_of_lanes c.args.s.now c.load_lanes-first.result _ _
-    c.load_lanes-first.ensures (others.some some) c.sum_lanes.ensures in
+    c.load_lanes-first.ensures (mask.some some) c.sum_lanes.ensures in
     c.found_or_empty.ensures
     ∙ ended_in_16 wide64 c.args.bound c.args.limit (omega (arith, c.requires.bound.high))
     (omega (arith, c.requires.bound.low)) c.requires.bound.digits c.args.skip first
-    (omega (arith, others.some some, others.fewer some))
+    (omega (arith, mask.some some, mask.fewer some))
 
-pub returns-then-others-ne0-clause-loads : goal.returns-then-others-ne0-clause-loads
-returns-then-others-ne0-clause-loads c =
-    let others = c.others-others.ensures in
-    let some : 0 < c.others-others.result = omega (arith, c.if-others-ne0.true) in
+pub returns-then-mask-ne0-clause-loads : goal.returns-then-mask-ne0-clause-loads
+returns-then-mask-ne0-clause-loads c =
+    let mask = c.non_digits-mask.ensures in
+    let some : 0 < c.non_digits-mask.result = omega (arith, c.if-mask-ne0.true) in
     let first = reading_of_lanes c.args.s.now c.load_lanes-first.result _ _
-    c.load_lanes-first.ensures (others.some some) c.sum_lanes.ensures in
-    one_load first (omega (arith, others.some some, others.fewer some)) c.tick.ensures (omega arith)
+    c.load_lanes-first.ensures (mask.some some) c.sum_lanes.ensures in
+    one_load first (omega (arith, mask.some some, mask.fewer some)) c.tick.ensures (omega arith)
 
 pub answer_after_16-requires-clause-full : goal.answer_after_16-requires-clause-full
 answer_after_16-requires-clause-full c =
     (full_lanes c.args.s.now _ c.load_lanes-first.ensures
-    (c.others-others.ensures.none c.if-others-ne0.false) c.sum_lanes-then-s-ge16.ensures).0
+    (c.non_digits-mask.ensures.none c.if-mask-ne0.false) c.sum_lanes-then-s-ge16.ensures).0
 
 pub answer_after_16-requires-clause-number : goal.answer_after_16-requires-clause-number
 answer_after_16-requires-clause-number c =
     (full_lanes c.args.s.now _ c.load_lanes-first.ensures
-    (c.others-others.ensures.none c.if-others-ne0.false) c.sum_lanes-then-s-ge16.ensures).1
+    (c.non_digits-mask.ensures.none c.if-mask-ne0.false) c.sum_lanes-then-s-ge16.ensures).1
 
 pub returns-then-s-ge16-clause-answer : goal.returns-then-s-ge16-clause-answer
 returns-then-s-ge16-clause-answer c =

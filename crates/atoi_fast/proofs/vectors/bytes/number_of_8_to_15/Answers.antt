@@ -7,18 +7,18 @@ use Rattle.atoi_fast.proofs.lemmas.Ends.{ends_run, values_of_8_to_15}
 use Rattle.atoi_fast.proofs.vectors.bytes.number_of_8_to_15.Goals as goal
 use Rattle.atoi_fast.proofs.vectors.bytes.number_of_8_to_15.Goals.{After-to_end}
 
-pub returns-then-others-ne0-clause-none : goal.returns-then-others-ne0-clause-none
-returns-then-others-ne0-clause-none c = λ _.
+pub returns-then-non_digits-ne0-clause-none : goal.returns-then-non_digits-ne0-clause-none
+returns-then-non_digits-ne0-clause-none c = λ _.
     let s = c.args.s.now in
     let lanes = ap (run_len decimal_table) c.ends-bytes.ensures in
     let all = (ends_run s c.requires.enough c.requires.few).1 in
-    grind (arith, all, lanes, c.others.ensures.fewer (omega arith), prefix_len-le-length (is_digit decimal_table) s)
+    grind (arith, all, lanes, c.non_digits.ensures.fewer (omega arith), prefix_len-le-length (is_digit decimal_table) s)
 
 -- All bytes are digits.
 digits : (c : After-to_end) → run_len decimal_table c.args.s.now ≡ length c.args.s.now
 digits c =
     (ends_run c.args.s.now c.requires.enough c.requires.few).0
-    (sym (ap (run_len decimal_table) c.ends-bytes.ensures) ∙ c.others.ensures.none c.if-others-ne0.false)
+    (sym (ap (run_len decimal_table) c.ends-bytes.ensures) ∙ c.non_digits.ensures.none c.if-non_digits-ne0.false)
 
 pub value_of_lanes-requires : goal.value_of_lanes-requires
 value_of_lanes-requires c = (values_of_8_to_15 _ c.requires.enough c.requires.few (digits c) _ _ c.ends-bytes.ensures c.to_end.ensures).1

@@ -8,13 +8,13 @@ use Rattle.atoi_fast.proofs.vectors.wide.number_after_16.Goals as goal
 pub overflow_sub-more : goal.overflow_sub-more
 overflow_sub-more c = omega (arith, c.requires.full, prefix_len-le-length (is_digit decimal_table) c.args.s.now)
 
-pub returns-then-others-ne0 : goal.returns-then-others-ne0
-returns-then-others-ne0 c =
+pub returns-then-non_digits-ne0 : goal.returns-then-non_digits-ne0
+returns-then-non_digits-ne0 c =
     let shown = last_shown c.args.s.now _ c.requires.full c.requires.few c.load_lanes-last.ensures in
     omega (
       arith,
       shown.0,
-      c.others.ensures.fewer (omega (arith, c.if-others-ne0.true)),
+      c.non_digits.ensures.fewer (omega (arith, c.if-non_digits-ne0.true)),
       c.requires.full,
       prefix_len-le-length (is_digit decimal_table) c.args.s.now,
     )
@@ -25,7 +25,7 @@ returns c =
       omega (
         arith,
         shown.0,
-        c.others.ensures.none c.if-others-ne0.false,
+        c.non_digits.ensures.none c.if-non_digits-ne0.false,
         c.requires.full,
         prefix_len-le-length (is_digit decimal_table) c.args.s.now,
       ),

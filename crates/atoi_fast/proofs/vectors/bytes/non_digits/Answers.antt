@@ -5,7 +5,7 @@ use Rattle.std.proofs.lemmas.Nat.Bits.{bit_at-trailing_zeros}
 use Rattle.atoi_core.specs.Digit.{decimal_table, is_digit}
 use Rattle.atoi_core.proofs.lemmas.LaneMasks.{mask-of_lanes}
 use Rattle.atoi_fast.proofs.lemmas.Masks.{run-of_others}
-use Rattle.atoi_fast.proofs.vectors.bytes.others.Goals as goal
+use Rattle.atoi_fast.proofs.vectors.bytes.non_digits.Goals as goal
 
 -- A lane of a comparison: all bits set if `a` is at most `b`, otherwise 0.
 abbrev mask : (ℕ → ℕ → ℕ)
