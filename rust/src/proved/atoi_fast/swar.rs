@@ -114,9 +114,9 @@ impl Engine for Swar {
 }
 
 // `Swar` with the provided parsers: with `Swar` itself, the checker would see a cycle.
-struct Windows;
+struct SwarWithoutParsers;
 
-impl Engine for Windows {
+impl Engine for SwarWithoutParsers {
     // ghost table = { decimal_table };
 
     #[inline(always)]
@@ -148,7 +148,7 @@ fn prefix_64_after_zeros<'a>(
     // ensures loads { LoadsWithin (most_loads decimal_table wide64 s.now - 2) decimal_table true
     //     s.now steps.old steps.new }
 {
-    let (at, first) = window_after_zeros::<Windows>(zeroes, s, steps);
+    let (at, first) = window_after_zeros::<SwarWithoutParsers>(zeroes, s, steps);
     if first.len < 16 {
         return Ok((first.number, at + first.len as usize));
     }
@@ -172,7 +172,7 @@ fn prefix_128_after_zeros<'a>(
     // ensures loads { LoadsWithin (most_loads decimal_table wide128 s.now - 2) decimal_table true
     //     s.now steps.old steps.new }
 {
-    let (at, first) = window_after_zeros::<Windows>(zeroes, s, steps);
+    let (at, first) = window_after_zeros::<SwarWithoutParsers>(zeroes, s, steps);
     if first.len < 16 {
         return Ok((u128::from(first.number), at + first.len as usize));
     }
