@@ -242,7 +242,7 @@ fn accepted_field<T: Parse>(
     fields_are_prefixes::<T>();
     accepted_texts::<T>();
     prefix_begins::<T>();
-    if guess.are_short {
+    if guess.mostly_one_digit {
         if let Some((value, following)) = short_field::<T>(rest, separator) {
             return Some((value, following));
         }

@@ -7,7 +7,7 @@ ghost use Rattle.atoi_column.specs.Reads.{BeginsWithNoNumber, FillsMore, after_f
 
 use crate::fields::{Fields, accepted_field, read_field};
 use crate::guesses::{
-    Guess, NO_GUESS, end_of, guess_after, is_short, number_of_digits, number_with_end,
+    Guess, NO_GUESS, end_of, fits_word, guess_after, number_of_digits, number_with_end,
 };
 use crate::laws::fields_are_prefixes;
 use crate::words::starts_with;
@@ -23,7 +23,7 @@ const LONG_PART: usize = 1024;
 const SHORT_TEXT: usize = 64;
 
 const LONG: Guess = Guess {
-    are_short: false,
+    mostly_one_digit: false,
     ..NO_GUESS
 };
 
@@ -101,7 +101,7 @@ impl<'a, T: Parse> Fields<'a, T> {
         ensures stops { result < most → BeginsWithNoNumber (field_items_left T.int_type self.new) }
     {
         // The compiler makes a loop for each case.
-        if guess.are_short {
+        if guess.mostly_one_digit {
             self.read_part::<false>(values, from, most, NO_GUESS)
         } else if T::SIGNED && guess.have_minus {
             self.read_part::<false>(values, from, most, WITH_MINUS)
@@ -127,7 +127,7 @@ impl<'a, T: Parse> Fields<'a, T> {
         // The compiler makes a loop for each case.
         match guess.width {
             0..=1 => 0,
-            _ if is_short(guess) => self.read_part::<true>(values, from, room, guess),
+            _ if fits_word(guess) => self.read_part::<true>(values, from, room, guess),
             2..=16 if guess.has_return => self.read_part::<true>(values, from, room, guess),
             2..=8 => self.read_part::<true>(values, from, room, plain),
             9..=16 => self.read_part::<true>(values, from, room, plain),
@@ -236,7 +236,7 @@ fn guessed_field<T: Parse>(
     accepted_texts::<T>();
     prefix_is_whole::<T>();
     let (ends, tail) = end_of(separator, trims, guess.has_return);
-    if is_short(guess) {
+    if fits_word(guess) {
         let (value, count) = number_with_end::<T>(rest, guess.width, ends, tail)?;
         return Some((value, &rest[count + tail..]));
     }

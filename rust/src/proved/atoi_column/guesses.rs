@@ -17,7 +17,7 @@ pub(crate) struct Guess {
     /// Whether a carriage return follows each.
     pub has_return: bool,
     /// Whether most have one digit.
-    pub are_short: bool,
+    pub mostly_one_digit: bool,
     /// Whether some have a minus.
     pub have_minus: bool,
 }
@@ -26,7 +26,7 @@ pub(crate) struct Guess {
 pub(crate) const NO_GUESS: Guess = Guess {
     width: 0,
     has_return: false,
-    are_short: true,
+    mostly_one_digit: true,
     have_minus: false,
 };
 
@@ -47,14 +47,14 @@ pub(crate) fn guess_after<T: Parse>(numbers: &[T], used: usize, rest: &[u8], tri
     Guess {
         width,
         has_return,
-        are_short: used / 11 < count / 4,
+        mostly_one_digit: used / 11 < count / 4,
         have_minus: minuses > count / 8,
     }
 }
 
 /// Whether a word has room for the digits and what ends the field.
 #[inline(always)]
-pub(crate) fn is_short(guess: Guess) -> bool
+pub(crate) fn fits_word(guess: Guess) -> bool
     // ensures { result ≡ true → guess.width + (if guess.has_return then 2 else 1) ≤ 8 }
 {
     guess.width < 8 - usize::from(guess.has_return)

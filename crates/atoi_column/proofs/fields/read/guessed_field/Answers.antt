@@ -5,8 +5,8 @@ use Rattle.std.proofs.lemmas.List.{take_rest}
 use Rattle.atoi_column.proofs.lemmas.FoundFields.{accepted_text}
 use Rattle.atoi_column.proofs.fields.read.guessed_field.Goals as goal
 
-pub returns-then-is_short-clause-accepted : goal.returns-then-is_short-clause-accepted
-returns-then-is_short-clause-accepted g c = λ separates.
+pub returns-then-fits_word-clause-accepted : goal.returns-then-fits_word-clause-accepted
+returns-then-fits_word-clause-accepted g c = λ separates.
     let rest = c.args.rest.now in
     let tail = c.end_of-ends.result.1 in
     let found = c.in_ok-value.ensures in
