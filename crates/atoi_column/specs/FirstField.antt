@@ -30,7 +30,7 @@ pub record IsAcceptedField (int : IntType) (trims : Bool) (separator : ℕ) (res
   pub after : following ≡ after_first (λ byte. byte == separator) rest
 
 -- The first byte of `rest` writes `number`, and is its prefix that does. Then comes the separator.
-pub record IsShortField (int : IntType) (separator : ℕ) (rest : List ℕ) (number : ℤ) (following : List ℕ) : Type 0 where
+pub record IsOneDigitField (int : IntType) (separator : ℕ) (rest : List ℕ) (number : ℤ) (following : List ℕ) : Type 0 where
   pub prefix : parse_prefix_answer int true true rest ≡ Ok (number, 1)
   pub written : TextWrites int true (take 1 rest) number
   pub ends : drop 1 rest ≡ separator ∷ following

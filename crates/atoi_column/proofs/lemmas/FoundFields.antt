@@ -214,11 +214,11 @@ accepted_text trims separator rest count tail law whole texts separates end fits
     }) _ refl (following ∙ ap (λ bytes. Some bytes) (drop-drop tail count rest))
 
 -- A number of one byte before a separator is the number at the start.
-pub short_prefix : {int : IntType} {separator : ℕ} (rest : List ℕ) {following : List ℕ} {number : ℤ}
+pub one_digit_prefix : {int : IntType} {separator : ℕ} (rest : List ℕ) {following : List ℕ} {number : ℤ}
     → FieldsArePrefixes int → PrefixIsWhole int → AcceptedTexts int
     → is_separator separator ≡ true → TextWrites int true (take 1 rest) number → drop 1 rest ≡ separator ∷ following
     → parse_prefix_answer int true true rest ≡ Ok (number, 1)
-short_prefix {int} {separator} rest {following} {number} law whole texts separates written cut =
+one_digit_prefix {int} {separator} rest {following} {number} law whole texts separates written cut =
     let ends : ℕ → Bool = λ byte. byte == separator in
     let first = drop_first 1 rest separator following cut in
     let answer : parse_answer int true true (take 1 rest) ≡ Ok number = texts.number (take 1 rest) number written in

@@ -8,7 +8,7 @@
 // ghost use Rattle.atoi_core.specs.Text.{PrefixWrites, TextWrites};
 // ghost use Rattle.atoi_column.specs.Fields.{is_separator};
 // ghost use Rattle.atoi_column.specs.FieldItems.{cut_of, field_item, field_item_of, fields_in, lines_in, field_items, field_items_left, after_first_field, line_items, GivesFirstField};
-// ghost use Rattle.atoi_column.specs.FirstField.{after_field, first_text, IsAcceptedField, IsShortField};
+// ghost use Rattle.atoi_column.specs.FirstField.{after_field, first_text, IsAcceptedField, IsOneDigitField};
 
 mod read;
 
@@ -243,7 +243,7 @@ fn accepted_field<T: Parse>(
     accepted_texts::<T>();
     prefix_begins::<T>();
     if guess.mostly_one_digit {
-        if let Some((value, following)) = short_field::<T>(rest, separator) {
+        if let Some((value, following)) = one_digit_field::<T>(rest, separator) {
             return Some((value, following));
         }
     }
@@ -270,8 +270,8 @@ fn first_number<T: Parse>(rest: &[u8], have_minus: bool) -> Result<(T, usize), A
 
 // Returns the number of a first field of one byte, and what follows its separator.
 #[inline(always)]
-fn short_field<T: Parse>(rest: &[u8], separator: u8) -> Option<(T, &[u8])>
-    // ensures { is_separator separator ≡ true → IfSome result (λ found. IsShortField T.int_type separator
+fn one_digit_field<T: Parse>(rest: &[u8], separator: u8) -> Option<(T, &[u8])>
+    // ensures { is_separator separator ≡ true → IfSome result (λ found. IsOneDigitField T.int_type separator
     //     rest.now (T.number found.0) found.1.now) }
 {
     fields_are_prefixes::<T>();

@@ -2,8 +2,8 @@
 use Rattle.std.proofs.Common.{◌≡◌, ◌∷◌, drop, refl, sym, ◌∙◌, arith}
 use Rattle.std.proofs.lemmas.Result.{IfOk-at_ok}
 use Rattle.std.proofs.lemmas.List.{drop_more, take_rest}
-use Rattle.atoi_column.proofs.lemmas.FoundFields.{ok_is, short_prefix, text_with_plus}
-use Rattle.atoi_column.proofs.fields.short_field.Goals as goal
+use Rattle.atoi_column.proofs.lemmas.FoundFields.{ok_is, one_digit_prefix, text_with_plus}
+use Rattle.atoi_column.proofs.fields.one_digit_field.Goals as goal
 
 pub returns-in_ok-value-in-len2-up : goal.returns-in_ok-value-in-len2-up
 returns-in_ok-value-in-len2-up g c = λ separates.
@@ -13,7 +13,7 @@ returns-in_ok-value-in-len2-up g c = λ separates.
     let parsed = ok_is c.parse.result (sym c.ok.ensures.value ∙ c.in_ok-value-in-len2-up.was) in
     let written = text_with_plus (IfOk-at_ok _ parsed c.parse.ensures.number) in
     record {
-      prefix = short_prefix rest c.fields_are_prefixes.ensures c.prefix_is_whole.ensures c.accepted_texts.ensures separates written ends;
+      prefix = one_digit_prefix rest c.fields_are_prefixes.ensures c.prefix_is_whole.ensures c.accepted_texts.ensures separates written ends;
       written = written;
       ends = rw (take_rest rest 2) ends;
     }
