@@ -77,26 +77,29 @@ pub(crate) fn end_of(separator: u8, trims: bool, has_return: bool) -> (u64, usiz
     }
 }
 
-/// `number_of_digits`, if the `tail` bytes after the number are those of `ends`.
+/// `number_of_digits`, if the `end_len` bytes after the number are those of `end_word`.
 #[inline(always)]
 pub(crate) fn number_with_end<T: Parse>(
     rest: &[u8],
     width: usize,
-    ends: u64,
-    tail: usize,
+    end_word: u64,
+    end_len: usize,
 ) -> Option<(T, usize)>
-    requires few { width + tail ≤ 8 }
-    requires fits { ends < 2 ^ (tail * 8) }
-    ensures within { IfSome result (λ found. found.1 + tail ≤ length rest.now) }
+    requires few { width + end_len ≤ 8 }
+    requires fits { end_word < 2 ^ (end_len * 8) }
+    ensures within { IfSome result (λ found. found.1 + end_len ≤ length rest.now) }
     ensures written { IfSome result (λ found. TextWrites T.int_type true (take found.1 rest.now)
         (T.number found.0)) }
-    ensures ends { IfSome result (λ found. word_of (take tail (drop found.1 rest.now)) ≡ ends) }
+    ensures ends { IfSome result (λ found. word_of (take end_len (drop found.1 rest.now)) ≡ end_word) }
 {
     if width == 0 || rest.len() <= 8 {
         return None;
     }
     let sign = sign_len::<T>(rest);
-    let value = signed::<T>(sign == 1, number_before(&rest[sign..], width, ends, tail)?)?;
+    let value = signed::<T>(
+        sign == 1,
+        number_before(&rest[sign..], width, end_word, end_len)?,
+    )?;
     Some((value, sign + width))
 }
 

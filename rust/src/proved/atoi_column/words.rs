@@ -28,25 +28,25 @@ pub(crate) fn number_of_width(s: &[u8], width: usize) -> Option<u64>
     Some(high * 100_000_000 + low)
 }
 
-/// `number_of_width` for at most eight bytes, if the `count` bytes after the number are those of `ends`.
+/// `number_of_width` for at most eight bytes, if the `end_len` bytes after the number are those of `end_word`.
 #[inline(always)]
-pub(crate) fn number_before(s: &[u8], width: usize, ends: u64, count: usize) -> Option<u64>
+pub(crate) fn number_before(s: &[u8], width: usize, end_word: u64, end_len: usize) -> Option<u64>
     // requires some { 0 < width }
-    // requires few { width + count ≤ 8 }
-    // requires fits { ends < 2 ^ (count * 8) }
+    // requires few { width + end_len ≤ 8 }
+    // requires fits { end_word < 2 ^ (end_len * 8) }
     // ensures run { IfSome result (λ number. width ≤ run_len decimal_table s.now) }
     // ensures value { IfSome result (λ number. number ≡ value decimal_table (take width s.now)) }
-    // ensures ends { IfSome result (λ number. word_of (take count (drop width s.now)) ≡ ends) }
+    // ensures ends { IfSome result (λ number. word_of (take end_len (drop width s.now)) ≡ end_word) }
     // ensures most { IfSome result (λ number. number ≤ 166666665) }
 {
     let word = first_word(s)?;
     let shift = 64 - 8 * width as u32;
     // In two steps, since no shift is by 64 bits.
-    let ends = (ends << (56 - shift)) << 8;
-    let others = (((1 << (8 * count as u32)) - 1) << (56 - shift)) << 8;
-    let digits = word.wrapping_sub(ends).wrapping_sub(ZEROS >> shift);
+    let end = (end_word << (56 - shift)) << 8;
+    let end_mask = (((1 << (8 * end_len as u32)) - 1) << (56 - shift)) << 8;
+    let digits = word.wrapping_sub(end).wrapping_sub(ZEROS >> shift);
     let above = digits.wrapping_add(0x7676_7676_7676_7676 >> shift) | digits;
-    if above & ((0x8080_8080_8080_8080 >> shift) | others) != 0 {
+    if above & ((0x8080_8080_8080_8080 >> shift) | end_mask) != 0 {
         return None;
     }
     Some(sum_of_shifted(digits, shift))

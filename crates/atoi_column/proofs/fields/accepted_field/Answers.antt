@@ -9,12 +9,12 @@ use Rattle.atoi_column.proofs.fields.accepted_field.Goals as goal
 
 pub returns-in-Some-clause-some : goal.returns-in-Some-clause-some
 returns-in-Some-clause-some g c = λ separates.
-    let short = c.in-Some.ensures separates in
+    let field = c.in-Some.ensures separates in
     let found = accepted c.args.trims (record {
-      within = (c.fields_are_prefixes.ensures c.args.separator separates c.args.rest.now).within _ _ short.prefix;
-      written = short.written;
+      within = (c.fields_are_prefixes.ensures c.args.separator separates c.args.rest.now).within _ _ field.prefix;
+      written = field.written;
       texts = c.accepted_texts.ensures;
-    }) {following = c.in-Some.following.now} _ short.ends (rw (eq-eqb c.args.separator _ refl) refl) in
+    }) {following = c.in-Some.following.now} _ field.ends (rw (eq-eqb c.args.separator _ refl) refl) in
     search rules
 
 pub returns-clause-some : goal.returns-clause-some

@@ -235,14 +235,14 @@ fn guessed_field<T: Parse>(
     fields_are_prefixes::<T>();
     accepted_texts::<T>();
     prefix_is_whole::<T>();
-    let (ends, tail) = end_of(separator, trims, guess.has_return);
+    let (end_word, end_len) = end_of(separator, trims, guess.has_return);
     if fits_word(guess) {
-        let (value, count) = number_with_end::<T>(rest, guess.width, ends, tail)?;
-        return Some((value, &rest[count + tail..]));
+        let (value, count) = number_with_end::<T>(rest, guess.width, end_word, end_len)?;
+        return Some((value, &rest[count + end_len..]));
     }
     let (value, count) = number_of_digits::<T>(rest, guess.width)?;
-    if !starts_with(&rest[count..], ends, tail) {
+    if !starts_with(&rest[count..], end_word, end_len) {
         return None;
     }
-    Some((value, &rest[count + tail..]))
+    Some((value, &rest[count + end_len..]))
 }
