@@ -43,13 +43,13 @@ items_of_parts cut answer index place (part ∷ next ∷ parts) =
     ∷ items_of_parts cut answer (index + 1) (place + length part + 1) (next ∷ parts)
 
 -- A field is its part. Of a line a carriage return at its end is left out.
-abbrev pub cut_of : (trims : Bool) → List ℕ → List ℕ
+abbrev pub cut_of : (is_lines : Bool) → List ℕ → List ℕ
 cut_of false part = part
 cut_of true part = strip_carriage_return part
 
 -- What `Fields` is still to read. The field `index` begins at offset `place`, where `rest` begins.
 pub record FieldsLeft : Type 0 where
-  pub trims : Bool
+  pub is_lines : Bool
   pub separator : ℕ
   pub index : ℕ
   pub place : ℕ
@@ -58,7 +58,7 @@ pub record FieldsLeft : Type 0 where
 -- The items still to be read.
 unfoldable pub field_items_left : IntType → FieldsLeft → List (Result ℤ BadField)
 field_items_left int left =
-    items_of_parts (cut_of left.trims) (parse_answer int true true) left.index left.place
+    items_of_parts (cut_of left.is_lines) (parse_answer int true true) left.index left.place
     (slice_split (λ byte. byte == left.separator) left.rest)
 
 -- After the first field.
@@ -79,11 +79,11 @@ GivesFirstField int number old result new =
 
 -- The fields of an input, before the first is read.
 abbrev pub fields_in : (separator : ℕ) → List ℕ → FieldsLeft
-fields_in separator input = record { trims = false; separator = separator; index = 0; place = 0; rest = input }
+fields_in separator input = record { is_lines = false; separator = separator; index = 0; place = 0; rest = input }
 
 -- Its lines.
 abbrev pub lines_in : List ℕ → FieldsLeft
-lines_in input = record { trims = true; separator = 10; index = 0; place = 0; rest = input }
+lines_in input = record { is_lines = true; separator = 10; index = 0; place = 0; rest = input }
 
 -- The items of the fields of an input.
 abbrev pub field_items : IntType → (separator : ℕ) → List ℕ → List (Result ℤ BadField)

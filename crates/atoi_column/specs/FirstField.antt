@@ -19,14 +19,14 @@ after_separator separator (byte ∷ bytes) = if byte == separator then Some byte
 
 -- What follows a field that ends before these bytes, if one does: none are left, or a separator
 -- comes first, of a line perhaps after a carriage return.
-abbrev pub after_field : (trims : Bool) (separator : ℕ) → List ℕ → Option (List ℕ)
-after_field trims separator [] = Some []
-after_field trims separator (byte ∷ bytes) =
-    if byte == separator then Some bytes else (if trims && byte == 13 then after_separator separator bytes else None)
+abbrev pub after_field : (is_lines : Bool) (separator : ℕ) → List ℕ → Option (List ℕ)
+after_field is_lines separator [] = Some []
+after_field is_lines separator (byte ∷ bytes) =
+    if byte == separator then Some bytes else (if is_lines && byte == 13 then after_separator separator bytes else None)
 
 -- `parse` returns `number` for the first field of `rest`, and `following` comes after the field.
-pub record IsAcceptedField (int : IntType) (trims : Bool) (separator : ℕ) (rest : List ℕ) (number : ℤ) (following : List ℕ) : Type 0 where
-  pub accepted : parse_answer int true true (first_text (cut_of trims) separator rest) ≡ Ok number
+pub record IsAcceptedField (int : IntType) (is_lines : Bool) (separator : ℕ) (rest : List ℕ) (number : ℤ) (following : List ℕ) : Type 0 where
+  pub accepted : parse_answer int true true (first_text (cut_of is_lines) separator rest) ≡ Ok number
   pub after : following ≡ after_first (λ byte. byte == separator) rest
 
 -- The first byte of `rest` writes `number`, and is its prefix that does. Then comes the separator.

@@ -39,7 +39,7 @@ pub struct Fields<'a, T: Parse> {
     rest: &'a [u8],
     separator: u8,
     // A carriage return before the separator is no part of the field.
-    trims: bool,
+    is_lines: bool,
     // The index of the first field of `rest`, and the length of the whole input.
     index: usize,
     end: usize,
@@ -55,7 +55,7 @@ impl<'a, T: Parse> Model for Fields<'a, T> {
     ghost use Rattle.atoi_column.specs.Position.{IsBeforeEnd};
 
     ghost view = { λ fields. record {
-      trims = fields.trims;
+      is_lines = fields.is_lines;
       separator = fields.separator;
       index = fields.index;
       place = fields.end - length fields.rest.now;
@@ -95,7 +95,7 @@ impl<'a, T: Parse> Fields<'a, T> {
         Fields {
             rest: input,
             separator,
-            trims: false,
+            is_lines: false,
             index: 0,
             end: input.len(),
             values: PhantomData,
@@ -125,7 +125,7 @@ impl<'a, T: Parse> Fields<'a, T> {
         Fields {
             rest: input,
             separator: b'\n',
-            trims: true,
+            is_lines: true,
             index: 0,
             end: input.len(),
             values: PhantomData,
@@ -196,14 +196,20 @@ impl<'a, T: Parse> Iterator for Fields<'a, T> {
             return None;
         }
         self.index = index + 1;
-        match accepted_field::<T>(rest, self.separator, self.trims, NO_GUESS) {
+        match accepted_field::<T>(rest, self.separator, self.is_lines, NO_GUESS) {
             Some((value, following)) => {
                 self.rest = following;
                 Some(Ok(value))
             }
             None => {
                 let place = self.end - rest.len();
-                let (item, following) = read_field(rest, self.separator, self.trims, index, place);
+                let (item, following) = read_field(
+                    rest,
+                    self.separator,
+                    self.is_lines,
+                    index,
+                    place,
+                );
                 self.rest = following;
                 Some(item)
             }
@@ -230,14 +236,14 @@ impl<'a, T: Parse> FusedIterator for Fields<'a, T> {}
 fn accepted_field<T: Parse>(
     rest: &[u8],
     separator: u8,
-    trims: bool,
+    is_lines: bool,
     guess: Guess,
 ) -> Option<(T, &[u8])>
     ensures some { is_separator separator ≡ true → IfSome result (λ found. IsAcceptedField T.int_type
-        trims separator rest.now (T.number found.0) found.1.now) }
+        is_lines separator rest.now (T.number found.0) found.1.now) }
     ensures none { IfNone result ((number : ℤ) (count : ℕ)
         → parse_prefix_answer T.int_type true false rest.now ≡ Ok (number, count)
-        → after_field trims separator (drop count rest.now) ≡ None) }
+        → after_field is_lines separator (drop count rest.now) ≡ None) }
 {
     fields_are_prefixes::<T>();
     accepted_texts::<T>();
@@ -248,7 +254,7 @@ fn accepted_field<T: Parse>(
         }
     }
     let (value, count) = first_number::<T>(rest, guess.have_minus).ok()?;
-    let following = after_field(&rest[count..], separator, trims)?;
+    let following = after_field(&rest[count..], separator, is_lines)?;
     Some((value, following))
 }
 
@@ -288,14 +294,14 @@ fn one_digit_field<T: Parse>(rest: &[u8], separator: u8) -> Option<(T, &[u8])>
 
 // Returns what follows a field that ends before `tail`, or `None` if no field does.
 #[inline(always)]
-fn after_field(tail: &[u8], separator: u8, trims: bool) -> Option<&[u8]>
+fn after_field(tail: &[u8], separator: u8, is_lines: bool) -> Option<&[u8]>
     ensures { option_map (λ following. following.now) result
-        ≡ after_field trims separator tail.now }
+        ≡ after_field is_lines separator tail.now }
 {
     match tail {
         [] => Some(tail),
         [byte, following @ ..] if *byte == separator => Some(following),
-        [b'\r', byte, following @ ..] if trims && *byte == separator => Some(following),
+        [b'\r', byte, following @ ..] if is_lines && *byte == separator => Some(following),
         _ => None,
     }
 }
@@ -307,17 +313,17 @@ fn after_field(tail: &[u8], separator: u8, trims: bool) -> Option<&[u8]>
 fn read_field<'a, T: Parse>(
     rest: &'a [u8],
     separator: u8,
-    trims: bool,
+    is_lines: bool,
     index: usize,
     place: usize,
 ) -> (Result<T, FieldError<'a>>, &'a [u8])
     requires separates { is_separator separator ≡ true }
     ensures item { field_item_of T.number result.0
-        ≡ field_item index place (first_text (cut_of trims) separator rest.now)
-        (parse_answer T.int_type true true (first_text (cut_of trims) separator rest.now)) }
+        ≡ field_item index place (first_text (cut_of is_lines) separator rest.now)
+        (parse_answer T.int_type true true (first_text (cut_of is_lines) separator rest.now)) }
     ensures following { result.1.now ≡ after_first (λ byte. byte == separator) rest.now }
 {
-    let (text, following) = first_field(rest, separator, trims);
+    let (text, following) = first_field(rest, separator, is_lines);
     match parse::<T, true, true>(text) {
         Ok(value) => (Ok(value), following),
         Err(cause) => {
@@ -333,14 +339,14 @@ fn read_field<'a, T: Parse>(
 }
 
 // Returns the text of the first field of `rest`, and what follows its separator.
-fn first_field(rest: &[u8], separator: u8, trims: bool) -> (&[u8], &[u8])
-    ensures text { result.0.now ≡ first_text (cut_of trims) separator rest.now }
+fn first_field(rest: &[u8], separator: u8, is_lines: bool) -> (&[u8], &[u8])
+    ensures text { result.0.now ≡ first_text (cut_of is_lines) separator rest.now }
     ensures following { result.1.now ≡ after_first (λ byte. byte == separator) rest.now }
 {
     let (field, tail) = rest.split_at(field_len(rest, separator));
     match tail.split_first() {
         None => (field, tail),
-        Some((_, following)) => (text_of(field, trims), following),
+        Some((_, following)) => (text_of(field, is_lines), following),
     }
 }
 
@@ -352,11 +358,11 @@ fn field_len(rest: &[u8], separator: u8) -> usize
 }
 
 // Returns the text of a field that a separator ends.
-fn text_of(field: &[u8], trims: bool) -> &[u8]
-    ensures { result.now ≡ cut_of trims field.now }
+fn text_of(field: &[u8], is_lines: bool) -> &[u8]
+    ensures { result.now ≡ cut_of is_lines field.now }
 {
     match field {
-        [text @ .., b'\r'] if trims => text,
+        [text @ .., b'\r'] if is_lines => text,
         _ => field,
     }
 }

@@ -33,13 +33,18 @@ pub(crate) const NO_GUESS: Guess = Guess {
 /// Guesses that the fields of `rest` look like those before, which have these numbers and `used` bytes.
 /// If a field has less than 2¾ bytes on average, most have one digit.
 #[inline(never)]
-pub(crate) fn guess_after<T: Parse>(numbers: &[T], used: usize, rest: &[u8], trims: bool) -> Guess {
+pub(crate) fn guess_after<T: Parse>(
+    numbers: &[T],
+    used: usize,
+    rest: &[u8],
+    is_lines: bool,
+) -> Guess {
     let count = numbers.len().max(1);
     let minuses = numbers.iter().filter(|number| number.parts().0).count();
     let digits_and_ends = used.saturating_sub(minuses);
     let each = digits_and_ends / count;
     let at = sign_len::<T>(rest).saturating_add(each.saturating_sub(2));
-    let has_return = trims && matches!(rest.split_at_checked(at), Some((_, [b'\r', ..])));
+    let has_return = is_lines && matches!(rest.split_at_checked(at), Some((_, [b'\r', ..])));
     let width = match digits_and_ends % count {
         0 => each.saturating_sub(1 + usize::from(has_return)),
         _ => 0,
@@ -62,15 +67,15 @@ pub(crate) fn fits_word(guess: Guess) -> bool
 
 /// Returns the word of the bytes that end a field, and how many they are.
 #[inline(always)]
-pub(crate) fn end_of(separator: u8, trims: bool, has_return: bool) -> (u64, usize)
+pub(crate) fn end_of(separator: u8, is_lines: bool, has_return: bool) -> (u64, usize)
     ensures some { 0 < result.1 }
     ensures few { result.1 ≤ (if has_return then 2 else 1) }
     ensures fits { result.0 < 2 ^ (result.1 * 8) }
     ensures ends { (bytes : List ℕ) → ((i : ℕ) → get_or bytes i 0 < 256) → result.1 ≤ length bytes
         → word_of (take result.1 bytes) ≡ result.0
-        → after_field trims separator bytes ≡ Some (drop result.1 bytes) }
+        → after_field is_lines separator bytes ≡ Some (drop result.1 bytes) }
 {
-    if has_return && trims && separator != b'\r' {
+    if has_return && is_lines && separator != b'\r' {
         (256 * u64::from(separator) + u64::from(b'\r'), 2)
     } else {
         (u64::from(separator), 1)

@@ -46,13 +46,13 @@ module _ (int : IntType) (left : FieldsLeft) where
   -- The first item, from the text of the first field.
   abbrev pub first_item : Result ℤ BadField
   first_item =
-      field_item left.index left.place (first_text (cut_of left.trims) left.separator left.rest)
-      (answer (first_text (cut_of left.trims) left.separator left.rest))
+      field_item left.index left.place (first_text (cut_of left.is_lines) left.separator left.rest)
+      (answer (first_text (cut_of left.is_lines) left.separator left.rest))
 
   abbrev items_after : List (Result ℤ BadField)
   items_after =
       let next = after_first_field left in
-      items_of_parts (cut_of left.trims) answer next.index next.place (slice_split ends next.rest)
+      items_of_parts (cut_of left.is_lines) answer next.index next.place (slice_split ends next.rest)
 
   pub field_items_left-empty : left.rest ≡ [] → field_items_left int left ≡ []
   unfolding field_items_left
@@ -78,11 +78,11 @@ module _ (int : IntType) (left : FieldsLeft) where
       let place : left.place + length (before_first ends rest) + 1 ≡ left.place + (length rest - length (after_first ends rest)) =
       omega (arith, length-prefix_len (λ byte. not (ends byte)) rest, length-drop (position_or_len ends rest + 1) rest) in
       rw (slice_split_first ends rest 0 found, ne_eqb _ _ apart)
-      (part_then (cut_of left.trims) answer left.index left.place (before_first ends rest)
+      (part_then (cut_of left.is_lines) answer left.index left.place (before_first ends rest)
       parts (omega (arith, length-slice_split ends (after_first ends rest)))
-      ∙ ap (λ p. field_item left.index left.place (cut_of left.trims (before_first ends rest))
-      (answer (cut_of left.trims (before_first ends rest)))
-      ∷ items_of_parts (cut_of left.trims) answer (left.index + 1) p parts) place)
+      ∙ ap (λ p. field_item left.index left.place (cut_of left.is_lines (before_first ends rest))
+      (answer (cut_of left.is_lines (before_first ends rest)))
+      ∷ items_of_parts (cut_of left.is_lines) answer (left.index + 1) p parts) place)
 
   -- The first item is the first field's, and the others are left.
   field_items_left-first : 0 < length left.rest → field_items_left int left ≡ first_item ∷ field_items_left int (after_first_field left)
@@ -98,7 +98,7 @@ module _ (int : IntType) (left : FieldsLeft) where
   length-field_items_left =
       omega (
         arith,
-        length-items_of_parts (cut_of left.trims) answer left.index left.place (slice_split ends left.rest),
+        length-items_of_parts (cut_of left.is_lines) answer left.index left.place (slice_split ends left.rest),
         length-fields_of left.separator left.rest,
       )
 
@@ -111,26 +111,26 @@ module _ (int : IntType) (left : FieldsLeft) where
       ]
 
 -- What is left of an input that ends at the offset `end`.
-abbrev pub left_before : (trims : Bool) (separator index end : ℕ) → List ℕ → FieldsLeft
-left_before trims separator index end rest =
-    record { trims = trims; separator = separator; index = index; place = end - length rest; rest = rest }
+abbrev pub left_before : (is_lines : Bool) (separator index end : ℕ) → List ℕ → FieldsLeft
+left_before is_lines separator index end rest =
+    record { is_lines = is_lines; separator = separator; index = index; place = end - length rest; rest = rest }
 
-left_before-moves : (trims : Bool) (separator index end : ℕ) (rest : List ℕ) → length rest ≤ end
-    → left_before trims separator (index + 1) end (after_first (λ byte. byte == separator) rest)
-    ≡ after_first_field (left_before trims separator index end rest)
-left_before-moves trims separator index end rest within =
+left_before-moves : (is_lines : Bool) (separator index end : ℕ) (rest : List ℕ) → length rest ≤ end
+    → left_before is_lines separator (index + 1) end (after_first (λ byte. byte == separator) rest)
+    ≡ after_first_field (left_before is_lines separator index end rest)
+left_before-moves is_lines separator index end rest within =
     let following = after_first (λ byte. byte == separator) rest in
     let place : end - length following ≡ end - length rest + (length rest - length following) =
     omega (arith, length-drop (position_or_len (λ byte. byte == separator) rest + 1) rest) in
     rw place refl
 
 -- A step with the item of the first field leaves the others.
-pub first_field_step : (int : IntType) {trims : Bool} {separator index end : ℕ}
+pub first_field_step : (int : IntType) {is_lines : Bool} {separator index end : ℕ}
     {rest following : List ℕ} {old : FieldsLeft} {item : Result ℤ BadField}
-    → left_before trims separator index end rest ≡ old → 0 < length rest → length rest ≤ end
-    → item ≡ first_item int (left_before trims separator index end rest) → following ≡ after_first (λ byte. byte == separator) rest
-    → (field_items_left int old ≡ item ∷ field_items_left int (left_before trims separator (index + 1) end following))
-    × (left_before trims separator (index + 1) end following ≡ after_first_field old)
-first_field_step int {trims} {separator} {index} {end} {rest} is some within first after =
-    let moved = left_before-moves trims separator index end rest within in
-    rw (← is, first, after, moved) (field_items_left-first int (left_before trims separator index end rest) some, refl)
+    → left_before is_lines separator index end rest ≡ old → 0 < length rest → length rest ≤ end
+    → item ≡ first_item int (left_before is_lines separator index end rest) → following ≡ after_first (λ byte. byte == separator) rest
+    → (field_items_left int old ≡ item ∷ field_items_left int (left_before is_lines separator (index + 1) end following))
+    × (left_before is_lines separator (index + 1) end following ≡ after_first_field old)
+first_field_step int {is_lines} {separator} {index} {end} {rest} is some within first after =
+    let moved = left_before-moves is_lines separator index end rest within in
+    rw (← is, first, after, moved) (field_items_left-first int (left_before is_lines separator index end rest) some, refl)

@@ -15,7 +15,7 @@ use Rattle.atoi_column.proofs.lemmas.FieldItems.{first_item, left_before, field_
 use Rattle.atoi_column.proofs.lemmas.Places.{place_after-cons}
 
 -- A part begins with its text.
-part_begins : (trims : Bool) (part : List ℕ) → (following : List ℕ) × (part ≡ cut_of trims part ++ following)
+part_begins : (is_lines : Bool) (part : List ℕ) → (following : List ℕ) × (part ≡ cut_of is_lines part ++ following)
 part_begins false part = ([], sym (append-nil part))
 part_begins true part =
     let last = length part - 1 in
@@ -35,29 +35,29 @@ no_error : (before after : List (Result ℤ BadField)) (bad : BadField) → [] �
 no_error [] after bad same = absurd (cc same)
 no_error (item ∷ before) after bad same = absurd (cc same)
 
-module _ (int : IntType) (trims : Bool) (separator : ℕ) (input : List ℕ) where
+module _ (int : IntType) (is_lines : Bool) (separator : ℕ) (input : List ℕ) where
   abbrev ends : ℕ → Bool
   ends byte = byte == separator
 
   abbrev left : (index : ℕ) → List ℕ → List (Result ℤ BadField)
-  left index rest = field_items_left int (left_before trims separator index (length input) rest)
+  left index rest = field_items_left int (left_before is_lines separator index (length input) rest)
 
   abbrev place_of : List ℕ → ℕ
   place_of rest = length input - length rest
 
   -- The bytes begin with the text of their first field.
-  text_begins : (rest : List ℕ) → (following : List ℕ) × (rest ≡ first_text (cut_of trims) separator rest ++ following)
+  text_begins : (rest : List ℕ) → (following : List ℕ) × (rest ≡ first_text (cut_of is_lines) separator rest ++ following)
   text_begins rest =
       let field = before_first ends rest in
       let tail = drop (position_or_len ends rest) rest in
-      let begins = part_begins trims field in
+      let begins = part_begins is_lines field in
       elim (position_or_len ends rest == length rest) as
-      (λ b. (following : List ℕ) × (rest ≡ (if b then rest else cut_of trims field) ++ following)) [
+      (λ b. (following : List ℕ) × (rest ≡ (if b then rest else cut_of is_lines field) ++ following)) [
         | true ↦ ([], sym (append-nil rest))
         | false ↦ (
           begins.0 ++ tail,
           sym (take-append-drop (position_or_len ends rest) rest)
-              ∙ (ap (λ bytes. bytes ++ tail) begins.1 ∙ append_assoc (cut_of trims field) begins.0 tail),
+              ∙ (ap (λ bytes. bytes ++ tail) begins.1 ∙ append_assoc (cut_of is_lines field) begins.0 tail),
         )
       ]
 
@@ -70,11 +70,11 @@ module _ (int : IntType) (trims : Bool) (separator : ℕ) (input : List ℕ) whe
 
   -- The first item: its place is the start of `rest`.
   placed_first : (bad : BadField) (index : ℕ) (rest : List ℕ) → drop (place_of rest) input ≡ rest
-      → field_item index (place_of rest) (first_text (cut_of trims) separator rest)
-      (parse_answer int true true (first_text (cut_of trims) separator rest)) ≡ Err bad
+      → field_item index (place_of rest) (first_text (cut_of is_lines) separator rest)
+      (parse_answer int true true (first_text (cut_of is_lines) separator rest)) ≡ Err bad
       → IsPlacedIn index rest [] bad
   placed_first bad index rest is same =
-      let item = field_item-err index (place_of rest) (first_text (cut_of trims) separator rest) _ bad same in
+      let item = field_item-err index (place_of rest) (first_text (cut_of is_lines) separator rest) _ bad same in
       let begins = text_begins rest in
       record {
         index_is = omega (arith, item.0);
@@ -109,16 +109,16 @@ module _ (int : IntType) (trims : Bool) (separator : ℕ) (input : List ℕ) whe
       elim (leb_tells (length rest) 0) [
         | inl none ↦
             let nothing : rest ≡ [] = nil_from_length rest (omega (arith, none.1)) in
-            let empty : left index rest ≡ [] = field_items_left-empty int (left_before trims separator index (length input) rest) nothing in
+            let empty : left index rest ≡ [] = field_items_left-empty int (left_before is_lines separator index (length input) rest) nothing in
             absurd (no_error before after bad (sym empty ∙ same))
         | inr some ↦ some.1
       ]
 
   -- The first item, and what is left after it.
   first_step : (index : ℕ) (rest : List ℕ) → 0 < length rest → length rest ≤ length input
-      → left index rest ≡ first_item int (left_before trims separator index (length input) rest) ∷ left (index + 1) (after_first ends rest)
+      → left index rest ≡ first_item int (left_before is_lines separator index (length input) rest) ∷ left (index + 1) (after_first ends rest)
   first_step index rest some within =
-      (first_field_step int {trims = trims} {separator = separator} {index = index}
+      (first_field_step int {is_lines = is_lines} {separator = separator} {index = index}
       {end = length input} {rest = rest} refl some within refl refl).0
 
   -- What follows the first separator is the end of the input, too.
@@ -146,7 +146,7 @@ module _ (int : IntType) (trims : Bool) (separator : ℕ) (input : List ℕ) whe
       (placed before after bad (index + 1) following (omega (arith, left_over)) (following_is rest within found is) later)
 
   is_placed : (before after : List (Result ℤ BadField)) (bad : BadField)
-      → field_items_left int (record { trims = trims; separator = separator; index = 0; place = 0; rest = input })
+      → field_items_left int (record { is_lines = is_lines; separator = separator; index = 0; place = 0; rest = input })
       ≡ before ++ Err bad ∷ after
       → IsPlaced separator input before bad
   is_placed before after bad same =

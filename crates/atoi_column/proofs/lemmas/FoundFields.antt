@@ -39,7 +39,7 @@ last_of_text no_sign digits some all = last_digit digits some all
 last_of_text plus digits some all = rw (last_byte-cons 43 digits some) (last_digit digits some all)
 last_of_text minus digits some all = rw (last_byte-cons 45 digits some) (last_digit digits some all)
 
-cut_of_text : {int : IntType} {text : List ℕ} {number : ℤ} (trims : Bool) → TextWrites int true text number → cut_of trims text ≡ text
+cut_of_text : {int : IntType} {text : List ℕ} {number : ℤ} (is_lines : Bool) → TextWrites int true text number → cut_of is_lines text ≡ text
 cut_of_text false writes = refl
 cut_of_text {int} {text} {number} true writes =
     let digit : digit_value (last_byte text) < 10 =
@@ -100,11 +100,11 @@ pub record HasNumber (int : IntType) (separator : ℕ) (rest : List ℕ) (number
   pub texts : AcceptedTexts int
 
 module _ {int : IntType} {separator : ℕ} {rest : List ℕ} {number : ℤ} {count : ℕ}
-    (trims : Bool) (has : HasNumber int separator rest number count) where
+    (is_lines : Bool) (has : HasNumber int separator rest number count) where
   abbrev ends : ℕ → Bool
   ends byte = byte == separator
 
-  accepted_at_end : {following : List ℕ} → drop count rest ≡ [] → following ≡ [] → IsAcceptedField int trims separator rest number following
+  accepted_at_end : {following : List ℕ} → drop count rest ≡ [] → following ≡ [] → IsAcceptedField int is_lines separator rest number following
   accepted_at_end cut none =
       let within = has.within in
       let left = prefix_len-le-length (λ byte. not (ends byte)) rest in
@@ -116,7 +116,7 @@ module _ {int : IntType} {separator : ℕ} {rest : List ℕ} {number : ℤ} {cou
       }
 
   accepted_before : (byte : ℕ) (following : List ℕ) → drop count rest ≡ byte ∷ following → byte ≡ separator
-      → IsAcceptedField int trims separator rest number following
+      → IsAcceptedField int is_lines separator rest number following
   accepted_before byte following cut same =
       let first = drop_first count rest byte following cut in
       let within = has.within in
@@ -127,13 +127,13 @@ module _ {int : IntType} {separator : ℕ} {rest : List ℕ} {number : ℤ} {cou
       ] in
       let apart : position_or_len ends rest ≢ length rest = omega (arith, first.0) in
       record {
-        accepted = rw (ne_eqb _ _ apart, at, cut_of_text trims has.written) (has.texts.number (take count rest) number has.written);
+        accepted = rw (ne_eqb _ _ apart, at, cut_of_text is_lines has.written) (has.texts.number (take count rest) number has.written);
         after = rw at (sym first.2);
       }
 
   -- A carriage return before the separator is cut.
-  accepted_line : (following : List ℕ) → trims ≡ true → drop count rest ≡ 13 ∷ separator ∷ following → 13 ≢ separator
-      → IsAcceptedField int trims separator rest number following
+  accepted_line : (following : List ℕ) → is_lines ≡ true → drop count rest ≡ 13 ∷ separator ∷ following → 13 ≢ separator
+      → IsAcceptedField int is_lines separator rest number following
   accepted_line following cuts cut apart =
       let return = drop_first count rest 13 (separator ∷ following) cut in
       let first = drop_first (count + 1) rest separator following return.2 in
@@ -153,9 +153,9 @@ module _ {int : IntType} {separator : ℕ} {rest : List ℕ} {number : ℤ} {cou
         after = rw at (sym first.2);
       }
 
-  accepted_byte : (cuts : Bool) {byte : ℕ} {bytes following : List ℕ} → trims ≡ cuts → byte ≢ separator → drop count rest ≡ byte ∷ bytes
+  accepted_byte : (cuts : Bool) {byte : ℕ} {bytes following : List ℕ} → is_lines ≡ cuts → byte ≢ separator → drop count rest ≡ byte ∷ bytes
       → (if cuts && byte == 13 then after_separator separator bytes else None) ≡ Some following
-      → IsAcceptedField int trims separator rest number following
+      → IsAcceptedField int is_lines separator rest number following
   accepted_byte false cuts apart cut end = absurd (cc end)
   accepted_byte true {byte} {bytes} {following} cuts apart cut end =
       elim (eqb_tells byte 13) [
@@ -165,15 +165,15 @@ module _ {int : IntType} {separator : ℕ} {rest : List ℕ} {number : ℤ} {cou
         | inr other ↦ let none : None ≡ Some following = rw other.0 at end in absurd (cc)
       ]
 
-  pub accepted : {following : List ℕ} (tail : List ℕ) → drop count rest ≡ tail → after_field trims separator tail ≡ Some following
-      → IsAcceptedField int trims separator rest number following
+  pub accepted : {following : List ℕ} (tail : List ℕ) → drop count rest ≡ tail → after_field is_lines separator tail ≡ Some following
+      → IsAcceptedField int is_lines separator rest number following
   accepted [] cut end = accepted_at_end cut (cc)
   accepted {following} (byte ∷ bytes) cut end =
       elim (eqb_tells byte separator) [
         | inl same ↦
             let next : Some bytes ≡ Some following = rw same.0 at end in
             accepted_before byte following (cc) same.1
-        | inr apart ↦ accepted_byte trims refl apart.1 cut (rw apart.0 at end)
+        | inr apart ↦ accepted_byte is_lines refl apart.1 cut (rw apart.0 at end)
       ]
 
 -- A text at the start of the bytes has no separator in it.
@@ -198,16 +198,16 @@ text_within {int} separator rest count {number} law whole separates fits answer 
     ]
 
 -- A text before what ends a field is the field.
-pub accepted_text : {int : IntType} (trims : Bool) (separator : ℕ) (rest : List ℕ) (count tail : ℕ) {ends : ℕ} {number : ℤ}
+pub accepted_text : {int : IntType} (is_lines : Bool) (separator : ℕ) (rest : List ℕ) (count tail : ℕ) {ends : ℕ} {number : ℤ}
     → FieldsArePrefixes int → PrefixIsWhole int → AcceptedTexts int → is_separator separator ≡ true
     → ((bytes : List ℕ) → ((i : ℕ) → get_or bytes i 0 < 256) → tail ≤ length bytes → word_of (take tail bytes) ≡ ends
-    → after_field trims separator bytes ≡ Some (drop tail bytes))
+    → after_field is_lines separator bytes ≡ Some (drop tail bytes))
     → ((i : ℕ) → get_or rest i 0 < 256) → count + tail ≤ length rest → TextWrites int true (take count rest) number
-    → word_of (take tail (drop count rest)) ≡ ends → IsAcceptedField int trims separator rest number (drop (count + tail) rest)
-accepted_text trims separator rest count tail law whole texts separates end fits within written is =
+    → word_of (take tail (drop count rest)) ≡ ends → IsAcceptedField int is_lines separator rest number (drop (count + tail) rest)
+accepted_text is_lines separator rest count tail law whole texts separates end fits within written is =
     let room : tail ≤ length (drop count rest) = omega (arith, length-drop count rest) in
     let following = end (drop count rest) (fits_after count rest fits) room is in
-    accepted trims (record {
+    accepted is_lines (record {
       within = text_within separator rest count law whole separates (omega arith) (texts.number (take count rest) _ written);
       written = written;
       texts = texts;

@@ -60,11 +60,11 @@ text_of_digits int bytes (suc zero) width magnitude few taken some run is fits n
 text_of_digits int bytes (suc (suc n)) width magnitude few taken some run is fits number_is = absurd (omega arith)
 
 -- A separator ends a field, also after a carriage return.
-pub ended : (trims : Bool) (separator : ℕ) (bytes : List ℕ) → 1 ≤ length bytes → word_of (take 1 bytes) ≡ separator
-    → after_field trims separator bytes ≡ Some (drop 1 bytes)
+pub ended : (is_lines : Bool) (separator : ℕ) (bytes : List ℕ) → 1 ≤ length bytes → word_of (take 1 bytes) ≡ separator
+    → after_field is_lines separator bytes ≡ Some (drop 1 bytes)
 unfolding word_of
-ended trims separator [] some is = absurd (omega arith)
-ended trims separator (byte ∷ bytes) some is = rw (eq-eqb byte separator (omega arith)) refl
+ended is_lines separator [] some is = absurd (omega arith)
+ended is_lines separator (byte ∷ bytes) some is = rw (eq-eqb byte separator (omega arith)) refl
 
 pub ended_line : (separator : ℕ) (bytes : List ℕ) → separator ≢ 13 → ((i : ℕ) → get_or bytes i 0 < 256) → 2 ≤ length bytes
     → word_of (take 2 bytes) ≡ 256 * separator + 13 → after_field true separator bytes ≡ Some (drop 2 bytes)

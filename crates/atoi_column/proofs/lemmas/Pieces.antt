@@ -65,7 +65,7 @@ module _ (int : IntType) where
   cut_after left more (inr ended) =
       let front = ended.0 in
       let ends : ℕ → Bool = λ byte. byte == left.separator in
-      let cut : List ℕ → List ℕ = cut_of left.trims in
+      let cut : List ℕ → List ℕ = cut_of left.is_lines in
       let answer : List ℕ → Result ℤ Refusal = parse_answer int true true in
       let parts = slice_split ends front in
       let same : ends left.separator ≡ true = eq-eqb left.separator left.separator refl in
@@ -81,7 +81,7 @@ module _ (int : IntType) where
       → new ≡ after_first_field old → end_of int new ≡ end_of int old
   step_to_end old new item items moved =
       let following = after_first (λ byte. byte == old.separator) old.rest in
-      let trims : new.trims ≡ old.trims = ap (λ left. left.trims) moved in
+      let is_lines : new.is_lines ≡ old.is_lines = ap (λ left. left.is_lines) moved in
       let separator : new.separator ≡ old.separator = ap (λ left. left.separator) moved in
       let rest : new.rest ≡ following = ap (λ left. left.rest) moved in
       let index : new.index + length (field_items_left int new) ≡ old.index + length (field_items_left int old) =
@@ -93,7 +93,7 @@ module _ (int : IntType) where
         ap length rest,
         length-drop (position_or_len (λ byte. byte == old.separator) old.rest + 1) old.rest,
       ) in
-      rw (index, place, trims, separator) refl
+      rw (index, place, is_lines, separator) refl
 
   at_end : (left : FieldsLeft) → left.rest ≡ [] → end_of int left ≡ left
   at_end left none =

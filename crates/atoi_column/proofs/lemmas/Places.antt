@@ -128,6 +128,6 @@ pub field_items_left-inside : (int : IntType) (left : FieldsLeft) → left.index
     → All (λ item. IfErr item (λ bad. (bad.place < length left.rest) × (bad.index < length left.rest))) (field_items_left int left)
 unfolding field_items_left
 field_items_left-inside int left first start =
-    items_of_parts-inside (cut_of left.trims) (parse_answer int true true) (length left.rest) left.index left.place
+    items_of_parts-inside (cut_of left.is_lines) (parse_answer int true true) (length left.rest) left.index left.place
     (slice_split (λ byte. byte == left.separator) left.rest) (omega arith)
     (omega (arith, split-place (λ byte. byte == left.separator) left.rest))

@@ -10,7 +10,7 @@ use Rattle.atoi_column.proofs.fields.accepted_field.Goals as goal
 pub returns-in-Some-clause-some : goal.returns-in-Some-clause-some
 returns-in-Some-clause-some g c = λ separates.
     let field = c.in-Some.ensures separates in
-    let found = accepted c.args.trims (record {
+    let found = accepted c.args.is_lines (record {
       within = (c.fields_are_prefixes.ensures c.args.separator separates c.args.rest.now).within _ _ field.prefix;
       written = field.written;
       texts = c.accepted_texts.ensures;
@@ -21,7 +21,7 @@ pub returns-clause-some : goal.returns-clause-some
 returns-clause-some g c = λ separates.
     let parsed = ok_is c.first_number.result (sym c.ok.ensures.value ∙ c.in_ok-value.was) in
     let answer = sym c.first_number.ensures.answer ∙ ap (typed_prefix_answer g.T.Number.number) parsed in
-    accepted c.args.trims (record {
+    accepted c.args.is_lines (record {
       within = (c.fields_are_prefixes.ensures c.args.separator separates c.args.rest.now).within _ _
           (with_plus g.T.Number.int_type false c.prefix_begins.ensures c.args.rest.now answer);
       written = text_with_plus (IfOk-at_ok _ parsed c.first_number.ensures.prefix).written;

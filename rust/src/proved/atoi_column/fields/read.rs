@@ -79,7 +79,7 @@ impl<'a, T: Parse> Fields<'a, T> {
                 break;
             }
             let used = before.saturating_sub(self.rest.len());
-            guess = guess_after(&values[from..read], used, self.rest, self.trims);
+            guess = guess_after(&values[from..read], used, self.rest, self.is_lines);
             let run = self.read_guessed(values, read, guess);
             read += run;
             part = if run < PART {
@@ -183,7 +183,7 @@ impl<'a, T: Parse> Fields<'a, T> {
         // ensures none { IfNone result (self.new ≡ self.old) }
     {
         let (rest, index) = (self.rest, self.index);
-        let (value, following) = guessed_field::<T>(rest, self.separator, self.trims, guess)?;
+        let (value, following) = guessed_field::<T>(rest, self.separator, self.is_lines, guess)?;
         self.index = index + 1;
         self.rest = following;
         Some(value)
@@ -202,7 +202,7 @@ impl<'a, T: Parse> Fields<'a, T> {
         if rest.is_empty() {
             return None;
         }
-        match accepted_field::<T>(rest, self.separator, self.trims, guess) {
+        match accepted_field::<T>(rest, self.separator, self.is_lines, guess) {
             Some((value, following)) => {
                 self.index = index + 1;
                 self.rest = following;
@@ -210,7 +210,13 @@ impl<'a, T: Parse> Fields<'a, T> {
             }
             None => {
                 let place = self.end - rest.len();
-                let (item, following) = read_field(rest, self.separator, self.trims, index, place);
+                let (item, following) = read_field(
+                    rest,
+                    self.separator,
+                    self.is_lines,
+                    index,
+                    place,
+                );
                 let value: T = item.ok()?;
                 self.index = index + 1;
                 self.rest = following;
@@ -225,17 +231,17 @@ impl<'a, T: Parse> Fields<'a, T> {
 fn guessed_field<T: Parse>(
     rest: &[u8],
     separator: u8,
-    trims: bool,
+    is_lines: bool,
     guess: Guess,
 ) -> Option<(T, &[u8])>
     // ensures some { IfSome result (λ found. 0 < length rest.now) }
     // ensures accepted { is_separator separator ≡ true → IfSome result (λ found. IsAcceptedField T.int_type
-    //     trims separator rest.now (T.number found.0) found.1.now) }
+    //     is_lines separator rest.now (T.number found.0) found.1.now) }
 {
     fields_are_prefixes::<T>();
     accepted_texts::<T>();
     prefix_is_whole::<T>();
-    let (end_word, end_len) = end_of(separator, trims, guess.has_return);
+    let (end_word, end_len) = end_of(separator, is_lines, guess.has_return);
     if fits_word(guess) {
         let (value, count) = number_with_end::<T>(rest, guess.width, end_word, end_len)?;
         return Some((value, &rest[count + end_len..]));

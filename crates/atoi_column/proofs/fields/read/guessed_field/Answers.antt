@@ -10,7 +10,7 @@ returns-then-fits_word-clause-accepted g c = λ separates.
     let rest = c.args.rest.now in
     let end_len = c.end_of-end_word.result.1 in
     let found = c.in_ok-value.ensures in
-    rw (take_rest rest (c.in_ok-value.count + end_len)) (accepted_text c.args.trims c.args.separator rest c.in_ok-value.count end_len
+    rw (take_rest rest (c.in_ok-value.count + end_len)) (accepted_text c.args.is_lines c.args.separator rest c.in_ok-value.count end_len
     c.fields_are_prefixes.ensures c.prefix_is_whole.ensures c.accepted_texts.ensures separates c.end_of-end_word.ensures.ends
     (λ i. (c.type_inv.rest i).fits) found.within found.written found.ends)
 
@@ -21,7 +21,7 @@ returns-clause-accepted g c = λ separates.
     let end_len = c.end_of-end_word.result.1 in
     let found = c.in_ok-value-2.ensures in
     let end = rw (take_rest rest count) at c.if-not-starts_with.ensures in
-    rw (take_rest rest (count + end_len)) (accepted_text c.args.trims c.args.separator rest count end_len
+    rw (take_rest rest (count + end_len)) (accepted_text c.args.is_lines c.args.separator rest count end_len
     c.fields_are_prefixes.ensures c.prefix_is_whole.ensures c.accepted_texts.ensures separates c.end_of-end_word.ensures.ends
     (λ i. (c.type_inv.rest i).fits)
     (grind (arith, found.within, length-drop count rest, c.end_of-end_word.ensures.few, end.two refl)) found.written
