@@ -235,17 +235,17 @@ pub mod column {
 /// This adds up an array of JSON without spaces:
 ///
 /// ```
-/// use torkettle::formats::{after, json_integer};
+/// use torkettle::formats::{json_integer, strip_byte};
 ///
 /// fn total(text: &[u8]) -> Option<i64> {
-///     let mut rest = after(text, b'[')?;
+///     let mut rest = strip_byte(text, b'[')?;
 ///     let mut total = 0_i64;
 ///     loop {
 ///         let (number, tail) = json_integer::<i64>(rest)?;
 ///         total = total.checked_add(number)?;
 ///         match tail {
 ///             b"]" => return Some(total),
-///             _ => rest = after(tail, b',')?,
+///             _ => rest = strip_byte(tail, b',')?,
 ///         }
 ///     }
 /// }
@@ -259,8 +259,8 @@ pub mod column {
 #[cfg(target_pointer_width = "64")]
 pub mod formats {
     pub use crate::proved::atoi_formats::{
-        after, canonical, canonical_prefix, canonical_then, digits_between, digits_then,
-        fixed_width, json_integer, number, number_then,
+        canonical, canonical_prefix, canonical_then, digits_between, digits_then, fixed_width,
+        json_integer, number, number_then, strip_byte,
     };
 }
 

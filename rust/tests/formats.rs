@@ -5,8 +5,8 @@ use std::panic::catch_unwind;
 use std::str::FromStr;
 use torkettle::Parse;
 use torkettle::formats::{
-    after, canonical, canonical_prefix, canonical_then, digits_between, digits_then, fixed_width,
-    number, number_then,
+    canonical, canonical_prefix, canonical_then, digits_between, digits_then, fixed_width, number,
+    number_then, strip_byte,
 };
 
 // Parts of texts: every text of up to four of them is tried.
@@ -77,8 +77,8 @@ fn check<T: Parse + FromStr + Display + PartialEq + Debug>(text: &str) {
 #[test]
 fn formats_are_those_of_std() {
     each_text(|text| {
-        let rest = after(text.as_bytes(), b'.').map(|rest| place(text.as_bytes(), rest));
-        assert_eq!(rest, text.starts_with('.').then_some(1), "after of {text:?}");
+        let rest = strip_byte(text.as_bytes(), b'.').map(|rest| place(text.as_bytes(), rest));
+        assert_eq!(rest, text.starts_with('.').then_some(1), "strip_byte of {text:?}");
         check::<u8>(text);
         check::<i8>(text);
         check::<u64>(text);
@@ -88,10 +88,10 @@ fn formats_are_those_of_std() {
 
 #[test]
 fn the_byte_is_there() {
-    assert_eq!(after(b".5", b'.'), Some(&b"5"[..]));
-    assert_eq!(after(b"..5", b'.'), Some(&b".5"[..]));
-    assert_eq!(after(b"5.", b'.'), None);
-    assert_eq!(after(b"", b'.'), None);
+    assert_eq!(strip_byte(b".5", b'.'), Some(&b"5"[..]));
+    assert_eq!(strip_byte(b"..5", b'.'), Some(&b".5"[..]));
+    assert_eq!(strip_byte(b"5.", b'.'), None);
+    assert_eq!(strip_byte(b"", b'.'), None);
 }
 
 #[test]

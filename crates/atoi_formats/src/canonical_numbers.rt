@@ -4,7 +4,7 @@ ghost use Rattle.atoi_core.specs.Digit.{decimal_table, is_digit};
 ghost use Rattle.atoi_core.specs.Text.{BeginsWithDigit, IsNumberThen};
 ghost use Rattle.atoi_formats.specs.Formats.{HasCanonical, IsCanonical, has_needless_byte};
 
-use crate::after_byte::after;
+use crate::expected_byte::strip_byte;
 use atoi_simd::laws::{decimal_texts, one_number, prefixes_and_rests};
 use atoi_simd::{Parse, parse, parse_prefix};
 
@@ -118,7 +118,7 @@ pub fn canonical_then<T: Parse>(text: &[u8], byte: u8) -> Option<(T, &[u8])>
         → IsCanonical T.int_type bytes number → ¬ (text.now ≡ bytes ++ byte ∷ rest)) }
 {
     let (number, tail) = canonical_prefix::<T>(text)?;
-    Some((number, after(tail, byte)?))
+    Some((number, strip_byte(tail, byte)?))
 }
 
 // Says whether a zero or a minus could be left out of `bytes`.

@@ -3,7 +3,7 @@ ghost use Rattle.std.specs.Prelude.{◌≡◌, ◌++◌, ◌∷◌, ℕ, ℤ, Bo
 ghost use Rattle.atoi_core.specs.Laws.{zero_byte};
 ghost use Rattle.atoi_formats.specs.Formats.{IsJsonInteger, HasJsonInteger, goes_on, minus_if};
 
-use crate::after_byte::after;
+use crate::expected_byte::strip_byte;
 use atoi_core::take_sign;
 use atoi_simd::laws::{decimal_texts, prefixes_and_rests};
 use atoi_simd::{Number, Parse, parse_prefix};
@@ -77,7 +77,7 @@ fn after_zero(text: &[u8]) -> Option<&[u8]>
         → ¬ (text.now ≡ minus_if is_negative ++ zero_byte ∷ rest)) }
 {
     let (_, body) = take_sign(true, false, text);
-    after(body, b'0')
+    strip_byte(body, b'0')
 }
 
 // Says whether `rest` begins with a digit, a fraction or an exponent.

@@ -4,7 +4,7 @@ ghost use Rattle.atoi_core.specs.Digit.{decimal_table, is_digit};
 ghost use Rattle.atoi_core.specs.Text.{DigitsWrite, IsNumberThen};
 ghost use Rattle.atoi_formats.specs.Formats.{IsNumber};
 
-use crate::after_byte::after;
+use crate::expected_byte::strip_byte;
 use atoi_simd::laws::number_then_byte;
 use atoi_simd::{Parse, parse_prefix, parse_prefix_pos};
 
@@ -44,7 +44,7 @@ pub fn number_then<T: Parse>(text: &[u8], byte: u8) -> Option<(T, &[u8])>
     number_then_byte::<T>();
     let (number, count) = parse_prefix::<T, true, true>(text).ok()?;
     let (_, tail) = text.split_at(count);
-    Some((number, after(tail, byte)?))
+    Some((number, strip_byte(tail, byte)?))
 }
 
 /// Like [`number_then`], for digits without a sign.
@@ -78,5 +78,5 @@ pub fn digits_then<T: Parse>(text: &[u8], byte: u8) -> Option<(T, &[u8])>
     number_then_byte::<T>();
     let (number, count) = parse_prefix_pos::<T, true>(text).ok()?;
     let (_, tail) = text.split_at(count);
-    Some((number, after(tail, byte)?))
+    Some((number, strip_byte(tail, byte)?))
 }

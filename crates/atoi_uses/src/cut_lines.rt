@@ -5,7 +5,7 @@ ghost use Rattle.atoi_core.specs.Text.{IsNumberThen, TextWrites};
 ghost use Rattle.atoi_uses.specs.CutLines.{IsCut};
 
 use atoi_core::laws::number_then_byte;
-use atoi_formats::{after, from_ascii_prefix};
+use atoi_formats::{from_ascii_prefix, strip_byte};
 use std::num::IntErrorKind;
 
 /// Reads the number and the line feed at the start of `buffer`. Returns the number, and what follows the
@@ -32,7 +32,7 @@ pub fn number_line(buffer: &[u8]) -> Result<Option<(i64, &[u8])>, usize>
         }
     };
     let (_, tail) = buffer.split_at(count);
-    match after(tail, b'\n') {
+    match strip_byte(tail, b'\n') {
         Some(rest) => Ok(Some((number, rest))),
         None if tail.is_empty() => Ok(None),
         None => Err(count),

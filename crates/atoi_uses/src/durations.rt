@@ -6,7 +6,7 @@ ghost use Rattle.atoi_core.specs.Run.{run_len};
 ghost use Rattle.atoi_uses.specs.Durations.{AreLeadingDigits, HasParts, IsDuration, IsNoDuration, capped, total_of};
 
 use atoi_core::laws::none_or_too_large;
-use atoi_formats::after;
+use atoi_formats::strip_byte;
 use atoi_simd::parse_prefix_pos;
 
 /// Why a text is no duration.
@@ -64,7 +64,7 @@ fn part(text: &[u8], unit: u8) -> Option<(u128, &[u8])>
     none_or_too_large::<u64>();
     let (number, count) = capped_number(text);
     let (_, tail) = text.split_at(count);
-    match after(tail, unit) {
+    match strip_byte(tail, unit) {
         Some(rest) if count > 0 => Some((number, rest)),
         _ => None,
     }

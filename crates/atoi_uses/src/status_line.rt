@@ -2,7 +2,7 @@
 ghost use Rattle.std.specs.Prelude.{◌≡◌, ℕ, List, IfSome, IfNone};
 ghost use Rattle.atoi_uses.specs.StatusLines.{IsStatusLine};
 
-use atoi_formats::{after, fixed_width};
+use atoi_formats::{fixed_width, strip_byte};
 
 /// Returns the code and the reason of a status line: for `HTTP/1.1 404 Not Found` these are 404 and
 /// `Not Found`.
@@ -13,6 +13,6 @@ pub fn code_and_reason(line: &[u8]) -> Option<(u16, &[u8])>
 {
     let rest = line.strip_prefix(b"HTTP/1.1 ")?;
     let (code, rest) = fixed_width::<u16>(rest, 3)?;
-    let reason = after(rest, b' ')?;
+    let reason = strip_byte(rest, b' ')?;
     Some((code, reason))
 }

@@ -5,7 +5,7 @@ ghost use Rattle.atoi_simd.specs.Text.{DigitsWrite};
 ghost use Rattle.atoi_uses.specs.Times.{AreBillionths, AreSeconds, HasHour, IsFraction, IsTime};
 ghost use Rattle.atoi_uses.specs.declared.times.Time.{Time as TimeValue};
 
-use atoi_formats::{after, digits_between, fixed_width};
+use atoi_formats::{digits_between, fixed_width, strip_byte};
 
 /// A time of day.
 #[derive(Clone, Copy, Debug, PartialEq, Eq)]
@@ -26,7 +26,7 @@ pub fn parse_time(text: &[u8]) -> Option<Time>
 {
     let (hour, rest) = hour_and_rest(text)?;
     let (minute, rest) = fixed_width::<u8>(rest, 2)?;
-    let rest = after(rest, b':')?;
+    let rest = strip_byte(rest, b':')?;
     let (second, nanosecond) = second_and_fraction(rest)?;
     if hour < 24 && minute < 60 && second < 60 {
         Some(Time {
@@ -53,7 +53,7 @@ fn hour_and_rest(text: &[u8]) -> Option<(u8, &[u8])>
     let Some((hour, rest)) = digits_between::<u8>(text, 1, 2) else {
         return None;
     };
-    let Some(rest) = after(rest, b':') else {
+    let Some(rest) = strip_byte(rest, b':') else {
         return None;
     };
     Some((hour, rest))

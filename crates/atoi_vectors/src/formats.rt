@@ -2,7 +2,8 @@
 
 use crate::checks::gives;
 use atoi_formats::{
-    after, canonical, canonical_then, digits_then, fixed_width, json_integer, number, number_then,
+    canonical, canonical_then, digits_then, fixed_width, json_integer, number, number_then,
+    strip_byte,
 };
 
 fn found<T>(number: T, rest: &'static [u8]) -> Option<(T, &'static [u8])> {
@@ -105,7 +106,7 @@ fn no_integers_of_json(rt: HostRuntime) {
 
 #[test]
 fn what_follows_a_byte(rt: HostRuntime) {
-    gives(&rt, after(b",7", b','), Some(b"7".as_slice()));
-    gives(&rt, after(b"7", b','), None);
-    gives(&rt, after(b"", b','), None);
+    gives(&rt, strip_byte(b",7", b','), Some(b"7".as_slice()));
+    gives(&rt, strip_byte(b"7", b','), None);
+    gives(&rt, strip_byte(b"", b','), None);
 }

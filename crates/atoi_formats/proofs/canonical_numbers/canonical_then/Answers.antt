@@ -7,8 +7,8 @@ pub returns-in_err-number-clause-none : goal.returns-in_err-number-clause-none
 returns-in_err-number-clause-none g c = rw c.from_residual.ensures (λ number bytes rest is parts.
     c.in_err-number.ensures.none number bytes (c.args.byte ∷ rest) is (ends_before c.args.byte rest c.requires) parts)
 
-pub returns-in_err-after-clause-none : goal.returns-in_err-after-clause-none
-returns-in_err-after-clause-none g c = rw c.from_residual-in_err-after.ensures (λ number bytes rest is parts.
+pub returns-in_err-strip_byte-clause-none : goal.returns-in_err-strip_byte-clause-none
+returns-in_err-strip_byte-clause-none g c = rw c.from_residual-in_err-strip_byte.ensures (λ number bytes rest is parts.
     let same = c.in_ok-number.ensures.only number bytes (c.args.byte ∷ rest)
     is (ends_before c.args.byte rest c.requires) parts in search rules)
 

@@ -11,8 +11,8 @@ returns-in_err-number-clause-none g c = rw c.from_residual.ensures (λ number di
     (refused c.parse_prefix_pos.result (sym c.ok.ensures.value ∙ c.in_err-number.was)
     (c.parse_prefix_pos.ensures.refused refl)) number found.0 found.1)
 
-pub returns-in_err-after-clause-none : goal.returns-in_err-after-clause-none
-returns-in_err-after-clause-none g c = rw c.from_residual-in_err-after.ensures (λ number digits rest written parts.
+pub returns-in_err-strip_byte-clause-none : goal.returns-in_err-strip_byte-clause-none
+returns-in_err-strip_byte-clause-none g c = rw c.from_residual-in_err-strip_byte.ensures (λ number digits rest written parts.
     let same = only_prefix c.number_then_byte.ensures positive c.args.byte
     c.requires digits rest written parts
     (accepted _ c.parse_prefix_pos.result (sym c.ok.ensures.value ∙ c.in_ok-number.was) c.parse_prefix_pos.ensures.prefix) in search rules)

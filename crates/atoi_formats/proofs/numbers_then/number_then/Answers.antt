@@ -13,9 +13,9 @@ returns-in_err-number-clause-none g c = rw c.from_residual.ensures (λ number by
     (refused c.parse_prefix.result (sym c.ok.ensures.value ∙ c.in_err-number.was)
     (c.parse_prefix.ensures.refused refl)) number found.0 found.1)
 
-pub returns-in_err-after-clause-none : goal.returns-in_err-after-clause-none
+pub returns-in_err-strip_byte-clause-none : goal.returns-in_err-strip_byte-clause-none
 unfolding IsNumber
-returns-in_err-after-clause-none g c = rw c.from_residual-in_err-after.ensures (λ number bytes rest written parts.
+returns-in_err-strip_byte-clause-none g c = rw c.from_residual-in_err-strip_byte.ensures (λ number bytes rest written parts.
     let same = only_prefix c.number_then_byte.ensures (looked_for true) c.args.byte
     c.requires bytes rest written parts
     (accepted _ c.parse_prefix.result (sym c.ok.ensures.value ∙ c.in_ok-number.was) c.parse_prefix.ensures.prefix) in search rules)

@@ -34,19 +34,19 @@ returns-in-Some-clause-some c =
     let parts = json.parts ∙ ap (λ tail. json.bytes ++ tail) c.in-Some.ensures.some in
     rw sum (read.adds number c.in-Some.rest.now (last json.bytes json.written parts))
 
-pub returns-in_err-after-clause-none : goal.returns-in_err-after-clause-none
-returns-in_err-after-clause-none c = rw c.from_residual-in_err-after.ensures (λ total rest has.
+pub returns-in_err-strip_byte-clause-none : goal.returns-in_err-strip_byte-clause-none
+returns-in_err-strip_byte-clause-none c = rw c.from_residual-in_err-strip_byte.ensures (λ total rest has.
     let is : IsNotLast c.loop-number.left.now c.in_ok-number.number c.in_ok-number.tail.now =
     record { only = c.in_ok-number.ensures.only; no_end = c.in_default.ensures.none } in
     let found = others_follow is (c.loop-number.invariant.others total rest has).1 in
-    c.in_err-after.ensures.none _ found.1.1.0)
+    c.in_err-strip_byte.ensures.none _ found.1.1.0)
 
 pub returns-in_err-left-clause-none : goal.returns-in_err-left-clause-none
 returns-in_err-left-clause-none c = rw c.from_residual-in_err-left.ensures (λ total rest has.
     let is : IsNotLast c.loop-number.left.now c.in_ok-number.number c.in_ok-number.tail.now =
     record { only = c.in_ok-number.ensures.only; no_end = c.in_default.ensures.none } in
     let found = others_follow is (c.loop-number.invariant.others total rest has).1 in
-    c.in_err-left.ensures.none found.1.0 (cc (c.in_ok-after.ensures.some, found.1.1.0)))
+    c.in_err-left.ensures.none found.1.0 (cc (c.in_ok-strip_byte.ensures.some, found.1.1.0)))
 
 pub loop-number-preserved : goal.loop-number-preserved
 loop-number-preserved c =
@@ -60,5 +60,5 @@ loop-number-preserved c =
     omega (arith, ints, read.above, read.below, read.within) in
     let is : IsNotLast c.loop-number.left.now c.in_ok-number.number c.in_ok-number.tail.now =
     record { only = c.in_ok-number.ensures.only; no_end = c.in_default.ensures.none } in
-    let comma = c.in_ok-after.ensures.some ∙ ap (λ tail. 44 ∷ tail) c.in_ok-left.ensures.some in
+    let comma = c.in_ok-strip_byte.ensures.some ∙ ap (λ tail. 44 ∷ tail) c.in_ok-left.ensures.some in
     rw sum (read_more read c.in_ok-number.ensures.some fits is c.in_ok-left.left.now comma)

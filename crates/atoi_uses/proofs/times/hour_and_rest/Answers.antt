@@ -7,10 +7,10 @@ pub returns-in_default-clause-none : goal.returns-in_default-clause-none
 returns-in_default-clause-none c = λ hour digits rest written short parts.
     c.in_default.ensures.none (pos hour) digits (58 ∷ rest) written (before_colon digits rest written.numeral short) parts
 
-pub returns-in_default-after-clause-none : goal.returns-in_default-after-clause-none
-returns-in_default-after-clause-none c = λ hour digits rest written short parts.
+pub returns-in_default-strip_byte-clause-none : goal.returns-in_default-strip_byte-clause-none
+returns-in_default-strip_byte-clause-none c = λ hour digits rest written short parts.
     let same = c.in-Some.ensures.only (pos hour) digits (58 ∷ rest) written (before_colon digits rest written.numeral short) parts in
-    c.in_default-after.ensures.none rest (sym same.1)
+    c.in_default-strip_byte.ensures.none rest (sym same.1)
 
 pub returns-clause-only : goal.returns-clause-only
 returns-clause-only c = λ hour digits rest written short parts.
