@@ -31,7 +31,7 @@ pub(crate) fn answer_after_16<'a>(
     ensures one_step { steps.new ≡ steps.old + 1 }
 {
     steps.tick();
-    // One use, so that LLVM chooses a bound by the sign only here.
+    // Used once, so that rustc 1.95 chooses the bound by the sign only here.
     let bound = u128::from(bound);
     if s.len() <= limit as usize {
         answer_near_end(bound, limit, high, s)

@@ -28,7 +28,7 @@ impl Engine for Swar {
     #[inline(always)]
     fn window(s: &[u8], steps: &mut Steps) -> Window {
         steps.tick();
-        // In this order, LLVM puts no jump before long slices.
+        // Long slices first: rustc 1.95 then puts no jump before them.
         if s.len() >= 16 {
             long_window(s)
         } else if s.len() <= 8 {
@@ -65,7 +65,7 @@ impl Engine for Swar {
         s: &'a [u8],
         steps: &mut Steps,
     ) -> Result<(u64, usize), AtoiSimdError<'a>> {
-        // In this order, LLVM puts no jump before long slices.
+        // Long slices first: rustc 1.95 then puts no jump before them.
         if s.len() >= 16 {
             let first = Swar::window(s, steps);
             if skip && first.zeroes > 0 {
@@ -214,7 +214,7 @@ fn long_window(s: &[u8]) -> Window
 {
     let first = load_full(s);
     let len = leading_digits(first);
-    // LLVM joins this test with the caller's.
+    // Callers test this, too, and rustc 1.95 makes one test of both.
     if len == 0 {
         return Window::not_full(0, 0);
     }

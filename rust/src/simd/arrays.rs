@@ -1,4 +1,4 @@
-//! The operations on arrays, for targets without SSE2 and NEON. LLVM makes slow code of them.
+//! The operations on arrays, for targets without SSE2 and NEON. rustc 1.95 makes slow code of them.
 //!
 //! The number at the end of a name is how many bits each lane has. The lowest byte of a lane is first.
 

@@ -39,7 +39,7 @@ intrinsics! {
 
 #[inline(always)]
 pub fn from_array(array: [u8; 16]) -> Bytes {
-    // One number, since LLVM would load a constant array byte by byte.
+    // One number, since rustc 1.95 loads a constant array byte by byte.
     let number = u128::from_le_bytes(array);
     vcombine_u8(vcreate_u8(number as u64), vcreate_u8((number >> 64) as u64))
 }

@@ -37,7 +37,7 @@ intrinsics! {
 
 #[inline(always)]
 pub fn from_array(array: [u8; 16]) -> Bytes {
-    // One number, since LLVM would load a constant array byte by byte.
+    // One number, since rustc 1.95 loads a constant array byte by byte.
     let number = u128::from_le_bytes(array);
     _mm_set_epi64x((number >> 64) as i64, number as i64)
 }
@@ -128,7 +128,7 @@ pub fn add_64(v: Bytes, w: Bytes) -> Bytes {
 
 #[inline(always)]
 pub fn mul_64(v: Bytes, w: Bytes) -> Bytes {
-    // LLVM leaves out the products of upper halves that it knows to be 0.
+    // rustc 1.95 leaves out the products of upper halves that it knows to be 0.
     let upper = |v| _mm_srli_epi64::<32>(v);
     let middle = _mm_add_epi64(_mm_mul_epu32(upper(v), w), _mm_mul_epu32(v, upper(w)));
     _mm_add_epi64(_mm_mul_epu32(v, w), _mm_slli_epi64::<32>(middle))

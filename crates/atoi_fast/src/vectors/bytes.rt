@@ -234,7 +234,7 @@ pub(crate) fn value_of_lanes(digits: u8x16) -> u64
     requires { Each1 (λ digit. digit < 16) digits }
     ensures { result ≡ value itself digits }
 {
-    // With the mask, LLVM knows that 32 bits are enough for the product.
+    // The mask tells rustc 1.95 that 32 bits are enough for the product.
     let halves = sums_of_8(digits) & u64x2::splat(0xFFFF_FFFF);
     (halves * u64x2::from_array([100_000_000, 1])).reduce_sum()
 }

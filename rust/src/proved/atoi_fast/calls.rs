@@ -62,7 +62,7 @@ fn parse_no_digit<'a, E: Engine, T: Number>(
     //     steps.old steps.new }
 {
     let (minus, body) = take_sign(T::SIGNED, skip_plus, s);
-    // LLVM then leaves out the parser of longer slices.
+    // Of at most one byte, rustc 1.95 leaves out the parser of longer slices.
     whole_with_sign::<E, T>(minus, skip, &body[..body.len().min(1)], steps)
 }
 
@@ -175,7 +175,7 @@ fn whole_short<'a, E: Engine, T: Number>(
     //     (window_of E.table 16 s.now).number s.now }
     // ensures one_step { steps.new ≡ steps.old + 1 }
 {
-    // LLVM joins this cast with the engine's.
+    // Cast as in the engine, so that rustc 1.95 casts once.
     let size = s.len() as u32;
     let window = E::window(s, steps);
     let is_whole = window.len == size;

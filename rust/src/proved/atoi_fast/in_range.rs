@@ -11,8 +11,8 @@ pub(crate) const MOST_IN_WORD: u64 = 1_000_000_000;
 /// No two words of digits spell more.
 pub(crate) const MOST_IN_TWO_WORDS: u64 = 1_000_000_000_000_000_000;
 
-/// Returns the number of this sign and magnitude, if the type has it. The magnitude is at most `most`,
-/// a constant: for a type that has all numbers up to it, LLVM leaves out the test.
+/// Returns the number of this sign and magnitude, if the type has it. The magnitude is at most `most`, a
+/// constant: a type that has all numbers up to it needs no other test.
 #[inline(always)]
 pub(crate) fn number_in_range<T: Number>(most: u64, minus: bool, magnitude: u64) -> Option<T>
     // requires signed { minus ≡ true → T.SIGNED ≡ true }

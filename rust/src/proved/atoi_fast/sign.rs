@@ -16,7 +16,7 @@ pub(crate) fn take_sign(signed: bool, skip_plus: bool, s: &[u8]) -> (bool, &[u8]
     let [first, ..] = s else {
         return (false, s);
     };
-    // Before the `+`: with the sign set on two paths, the compiler would branch on it.
+    // Before the `+`: with the sign set on two paths, rustc 1.95 branches on it for `i128`.
     let minus = signed & (*first == b'-');
     if skip_plus && *first == b'+' {
         return (minus, without_first(s));

@@ -52,7 +52,7 @@ impl Engine for Vectors {
         steps: &mut Steps,
     ) -> Result<(u64, usize), AtoiSimdError<'a>> {
         steps.tick();
-        // In this order, LLVM puts no jump before long slices.
+        // Long slices first: rustc 1.95 then puts no jump before them.
         if s.len() >= 16 {
             let first = load_lanes(s);
             let mask = non_digits(first);

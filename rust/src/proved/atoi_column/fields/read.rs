@@ -100,7 +100,7 @@ impl<'a, T: Parse> Fields<'a, T> {
         //     result }
         // ensures stops { result < most → BeginsWithNoNumber (field_items_left T.int_type self.new) }
     {
-        // The compiler makes a loop for each case.
+        // Each case has a loop of its own, since `read_part` is inlined.
         if guess.mostly_one_digit {
             self.read_part::<false>(values, from, most, NO_GUESS)
         } else if T::SIGNED && guess.have_minus {
@@ -124,7 +124,7 @@ impl<'a, T: Parse> Fields<'a, T> {
             has_return: false,
             ..guess
         };
-        // The compiler makes a loop for each case.
+        // Each case has a loop of its own, since `read_part` is inlined.
         match guess.width {
             0..=1 => 0,
             _ if fits_word(guess) => self.read_part::<true>(values, from, room, guess),
@@ -151,7 +151,7 @@ impl<'a, T: Parse> Fields<'a, T> {
         // ensures stops { IsFalse GUESSES → result < most
         //     → BeginsWithNoNumber (field_items_left T.int_type self.new) }
     {
-        // The compiler knows that this is an end within `values`.
+        // The smaller one of both, so that rustc 1.95 tests no index below it.
         let end = values.len().min(from + most);
         // While numbers are written to memory, these fields stay in registers.
         let mut fields = Fields { ..*self };
