@@ -25,7 +25,8 @@ after_field is_lines separator (byte ∷ bytes) =
     if byte == separator then Some bytes else (if is_lines && byte == 13 then after_separator separator bytes else None)
 
 -- `parse` returns `number` for the first field of `rest`, and `following` comes after the field.
-pub record IsAcceptedField (int : IntType) (is_lines : Bool) (separator : ℕ) (rest : List ℕ) (number : ℤ) (following : List ℕ) : Type 0 where
+pub record IsAcceptedField (int : IntType) (is_lines : Bool) (separator : ℕ) (rest : List ℕ)
+    (number : ℤ) (following : List ℕ) : Type 0 where
   pub accepted : parse_answer int true true (first_text (cut_of is_lines) separator rest) ≡ Ok number
   pub after : following ≡ after_first (λ byte. byte == separator) rest
 

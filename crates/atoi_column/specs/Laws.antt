@@ -14,7 +14,8 @@ use Rattle.atoi_column.specs.FieldItems.{BadField, FieldsLeft, after_first_field
 
 -- `whole` accepts the first field of `rest` exactly if `prefix` finds a number that ends with it,
 -- with the same value. No found number extends past the field.
-pub record FieldIsPrefix (whole : List ℕ → Result ℤ Refusal) (prefix : List ℕ → Result (ℤ × ℕ) Refusal) (separator : ℕ) (rest : List ℕ) : Type 0 where
+pub record FieldIsPrefix (whole : List ℕ → Result ℤ Refusal) (prefix : List ℕ → Result (ℤ × ℕ) Refusal)
+    (separator : ℕ) (rest : List ℕ) : Type 0 where
   pub to_prefix : (value : ℤ) → whole (before_first (λ byte. byte == separator) rest) ≡ Ok value
       → prefix rest ≡ Ok (value, position_or_len (λ byte. byte == separator) rest)
   pub to_field : (value : ℤ) → prefix rest ≡ Ok (value, position_or_len (λ byte. byte == separator) rest)
@@ -59,7 +60,8 @@ pub record HasItems (int : IntType) (separator : ℕ) (input : List ℕ) : Type 
   pub fields : fields_of separator input ≡ texts ++ others
   pub written : AllZip (TextWrites int true) texts numbers
   pub items : items_of int separator input ≡ map Ok numbers ++ last
-  pub end : EndsItems int (parse_prefix_answer int true true) (length texts) (place_after texts) (drop (place_after texts) input) others last
+  pub end : EndsItems int (parse_prefix_answer int true true)
+      (length texts) (place_after texts) (drop (place_after texts) input) others last
 
 -- `HasItems` holds for every input, with any byte as the separator.
 abbrev pub TextsAndItems : IntType → Type 0

@@ -109,14 +109,16 @@ module _ (int : IntType) (is_lines : Bool) (separator : ℕ) (input : List ℕ) 
       elim (leb_tells (length rest) 0) [
         | inl none ↦
             let nothing : rest ≡ [] = nil_from_length rest (omega (arith, none.1)) in
-            let empty : left index rest ≡ [] = field_items_left-empty int (left_before is_lines separator index (length input) rest) nothing in
+            let empty : left index rest ≡ [] =
+            field_items_left-empty int (left_before is_lines separator index (length input) rest) nothing in
             absurd (no_error before after bad (sym empty ∙ same))
         | inr some ↦ some.1
       ]
 
   -- The first item, and what is left after it.
   first_step : (index : ℕ) (rest : List ℕ) → 0 < length rest → length rest ≤ length input
-      → left index rest ≡ first_item int (left_before is_lines separator index (length input) rest) ∷ left (index + 1) (after_first ends rest)
+      → left index rest ≡ first_item int (left_before is_lines separator index (length input) rest)
+      ∷ left (index + 1) (after_first ends rest)
   first_step index rest some within =
       (first_field_step int {is_lines = is_lines} {separator = separator} {index = index}
       {end = length input} {rest = rest} refl some within refl refl).0

@@ -104,7 +104,8 @@ module _ {int : IntType} {separator : ℕ} {rest : List ℕ} {number : ℤ} {cou
   abbrev ends : ℕ → Bool
   ends byte = byte == separator
 
-  accepted_at_end : {following : List ℕ} → drop count rest ≡ [] → following ≡ [] → IsAcceptedField int is_lines separator rest number following
+  accepted_at_end : {following : List ℕ} → drop count rest ≡ [] → following ≡ []
+      → IsAcceptedField int is_lines separator rest number following
   accepted_at_end cut none =
       let within = has.within in
       let left = prefix_len-le-length (λ byte. not (ends byte)) rest in

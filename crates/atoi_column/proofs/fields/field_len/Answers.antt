@@ -1,3 +1,5 @@
+-- `take_while` yields the bytes before the first separator, so their count is the length of the field: the lemmas of
+-- std say what each of the three iterators yields.
 use Rattle.std.proofs.Common.{◌==◌, not, ◌∙◌, rules, tests}
 use Rattle.std.proofs.lemmas.Iterator.{YieldsList-from_slice}
 use Rattle.std.proofs.lemmas.Iterator.Consumers.{count_from_yields_List}

@@ -13,7 +13,8 @@ returns-in_ok-value-in-len2-up g c = λ separates.
     let parsed = ok_is c.parse.result (sym c.ok.ensures.value ∙ c.in_ok-value-in-len2-up.was) in
     let written = text_with_plus (IfOk-at_ok _ parsed c.parse.ensures.number) in
     record {
-      prefix = one_digit_prefix rest c.fields_are_prefixes.ensures c.prefix_is_whole.ensures c.accepted_texts.ensures separates written ends;
+      prefix = one_digit_prefix rest c.fields_are_prefixes.ensures c.prefix_is_whole.ensures c.accepted_texts.ensures
+          separates written ends;
       written = written;
       ends = rw (take_rest rest 2) ends;
     }

@@ -16,7 +16,8 @@ returns c =
     let loaded = c.in_ok-word.ensures.word in
     let bytes : (i : ℕ) → get_or c.args.s.now i 0 < 256 = λ i. (c.type_inv.s i).fits in
     let run = unmarked c.args.width c.args.end_len r.some r.few c.args.end_word word _ (omega arith) r.fits refl _ _ refl refl none in
-    let sum = shifted_value c.args.width c.args.end_len r.some r.few c.args.end_word word _ (omega arith) r.fits refl _ _ refl refl none _ refl in
+    let sum =
+    shifted_value c.args.width c.args.end_len r.some r.few c.args.end_word word _ (omega arith) r.fits refl _ _ refl refl none _ refl in
     let found = value_in_word c.args.width c.args.s.now bytes word _ loaded run (c.sum_of_shifted.ensures.sum ∙ sum.1) in
     record {
       run = found.0;

@@ -28,7 +28,8 @@ has_more c =
     omega (arith, more, ltb-true 0 _ (sym c.starts_with_digit_of_four.ensures ∙ c.if-not-starts_with_digit_of_four.false))
 
 -- How many digits follow the first 16, at most 4.
-following : (c : After-leading_digits_of_four-more) → let s : List ℕ = c.args.s.now in let more : ℕ = c.leading_digits_of_four-more.result in
+following : (c : After-leading_digits_of_four-more) → let s : List ℕ = c.args.s.now in
+    let more : ℕ = c.leading_digits_of_four-more.result in
     (more ≡ min 4 (run_len decimal_table s - 16))
     × ((len low : ℕ) → len ≤ more → low ≡ low_value (low_bytes len c.load_four_from-word.result)
     → c.args.high * 10 ^ len + low ≡ value decimal_table (take (16 + len) s))

@@ -24,7 +24,11 @@ loaded c =
 
 pub returns-then-leading_digits_of_four-lt4 : goal.returns-then-leading_digits_of_four-lt4
 returns-then-leading_digits_of_four-lt4 c =
-    omega (arith, (loaded (goal.at.returns-then-leading_digits_of_four-lt4 c).After-load_last_four-word).1, c.leading_digits_of_four.ensures.len)
+    omega (
+      arith,
+      (loaded (goal.at.returns-then-leading_digits_of_four-lt4 c).After-load_last_four-word).1,
+      c.leading_digits_of_four.ensures.len,
+    )
 
 pub returns : goal.returns
 returns c =

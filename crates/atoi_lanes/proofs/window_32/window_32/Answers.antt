@@ -1,4 +1,5 @@
--- The lanes count what the bytes do, and both halves join to their number.
+-- The lanes hold the first 32 bytes, filled up with bytes that are no digits, so they count what the bytes do. Of the
+-- `len` digits, `len - more` are in the first half and `more` in the second, and both numbers join to the window's.
 use Rattle.std.proofs.Common.{◌≡◌, ℕ, ◌+◌, ◌-◌, ◌*◌, ◌^◌, ◌≤◌, Fits, w8, List, length, take, drop, sym, ap, ap₂, subst, ◌∙◌, arith}
 use Rattle.std.proofs.lemmas.List.Sums.{prefix_len-le-length}
 use Rattle.atoi_core.specs.Digit.{decimal_table, is_digit}

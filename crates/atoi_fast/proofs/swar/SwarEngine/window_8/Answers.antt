@@ -17,7 +17,8 @@ returns-then-len-ne8-clause-window c =
 
 pub returns-clause-window : goal.returns-clause-window
 returns-clause-window c =
-    let full : c.zeroes_of.result ≡ (if c.leading_digits-len.result == 8 then zeros decimal_table (low_bytes 8 c.load_full-word.result) else 0) =
+    let full : c.zeroes_of.result
+    ≡ (if c.leading_digits-len.result == 8 then zeros decimal_table (low_bytes 8 c.load_full-word.result) else 0) =
     grind (arith, nat_tests, c.zeroes_of.ensures.zeroes) in
     loaded_window c.args.s.now (λ i. (c.type_inv.s i).fits) _ _ c.load_full-word.ensures
     c.leading_digits-len.ensures.len full c.value_of.ensures.sum
