@@ -15,4 +15,5 @@ pub mod VectorAnswers
 pub mod ShortNumbers
 pub mod SignedWords
 pub mod ShortPrefixes
+pub mod FirstBytes
 pub mod ShortSlices

@@ -9,6 +9,7 @@ mod digits;
 mod in_range;
 mod loads;
 mod one_byte;
+mod quick;
 mod short_prefix;
 mod short_slice;
 mod sign;
@@ -16,5 +17,6 @@ mod swar;
 mod vectors;
 
 pub use crate::calls::{parse_prefix_text, parse_text, whole_neg, whole_pos};
+pub use crate::quick::{one_digit, quick_prefix};
 pub use crate::swar::Swar;
 pub use crate::vectors::Vectors;

@@ -21,16 +21,17 @@ pub(crate) fn short_prefix<T: Number>(s: &[u8], steps: &mut Steps) -> Option<(T,
 {
     steps.tick();
     if T::SIGNED {
-        signed_prefix(s)
+        prefix_of_words(s)
     } else {
         unsigned_prefix(s)
     }
 }
 
+/// Returns the number at the start of `s` and its length, if that is below 16 or, for `i64` and `u64`, at most 19
+/// digits. Others may be `None`, too.
 #[inline(always)]
-fn signed_prefix<T: Number>(s: &[u8]) -> Option<(T, usize)>
-    requires signed { T.SIGNED ≡ true }
-    requires enough { 16 ≤ length s.now }
+pub(crate) fn prefix_of_words<T: Number>(s: &[u8]) -> Option<(T, usize)>
+    requires { 16 ≤ length s.now }
     ensures answer { IfSome result (λ found. BeginsWithNumber T.int_type s.now (T.number found.0) found.1) }
     ensures short { IfSome result (λ found. found.1 ≤ 20) }
 {
@@ -48,7 +49,7 @@ fn signed_prefix<T: Number>(s: &[u8]) -> Option<(T, usize)>
         }
         return Some((T::from_parts(false, u128::from(digit)), 1));
     }
-    let minus = lowest_byte(word) == b'-';
+    let minus = T::SIGNED & (lowest_byte(word) == b'-');
     // The digit of a `-` is 0, and takes the borrow back.
     let digits = below.wrapping_add(3 * u64::from(minus));
     if lowest_byte(digits) > 9 {

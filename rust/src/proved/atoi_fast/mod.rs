@@ -9,6 +9,7 @@ mod digits;
 mod in_range;
 mod loads;
 mod one_byte;
+mod quick;
 mod short_prefix;
 mod short_slice;
 mod sign;
@@ -16,5 +17,6 @@ mod swar;
 #[cfg(feature = "lanes")] mod vectors;
 
 pub use crate::proved::atoi_fast::calls::{parse_prefix_text, parse_text, whole_neg, whole_pos};
+pub use crate::proved::atoi_fast::quick::{one_digit, quick_prefix};
 pub use crate::proved::atoi_fast::swar::Swar;
 #[cfg(feature = "lanes")] pub use crate::proved::atoi_fast::vectors::Vectors;
