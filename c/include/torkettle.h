@@ -1,3 +1,4 @@
+/* Made by .ci/translate from the proved sources and c/interface. Do not edit. */
 /*
  * Torkettle: decimal integers from text, for C99 and C++11.
  *
@@ -7,7 +8,8 @@
  * A text consists of the `length` bytes at `text`. It needs no terminator, and no other byte is read. If `length` is 0,
  * the text is empty, and `text` may be NULL.
  *
- * The functions that are inline read some numbers of up to 15 digits themselves, without a call of the library.
+ * To use it, compile torkettle.c with your program, or link with a library of it. What is inline reads a number of one
+ * digit and, at the start of a longer text, most numbers itself, without a call.
  *
  * No function allocates memory or keeps state. You may call each of them from any thread and from a signal handler.
  * The time that a call takes is at most proportional to `length`.
@@ -33,41 +35,44 @@
 #include <stddef.h>
 #include <stdint.h>
 
-/* These compilers let a symbol have another name than its function. They have what this needs in -std=gnu89, too. */
-#if !defined __GNUC__ && !defined __clang__
-#error "torkettle.h needs gcc or clang"
-#elif !defined __cplusplus && defined __STRICT_ANSI__ && (!defined __STDC_VERSION__ || __STDC_VERSION__ < 199901L)
+#if !defined __cplusplus && defined __STRICT_ANSI__ && (!defined __STDC_VERSION__ || __STDC_VERSION__ < 199901L)
 #error "torkettle.h needs C99 or later"
-#elif defined __cplusplus && __cplusplus < 201103L
+#elif defined __cplusplus && __cplusplus < 201103L && !defined _MSC_VER
 #error "torkettle.h needs C++11 or later"
 #elif SIZE_MAX < UINT64_MAX
 #error "torkettle.h needs a 64-bit target"
 #else
 
 #include <limits.h>
-#include <string.h>
+#ifdef _MSC_VER
+#include <intrin.h>
+#endif
 
 #ifdef __cplusplus
 #define TORKETTLE_NOEXCEPT noexcept
-#define TORKETTLE_CAST_(type, value) static_cast<type>(value)
+#define TORKETTLE_BYTES_(text) reinterpret_cast<const uint8_t *>(text)
 extern "C" {
 #else
 #include <stdbool.h>
 #define TORKETTLE_NOEXCEPT
-#define TORKETTLE_CAST_(type, value) ((type)(value))
+#define TORKETTLE_BYTES_(text) ((const uint8_t *)(text))
 #endif
-
-/* Begins an inline function that -O2 would call, as it is long. */
-#define TORKETTLE_INLINE_ static inline __attribute__((__always_inline__))
 
 /* The version of this header. torkettle_version returns the version of the library. */
 #define TORKETTLE_VERSION "0.1.0"
 
-/* Ends a declaration. A symbol of the library has the version of its interface, so a process may load two versions. */
-#define TORKETTLE_SYMBOL_(name)                                                                                        \
-    TORKETTLE_NOEXCEPT __asm__(TORKETTLE_PREFIX_(__USER_LABEL_PREFIX__) "torkettle_0_1_" #name)
+/*
+ * Ends a declaration. With gcc and clang, a symbol of the library has the version of its interface, so that a process
+ * may load two versions.
+ */
+#if defined __GNUC__ || defined __clang__
+#define TK_SYMBOL(name) __asm__(TORKETTLE_PREFIX_(__USER_LABEL_PREFIX__) "torkettle_0_1_" #name)
 #define TORKETTLE_PREFIX_(prefix) TORKETTLE_TEXT_(prefix)
 #define TORKETTLE_TEXT_(prefix) #prefix
+#else
+#define TK_SYMBOL(name)
+#endif
+#define TORKETTLE_SYMBOL_(name) TORKETTLE_NOEXCEPT TK_SYMBOL(name)
 
 /*
  * The values of the argument `flags`: 0, one of these, or both with `|`. Other bits have no effect.
@@ -143,6 +148,14 @@ typedef struct torkettle_error {
  *
  * Parse a text again and return the error of torkettle_parse_i64 or torkettle_parse_prefix_i64. If there is none, its
  * status is TORKETTLE_OK.
+ *
+ *
+ * torkettle_status torkettle_parse_pos_i64(const char *text, size_t length, unsigned flags, int64_t *value);
+ * torkettle_status torkettle_parse_prefix_pos_i64(const char *text, size_t length, unsigned flags, int64_t *value,
+ *                                                 size_t *count);
+ *
+ * Do the same as torkettle_parse_i64 and torkettle_parse_prefix_i64 for digits without a sign, also for a signed type.
+ * TORKETTLE_SKIP_PLUS has no effect.
  *
  *
  * bool torkettle_canonical_i64(const char *text, size_t length, int64_t *value);
@@ -256,99 +269,2119 @@ typedef struct torkettle_error {
  * };
  *
  *
- * What is described neither above nor below is internal and may change in a minor version, such as the functions whose
- * names begin with torkettle_whole_, torkettle_prefix_ and torkettle_next_, one for each choice of flags, one for
- * canonical numbers, and one for JSON. They return a number and its length in two registers. The length is 0 if there
- * is no number. The length that torkettle_next_field_ returns is 1 for a number, and 2 for a bad field. If `flags` is a
- * constant, the compiler keeps only one call.
+ * What is described neither above nor below is internal and may change in a minor version: all names that begin with
+ * tk_, and functions such as those whose names begin with torkettle_whole_, torkettle_prefix_ and torkettle_next_. They
+ * return a number and its length in two registers. The length is 0 if there is no number. The length that
+ * torkettle_next_field_ returns is 1 for a number, and 2 for a bad field.
  *
- * A whole text of one digit is read here, because a call would take most of its time. So is a number at the start of a
- * text if it has one digit or, in a text of more than 16 bytes, up to 15.
+ * For other languages, torkettle_0_1_parse_i64 and torkettle_0_1_parse_prefix_i64 are functions of the shared library.
  */
-static inline bool torkettle_is_digit(char byte) TORKETTLE_NOEXCEPT
+
+/* ---- Made by .ci/translate from the proved sources, up to the next such line. */
+
+/* A cast, and a value of a struct, in C and in C++. */
+#ifdef __cplusplus
+#define TK_CAST(type, value) static_cast<type>(value)
+#define TK_MAKE(type, ...) (type{__VA_ARGS__})
+#define TK_TEXT(text) tk_bytes_of(reinterpret_cast<const uint8_t *>(text), sizeof(text) - 1)
+#else
+#define TK_CAST(type, value) ((type)(value))
+#define TK_MAKE(type, ...) ((type){__VA_ARGS__})
+#define TK_TEXT(text) tk_bytes_of((const uint8_t *)(text), sizeof(text) - 1)
+#endif
+
+/* What a compiler has to do with a function, as the attributes of the source say it. */
+#if defined __GNUC__ || defined __clang__
+#if defined __OPTIMIZE__ && !defined __OPTIMIZE_SIZE__
+#define TK_INLINE static inline __attribute__((__always_inline__, __unused__))
+#define TK_HINTED static inline __attribute__((__always_inline__, __unused__))
+#else
+#define TK_INLINE static inline __attribute__((__unused__))
+#define TK_HINTED static inline __attribute__((__unused__))
+#endif
+#define TK_FAR __attribute__((__noinline__))
+#define TK_FAR_COLD __attribute__((__noinline__, __cold__))
+#define TK_NOINLINE static __attribute__((__noinline__, __unused__))
+#define TK_COLD static __attribute__((__noinline__, __cold__, __unused__))
+#elif defined _MSC_VER
+#define TK_INLINE static __forceinline
+#define TK_HINTED static __forceinline
+#define TK_FAR __declspec(noinline)
+#define TK_FAR_COLD __declspec(noinline)
+#define TK_NOINLINE static __declspec(noinline)
+#define TK_COLD static __declspec(noinline)
+#else
+#define TK_INLINE static inline
+#define TK_HINTED static inline
+#define TK_FAR
+#define TK_FAR_COLD
+#define TK_NOINLINE static inline
+#define TK_COLD static inline
+#endif
+
+/* A condition that is proved to hold. A test may define this as `assert`. */
+#ifndef TORKETTLE_CHECK
+#define TORKETTLE_CHECK(condition) ((void)0)
+#endif
+
+/* An index of so many elements. */
+TK_INLINE size_t tk_index(size_t index, size_t len)
+{
+    TORKETTLE_CHECK(index < len);
+    (void)len;
+    return index;
+}
+
+TK_INLINE bool tk_is_digit(uint8_t byte)
 {
     return '0' <= byte && byte <= '9';
 }
 
-/* Whether a whole text is one digit. */
-static inline bool torkettle_whole_is_digit(const char *text, size_t length) TORKETTLE_NOEXCEPT
+/* How many low bits of a word are zero. */
+TK_INLINE uint32_t tk_trailing_zeros_64(uint64_t word)
 {
-    return length == 1 && torkettle_is_digit(text[0]);
+#if defined __GNUC__ || defined __clang__
+    return word == 0 ? 64 : TK_CAST(uint32_t, __builtin_ctzll(word));
+#elif defined _MSC_VER && (defined _M_X64 || defined _M_ARM64)
+    unsigned long place;
+    return _BitScanForward64(&place, word) ? TK_CAST(uint32_t, place) : 64;
+#else
+    uint32_t count = 0;
+    while (count < 64 && (word >> count & 1) == 0) {
+        count++;
+    }
+    return count;
+#endif
 }
 
-/* Whether the number at the start of a text is one digit. The second byte is first, as a minus is hard to predict. */
-static inline bool torkettle_prefix_is_digit(const char *text, size_t length) TORKETTLE_NOEXCEPT
+TK_INLINE uint32_t tk_trailing_zeros_32(uint32_t word)
 {
-    if (length > 1 && torkettle_is_digit(text[1]))
-        return false;
-    return length > 0 && torkettle_is_digit(text[0]);
+    return tk_trailing_zeros_64(word | UINT64_C(1) << 32);
+}
+
+/* Words of bytes, the first one lowest, on every processor. Compilers make one load of it. */
+TK_INLINE uint16_t tk_load_16(const uint8_t *bytes)
+{
+    return TK_CAST(uint16_t, bytes[0] | bytes[1] << 8);
+}
+
+TK_INLINE uint32_t tk_load_32(const uint8_t *bytes)
+{
+#if defined __GNUC__ && __BYTE_ORDER__ == __ORDER_LITTLE_ENDIAN__
+    uint32_t word;
+    __builtin_memcpy(&word, bytes, sizeof word);
+    return word;
+#else
+    return TK_CAST(uint32_t, tk_load_16(bytes)) | TK_CAST(uint32_t, tk_load_16(bytes + 2)) << 16;
+#endif
+}
+
+TK_INLINE uint64_t tk_load_64(const uint8_t *bytes)
+{
+#if defined __GNUC__ && __BYTE_ORDER__ == __ORDER_LITTLE_ENDIAN__
+    uint64_t word;
+    __builtin_memcpy(&word, bytes, sizeof word);
+    return word;
+#else
+    return TK_CAST(uint64_t, tk_load_32(bytes)) | TK_CAST(uint64_t, tk_load_32(bytes + 4)) << 32;
+#endif
+}
+
+/* Numbers of 128 bits. Compilers without them compute with two words, and signed ones are in two's complement. */
+#if defined __SIZEOF_INT128__ && !defined TORKETTLE_NO_INT128
+__extension__ typedef __int128 tk_i128;
+__extension__ typedef unsigned __int128 tk_u128;
+
+TK_INLINE tk_u128 tk_u128_make(uint64_t high, uint64_t low)
+{
+    return TK_CAST(tk_u128, high) << 64 | low;
+}
+
+TK_INLINE tk_u128 tk_u128_of(uint64_t value)
+{
+    return value;
+}
+
+TK_INLINE uint64_t tk_u128_low(tk_u128 value)
+{
+    return TK_CAST(uint64_t, value);
+}
+
+TK_INLINE bool tk_u128_less(tk_u128 a, tk_u128 b)
+{
+    return a < b;
+}
+
+TK_INLINE tk_u128 tk_u128_wrapping_add(tk_u128 a, tk_u128 b)
+{
+    return a + b;
+}
+
+TK_INLINE tk_u128 tk_u128_wrapping_sub(tk_u128 a, tk_u128 b)
+{
+    return a - b;
+}
+
+TK_INLINE tk_u128 tk_u128_wrapping_mul(tk_u128 a, tk_u128 b)
+{
+    return a * b;
+}
+
+TK_INLINE bool tk_u128_product_fits(tk_u128 a, tk_u128 b)
+{
+    return b == 0 || a <= ~TK_CAST(tk_u128, 0) / b;
+}
+
+TK_INLINE tk_u128 tk_u128_shift_left(tk_u128 a, uint64_t count)
+{
+    return a << count;
+}
+
+TK_INLINE tk_u128 tk_u128_shift_right(tk_u128 a, uint64_t count)
+{
+    return a >> count;
+}
+
+TK_INLINE tk_i128 tk_u128_as_i128(tk_u128 value)
+{
+    return TK_CAST(tk_i128, value);
+}
+
+TK_INLINE tk_u128 tk_i128_as_u128(tk_i128 value)
+{
+    return TK_CAST(tk_u128, value);
+}
+#else
+typedef struct tk_u128 {
+    uint64_t low;
+    uint64_t high;
+} tk_u128;
+
+typedef struct tk_i128 {
+    tk_u128 bits;
+} tk_i128;
+
+TK_INLINE tk_u128 tk_u128_make(uint64_t high, uint64_t low)
+{
+    return TK_MAKE(tk_u128, low, high);
+}
+
+TK_INLINE tk_u128 tk_u128_of(uint64_t value)
+{
+    return TK_MAKE(tk_u128, value, 0);
+}
+
+TK_INLINE uint64_t tk_u128_low(tk_u128 value)
+{
+    return value.low;
+}
+
+TK_INLINE bool tk_u128_less(tk_u128 a, tk_u128 b)
+{
+    return a.high < b.high || (a.high == b.high && a.low < b.low);
+}
+
+TK_INLINE tk_u128 tk_u128_wrapping_add(tk_u128 a, tk_u128 b)
+{
+    uint64_t low = a.low + b.low;
+    return TK_MAKE(tk_u128, low, a.high + b.high + (low < a.low));
+}
+
+TK_INLINE tk_u128 tk_u128_wrapping_sub(tk_u128 a, tk_u128 b)
+{
+    return TK_MAKE(tk_u128, a.low - b.low, a.high - b.high - (a.low < b.low));
+}
+
+/* The product of two words, by halves. */
+TK_INLINE tk_u128 tk_u128_of_words(uint64_t a, uint64_t b)
+{
+    uint64_t a_low = a & 0xFFFFFFFF, a_high = a >> 32, b_low = b & 0xFFFFFFFF, b_high = b >> 32;
+    uint64_t low = a_low * b_low;
+    uint64_t middle = a_high * b_low + (low >> 32);
+    uint64_t other = a_low * b_high + (middle & 0xFFFFFFFF);
+    return TK_MAKE(tk_u128, other << 32 | (low & 0xFFFFFFFF), a_high * b_high + (middle >> 32) + (other >> 32));
+}
+
+TK_INLINE tk_u128 tk_u128_wrapping_mul(tk_u128 a, tk_u128 b)
+{
+    tk_u128 product = tk_u128_of_words(a.low, b.low);
+    return TK_MAKE(tk_u128, product.low, product.high + a.high * b.low + a.low * b.high);
+}
+
+TK_INLINE bool tk_u128_product_fits(tk_u128 a, tk_u128 b)
+{
+    tk_u128 cross = tk_u128_wrapping_add(tk_u128_of_words(a.high, b.low), tk_u128_of_words(a.low, b.high));
+    tk_u128 low = tk_u128_of_words(a.low, b.low);
+    return (a.high == 0 || b.high == 0) && cross.high == 0 && low.high + cross.low >= low.high;
+}
+
+TK_INLINE tk_u128 tk_u128_shift_left(tk_u128 a, uint64_t count)
+{
+    if (count >= 64) {
+        return TK_MAKE(tk_u128, 0, a.low << (count - 64));
+    }
+    return count == 0 ? a : TK_MAKE(tk_u128, a.low << count, a.high << count | a.low >> (64 - count));
+}
+
+TK_INLINE tk_u128 tk_u128_shift_right(tk_u128 a, uint64_t count)
+{
+    if (count >= 64) {
+        return TK_MAKE(tk_u128, a.high >> (count - 64), 0);
+    }
+    return count == 0 ? a : TK_MAKE(tk_u128, a.low >> count | a.high << (64 - count), a.high >> count);
+}
+
+TK_INLINE tk_i128 tk_u128_as_i128(tk_u128 value)
+{
+    return TK_MAKE(tk_i128, value);
+}
+
+TK_INLINE tk_u128 tk_i128_as_u128(tk_i128 value)
+{
+    return value.bits;
+}
+#endif
+
+TK_INLINE tk_u128 tk_u128_add(tk_u128 a, tk_u128 b)
+{
+    TORKETTLE_CHECK(!tk_u128_less(tk_u128_wrapping_add(a, b), a));
+    return tk_u128_wrapping_add(a, b);
+}
+
+TK_INLINE tk_u128 tk_u128_sub(tk_u128 a, tk_u128 b)
+{
+    TORKETTLE_CHECK(!tk_u128_less(a, b));
+    return tk_u128_wrapping_sub(a, b);
+}
+
+TK_INLINE tk_u128 tk_u128_mul(tk_u128 a, tk_u128 b)
+{
+    TORKETTLE_CHECK(tk_u128_product_fits(a, b));
+    return tk_u128_wrapping_mul(a, b);
+}
+
+TK_INLINE uint64_t tk_u128_high(tk_u128 value)
+{
+    return tk_u128_low(tk_u128_shift_right(value, 64));
+}
+
+TK_INLINE bool tk_u128_equal(tk_u128 a, tk_u128 b)
+{
+    return tk_u128_low(a) == tk_u128_low(b) && tk_u128_high(a) == tk_u128_high(b);
+}
+
+TK_INLINE tk_u128 tk_u128_not(tk_u128 a)
+{
+    return tk_u128_make(~tk_u128_high(a), ~tk_u128_low(a));
+}
+
+TK_INLINE tk_u128 tk_u128_and(tk_u128 a, tk_u128 b)
+{
+    return tk_u128_make(tk_u128_high(a) & tk_u128_high(b), tk_u128_low(a) & tk_u128_low(b));
+}
+
+TK_INLINE tk_u128 tk_u128_or(tk_u128 a, tk_u128 b)
+{
+    return tk_u128_make(tk_u128_high(a) | tk_u128_high(b), tk_u128_low(a) | tk_u128_low(b));
+}
+
+TK_INLINE tk_u128 tk_u128_xor(tk_u128 a, tk_u128 b)
+{
+    return tk_u128_make(tk_u128_high(a) ^ tk_u128_high(b), tk_u128_low(a) ^ tk_u128_low(b));
+}
+
+TK_INLINE tk_i128 tk_i128_make(uint64_t high, uint64_t low)
+{
+    return tk_u128_as_i128(tk_u128_make(high, low));
+}
+
+TK_INLINE tk_i128 tk_i128_of(uint64_t value)
+{
+    return tk_u128_as_i128(tk_u128_of(value));
+}
+
+TK_INLINE uint64_t tk_i128_low(tk_i128 value)
+{
+    return tk_u128_low(tk_i128_as_u128(value));
+}
+
+TK_INLINE bool tk_i128_less(tk_i128 a, tk_i128 b)
+{
+    tk_u128 sign = tk_u128_make(UINT64_C(0x8000000000000000), 0);
+    return tk_u128_less(tk_u128_xor(tk_i128_as_u128(a), sign), tk_u128_xor(tk_i128_as_u128(b), sign));
+}
+
+TK_INLINE bool tk_i128_equal(tk_i128 a, tk_i128 b)
+{
+    return tk_u128_equal(tk_i128_as_u128(a), tk_i128_as_u128(b));
+}
+
+TK_INLINE tk_i128 tk_i128_sub(tk_i128 a, tk_i128 b)
+{
+    return tk_u128_as_i128(tk_u128_wrapping_sub(tk_i128_as_u128(a), tk_i128_as_u128(b)));
+}
+
+TK_INLINE tk_i128 tk_i128_mul(tk_i128 a, tk_i128 b)
+{
+    return tk_u128_as_i128(tk_u128_wrapping_mul(tk_i128_as_u128(a), tk_i128_as_u128(b)));
+}
+
+TK_INLINE tk_i128 tk_i128_negate(tk_i128 a)
+{
+    return tk_u128_as_i128(tk_u128_wrapping_sub(tk_u128_of(0), tk_i128_as_u128(a)));
+}
+
+TK_INLINE tk_u128 tk_i128_unsigned_abs(tk_i128 a)
+{
+    return tk_i128_as_u128(tk_i128_less(a, tk_i128_of(0)) ? tk_i128_negate(a) : a);
+}
+
+typedef struct tk_bytes {
+    const uint8_t *at;
+    size_t len;
+} tk_bytes;
+
+TK_INLINE tk_bytes tk_bytes_of(const uint8_t *at, size_t len)
+{
+    return TK_MAKE(tk_bytes, at, len);
+}
+
+typedef struct tk_pair_i64_size {
+    int64_t first;
+    size_t second;
+} tk_pair_i64_size;
+
+TK_INLINE tk_pair_i64_size tk_new_pair_i64_size(int64_t first, size_t second)
+{
+    return TK_MAKE(tk_pair_i64_size, first, second);
+}
+
+typedef struct tk_option_pair_i64_size {
+    bool is_some;
+    tk_pair_i64_size value;
+} tk_option_pair_i64_size;
+
+TK_INLINE tk_option_pair_i64_size tk_some_pair_i64_size(tk_pair_i64_size value)
+{
+    return TK_MAKE(tk_option_pair_i64_size, true, value);
+}
+
+TK_INLINE tk_option_pair_i64_size tk_none_pair_i64_size(void)
+{
+    return TK_MAKE(tk_option_pair_i64_size, false, tk_new_pair_i64_size(0, 0));
+}
+
+typedef struct tk_pair_u64_size {
+    uint64_t first;
+    size_t second;
+} tk_pair_u64_size;
+
+TK_INLINE tk_pair_u64_size tk_new_pair_u64_size(uint64_t first, size_t second)
+{
+    return TK_MAKE(tk_pair_u64_size, first, second);
+}
+
+typedef struct tk_option_pair_u64_size {
+    bool is_some;
+    tk_pair_u64_size value;
+} tk_option_pair_u64_size;
+
+TK_INLINE tk_option_pair_u64_size tk_some_pair_u64_size(tk_pair_u64_size value)
+{
+    return TK_MAKE(tk_option_pair_u64_size, true, value);
+}
+
+TK_INLINE tk_option_pair_u64_size tk_none_pair_u64_size(void)
+{
+    return TK_MAKE(tk_option_pair_u64_size, false, tk_new_pair_u64_size(0, 0));
+}
+
+typedef struct tk_option_i8 {
+    bool is_some;
+    int8_t value;
+} tk_option_i8;
+
+TK_INLINE tk_option_i8 tk_some_i8(int8_t value)
+{
+    return TK_MAKE(tk_option_i8, true, value);
+}
+
+TK_INLINE tk_option_i8 tk_none_i8(void)
+{
+    return TK_MAKE(tk_option_i8, false, 0);
+}
+
+typedef struct tk_option_u8 {
+    bool is_some;
+    uint8_t value;
+} tk_option_u8;
+
+TK_INLINE tk_option_u8 tk_some_u8(uint8_t value)
+{
+    return TK_MAKE(tk_option_u8, true, value);
+}
+
+TK_INLINE tk_option_u8 tk_none_u8(void)
+{
+    return TK_MAKE(tk_option_u8, false, 0);
+}
+
+typedef struct tk_option_i16 {
+    bool is_some;
+    int16_t value;
+} tk_option_i16;
+
+TK_INLINE tk_option_i16 tk_some_i16(int16_t value)
+{
+    return TK_MAKE(tk_option_i16, true, value);
+}
+
+TK_INLINE tk_option_i16 tk_none_i16(void)
+{
+    return TK_MAKE(tk_option_i16, false, 0);
+}
+
+typedef struct tk_option_u16 {
+    bool is_some;
+    uint16_t value;
+} tk_option_u16;
+
+TK_INLINE tk_option_u16 tk_some_u16(uint16_t value)
+{
+    return TK_MAKE(tk_option_u16, true, value);
+}
+
+TK_INLINE tk_option_u16 tk_none_u16(void)
+{
+    return TK_MAKE(tk_option_u16, false, 0);
+}
+
+typedef struct tk_option_i32 {
+    bool is_some;
+    int32_t value;
+} tk_option_i32;
+
+TK_INLINE tk_option_i32 tk_some_i32(int32_t value)
+{
+    return TK_MAKE(tk_option_i32, true, value);
+}
+
+TK_INLINE tk_option_i32 tk_none_i32(void)
+{
+    return TK_MAKE(tk_option_i32, false, 0);
+}
+
+typedef struct tk_option_u32 {
+    bool is_some;
+    uint32_t value;
+} tk_option_u32;
+
+TK_INLINE tk_option_u32 tk_some_u32(uint32_t value)
+{
+    return TK_MAKE(tk_option_u32, true, value);
+}
+
+TK_INLINE tk_option_u32 tk_none_u32(void)
+{
+    return TK_MAKE(tk_option_u32, false, 0);
+}
+
+typedef struct tk_option_i64 {
+    bool is_some;
+    int64_t value;
+} tk_option_i64;
+
+TK_INLINE tk_option_i64 tk_some_i64(int64_t value)
+{
+    return TK_MAKE(tk_option_i64, true, value);
+}
+
+TK_INLINE tk_option_i64 tk_none_i64(void)
+{
+    return TK_MAKE(tk_option_i64, false, 0);
+}
+
+typedef struct tk_option_u64 {
+    bool is_some;
+    uint64_t value;
+} tk_option_u64;
+
+TK_INLINE tk_option_u64 tk_some_u64(uint64_t value)
+{
+    return TK_MAKE(tk_option_u64, true, value);
+}
+
+TK_INLINE tk_option_u64 tk_none_u64(void)
+{
+    return TK_MAKE(tk_option_u64, false, 0);
+}
+
+typedef struct tk_option_i128 {
+    bool is_some;
+    tk_i128 value;
+} tk_option_i128;
+
+TK_INLINE tk_option_i128 tk_some_i128(tk_i128 value)
+{
+    return TK_MAKE(tk_option_i128, true, value);
+}
+
+TK_INLINE tk_option_i128 tk_none_i128(void)
+{
+    return TK_MAKE(tk_option_i128, false, tk_i128_of(0));
+}
+
+typedef struct tk_option_u128 {
+    bool is_some;
+    tk_u128 value;
+} tk_option_u128;
+
+TK_INLINE tk_option_u128 tk_some_u128(tk_u128 value)
+{
+    return TK_MAKE(tk_option_u128, true, value);
+}
+
+TK_INLINE tk_option_u128 tk_none_u128(void)
+{
+    return TK_MAKE(tk_option_u128, false, tk_u128_of(0));
+}
+
+typedef struct tk_pair_i8_size {
+    int8_t first;
+    size_t second;
+} tk_pair_i8_size;
+
+TK_INLINE tk_pair_i8_size tk_new_pair_i8_size(int8_t first, size_t second)
+{
+    return TK_MAKE(tk_pair_i8_size, first, second);
+}
+
+typedef struct tk_option_pair_i8_size {
+    bool is_some;
+    tk_pair_i8_size value;
+} tk_option_pair_i8_size;
+
+TK_INLINE tk_option_pair_i8_size tk_some_pair_i8_size(tk_pair_i8_size value)
+{
+    return TK_MAKE(tk_option_pair_i8_size, true, value);
+}
+
+TK_INLINE tk_option_pair_i8_size tk_none_pair_i8_size(void)
+{
+    return TK_MAKE(tk_option_pair_i8_size, false, tk_new_pair_i8_size(0, 0));
+}
+
+typedef struct tk_pair_u8_size {
+    uint8_t first;
+    size_t second;
+} tk_pair_u8_size;
+
+TK_INLINE tk_pair_u8_size tk_new_pair_u8_size(uint8_t first, size_t second)
+{
+    return TK_MAKE(tk_pair_u8_size, first, second);
+}
+
+typedef struct tk_option_pair_u8_size {
+    bool is_some;
+    tk_pair_u8_size value;
+} tk_option_pair_u8_size;
+
+TK_INLINE tk_option_pair_u8_size tk_some_pair_u8_size(tk_pair_u8_size value)
+{
+    return TK_MAKE(tk_option_pair_u8_size, true, value);
+}
+
+TK_INLINE tk_option_pair_u8_size tk_none_pair_u8_size(void)
+{
+    return TK_MAKE(tk_option_pair_u8_size, false, tk_new_pair_u8_size(0, 0));
+}
+
+typedef struct tk_pair_i16_size {
+    int16_t first;
+    size_t second;
+} tk_pair_i16_size;
+
+TK_INLINE tk_pair_i16_size tk_new_pair_i16_size(int16_t first, size_t second)
+{
+    return TK_MAKE(tk_pair_i16_size, first, second);
+}
+
+typedef struct tk_option_pair_i16_size {
+    bool is_some;
+    tk_pair_i16_size value;
+} tk_option_pair_i16_size;
+
+TK_INLINE tk_option_pair_i16_size tk_some_pair_i16_size(tk_pair_i16_size value)
+{
+    return TK_MAKE(tk_option_pair_i16_size, true, value);
+}
+
+TK_INLINE tk_option_pair_i16_size tk_none_pair_i16_size(void)
+{
+    return TK_MAKE(tk_option_pair_i16_size, false, tk_new_pair_i16_size(0, 0));
+}
+
+typedef struct tk_pair_u16_size {
+    uint16_t first;
+    size_t second;
+} tk_pair_u16_size;
+
+TK_INLINE tk_pair_u16_size tk_new_pair_u16_size(uint16_t first, size_t second)
+{
+    return TK_MAKE(tk_pair_u16_size, first, second);
+}
+
+typedef struct tk_option_pair_u16_size {
+    bool is_some;
+    tk_pair_u16_size value;
+} tk_option_pair_u16_size;
+
+TK_INLINE tk_option_pair_u16_size tk_some_pair_u16_size(tk_pair_u16_size value)
+{
+    return TK_MAKE(tk_option_pair_u16_size, true, value);
+}
+
+TK_INLINE tk_option_pair_u16_size tk_none_pair_u16_size(void)
+{
+    return TK_MAKE(tk_option_pair_u16_size, false, tk_new_pair_u16_size(0, 0));
+}
+
+typedef struct tk_pair_i32_size {
+    int32_t first;
+    size_t second;
+} tk_pair_i32_size;
+
+TK_INLINE tk_pair_i32_size tk_new_pair_i32_size(int32_t first, size_t second)
+{
+    return TK_MAKE(tk_pair_i32_size, first, second);
+}
+
+typedef struct tk_option_pair_i32_size {
+    bool is_some;
+    tk_pair_i32_size value;
+} tk_option_pair_i32_size;
+
+TK_INLINE tk_option_pair_i32_size tk_some_pair_i32_size(tk_pair_i32_size value)
+{
+    return TK_MAKE(tk_option_pair_i32_size, true, value);
+}
+
+TK_INLINE tk_option_pair_i32_size tk_none_pair_i32_size(void)
+{
+    return TK_MAKE(tk_option_pair_i32_size, false, tk_new_pair_i32_size(0, 0));
+}
+
+typedef struct tk_pair_u32_size {
+    uint32_t first;
+    size_t second;
+} tk_pair_u32_size;
+
+TK_INLINE tk_pair_u32_size tk_new_pair_u32_size(uint32_t first, size_t second)
+{
+    return TK_MAKE(tk_pair_u32_size, first, second);
+}
+
+typedef struct tk_option_pair_u32_size {
+    bool is_some;
+    tk_pair_u32_size value;
+} tk_option_pair_u32_size;
+
+TK_INLINE tk_option_pair_u32_size tk_some_pair_u32_size(tk_pair_u32_size value)
+{
+    return TK_MAKE(tk_option_pair_u32_size, true, value);
+}
+
+TK_INLINE tk_option_pair_u32_size tk_none_pair_u32_size(void)
+{
+    return TK_MAKE(tk_option_pair_u32_size, false, tk_new_pair_u32_size(0, 0));
+}
+
+typedef struct tk_pair_i128_size {
+    tk_i128 first;
+    size_t second;
+} tk_pair_i128_size;
+
+TK_INLINE tk_pair_i128_size tk_new_pair_i128_size(tk_i128 first, size_t second)
+{
+    return TK_MAKE(tk_pair_i128_size, first, second);
+}
+
+typedef struct tk_option_pair_i128_size {
+    bool is_some;
+    tk_pair_i128_size value;
+} tk_option_pair_i128_size;
+
+TK_INLINE tk_option_pair_i128_size tk_some_pair_i128_size(tk_pair_i128_size value)
+{
+    return TK_MAKE(tk_option_pair_i128_size, true, value);
+}
+
+TK_INLINE tk_option_pair_i128_size tk_none_pair_i128_size(void)
+{
+    return TK_MAKE(tk_option_pair_i128_size, false, tk_new_pair_i128_size(tk_i128_of(0), 0));
+}
+
+typedef struct tk_pair_u128_size {
+    tk_u128 first;
+    size_t second;
+} tk_pair_u128_size;
+
+TK_INLINE tk_pair_u128_size tk_new_pair_u128_size(tk_u128 first, size_t second)
+{
+    return TK_MAKE(tk_pair_u128_size, first, second);
+}
+
+typedef struct tk_option_pair_u128_size {
+    bool is_some;
+    tk_pair_u128_size value;
+} tk_option_pair_u128_size;
+
+TK_INLINE tk_option_pair_u128_size tk_some_pair_u128_size(tk_pair_u128_size value)
+{
+    return TK_MAKE(tk_option_pair_u128_size, true, value);
+}
+
+TK_INLINE tk_option_pair_u128_size tk_none_pair_u128_size(void)
+{
+    return TK_MAKE(tk_option_pair_u128_size, false, tk_new_pair_u128_size(tk_u128_of(0), 0));
+}
+
+#define TK_ZEROS UINT64_C(0x3030303030303030)
+
+/* Indexed by how many digits there are: `sum_of`'s first factor, shifted by eight bytes less the digits. */
+static const uint64_t tk_factors[8] = {
+    0,
+    UINT64_C(2561) << 56,
+    UINT64_C(2561) << 48,
+    UINT64_C(2561) << 40,
+    UINT64_C(2561) << 32,
+    UINT64_C(2561) << 24,
+    UINT64_C(2561) << 16,
+    UINT64_C(2561) << 8,
+};
+
+/* Indexed by the exponent. */
+static const uint64_t tk_powers[17] = {
+    1,
+    10,
+    100,
+    1000,
+    10000,
+    100000,
+    1000000,
+    10000000,
+    100000000,
+    1000000000,
+    UINT64_C(10000000000),
+    UINT64_C(100000000000),
+    UINT64_C(1000000000000),
+    UINT64_C(10000000000000),
+    UINT64_C(100000000000000),
+    UINT64_C(1000000000000000),
+    UINT64_C(10000000000000000),
+};
+
+TK_INLINE tk_bytes tk_bytes_from(tk_bytes s, size_t low)
+{
+    TORKETTLE_CHECK(low <= s.len);
+    return tk_bytes_of(s.at + low, s.len - low);
+}
+
+#define TK_MOST_IN_TWO_WORDS UINT64_C(1000000000000000000)
+
+#define TK_MOST_IN_WORD 1000000000
+
+TK_FAR tk_option_pair_i64_size tk_prefix_of_three_words_i64(bool minus, uint64_t high,
+                                                            tk_bytes s) TK_SYMBOL(tk_prefix_of_three_words_i64);
+
+TK_FAR tk_option_pair_u64_size tk_prefix_of_three_words_u64(bool minus, uint64_t high,
+                                                            tk_bytes s) TK_SYMBOL(tk_prefix_of_three_words_u64);
+
+/* A product, since the compiler would branch on the sign. */
+/* atoi_core/src/number.rt:88 */
+TK_HINTED tk_i128 tk_with_sign_64(bool minus, uint64_t magnitude)
+{
+    return tk_i128_mul(tk_i128_of(magnitude),
+                       tk_i128_sub(tk_i128_of(1), tk_i128_mul(tk_i128_of(2), tk_i128_of(minus))));
+}
+
+/* atoi_core/src/number.rt:143 */
+TK_HINTED int8_t tk_from_parts_i8(bool minus, tk_u128 magnitude)
+{
+    return TK_CAST(int8_t, tk_i128_low(tk_with_sign_64(minus, tk_u128_low(magnitude))));
+}
+
+/* Returns the number of a slice of one digit. */
+/* atoi_fast/src/quick.rt:10 */
+TK_INLINE tk_option_i8 tk_one_digit_i8(tk_bytes s)
+{
+    if (s.len == 1 && '0' <= s.at[0] && s.at[0] <= '9') {
+        uint8_t digit = s.at[0];
+        tk_u128 number = tk_u128_of(TK_CAST(uint8_t, digit - '0'));
+        return tk_some_i8(tk_from_parts_i8(false, number));
+    }
+    return tk_none_i8();
+}
+
+/* atoi_core/src/number.rt:115 */
+TK_HINTED uint8_t tk_from_parts_u8(bool minus, tk_u128 magnitude)
+{
+    (void)minus;
+    return TK_CAST(uint8_t, tk_u128_low(magnitude));
+}
+
+/* atoi_fast/src/quick.rt:10 */
+TK_INLINE tk_option_u8 tk_one_digit_u8(tk_bytes s)
+{
+    if (s.len == 1 && '0' <= s.at[0] && s.at[0] <= '9') {
+        uint8_t digit = s.at[0];
+        tk_u128 number = tk_u128_of(TK_CAST(uint8_t, digit - '0'));
+        return tk_some_u8(tk_from_parts_u8(false, number));
+    }
+    return tk_none_u8();
+}
+
+/* atoi_core/src/number.rt:207 */
+TK_HINTED int16_t tk_from_parts_i16(bool minus, tk_u128 magnitude)
+{
+    return TK_CAST(int16_t, tk_i128_low(tk_with_sign_64(minus, tk_u128_low(magnitude))));
+}
+
+/* atoi_fast/src/quick.rt:10 */
+TK_INLINE tk_option_i16 tk_one_digit_i16(tk_bytes s)
+{
+    if (s.len == 1 && '0' <= s.at[0] && s.at[0] <= '9') {
+        uint8_t digit = s.at[0];
+        tk_u128 number = tk_u128_of(TK_CAST(uint8_t, digit - '0'));
+        return tk_some_i16(tk_from_parts_i16(false, number));
+    }
+    return tk_none_i16();
+}
+
+/* atoi_core/src/number.rt:179 */
+TK_HINTED uint16_t tk_from_parts_u16(bool minus, tk_u128 magnitude)
+{
+    (void)minus;
+    return TK_CAST(uint16_t, tk_u128_low(magnitude));
+}
+
+/* atoi_fast/src/quick.rt:10 */
+TK_INLINE tk_option_u16 tk_one_digit_u16(tk_bytes s)
+{
+    if (s.len == 1 && '0' <= s.at[0] && s.at[0] <= '9') {
+        uint8_t digit = s.at[0];
+        tk_u128 number = tk_u128_of(TK_CAST(uint8_t, digit - '0'));
+        return tk_some_u16(tk_from_parts_u16(false, number));
+    }
+    return tk_none_u16();
+}
+
+/* atoi_core/src/number.rt:271 */
+TK_HINTED int32_t tk_from_parts_i32(bool minus, tk_u128 magnitude)
+{
+    return TK_CAST(int32_t, tk_i128_low(tk_with_sign_64(minus, tk_u128_low(magnitude))));
+}
+
+/* atoi_fast/src/quick.rt:10 */
+TK_INLINE tk_option_i32 tk_one_digit_i32(tk_bytes s)
+{
+    if (s.len == 1 && '0' <= s.at[0] && s.at[0] <= '9') {
+        uint8_t digit = s.at[0];
+        tk_u128 number = tk_u128_of(TK_CAST(uint8_t, digit - '0'));
+        return tk_some_i32(tk_from_parts_i32(false, number));
+    }
+    return tk_none_i32();
+}
+
+/* atoi_core/src/number.rt:243 */
+TK_HINTED uint32_t tk_from_parts_u32(bool minus, tk_u128 magnitude)
+{
+    (void)minus;
+    return TK_CAST(uint32_t, tk_u128_low(magnitude));
+}
+
+/* atoi_fast/src/quick.rt:10 */
+TK_INLINE tk_option_u32 tk_one_digit_u32(tk_bytes s)
+{
+    if (s.len == 1 && '0' <= s.at[0] && s.at[0] <= '9') {
+        uint8_t digit = s.at[0];
+        tk_u128 number = tk_u128_of(TK_CAST(uint8_t, digit - '0'));
+        return tk_some_u32(tk_from_parts_u32(false, number));
+    }
+    return tk_none_u32();
+}
+
+/* atoi_core/src/number.rt:335 */
+TK_HINTED int64_t tk_from_parts_i64(bool minus, tk_u128 magnitude)
+{
+    return TK_CAST(int64_t, tk_i128_low(tk_with_sign_64(minus, tk_u128_low(magnitude))));
+}
+
+/* atoi_fast/src/quick.rt:10 */
+TK_INLINE tk_option_i64 tk_one_digit_i64(tk_bytes s)
+{
+    if (s.len == 1 && '0' <= s.at[0] && s.at[0] <= '9') {
+        uint8_t digit = s.at[0];
+        tk_u128 number = tk_u128_of(TK_CAST(uint8_t, digit - '0'));
+        return tk_some_i64(tk_from_parts_i64(false, number));
+    }
+    return tk_none_i64();
+}
+
+/* atoi_core/src/number.rt:307 */
+TK_HINTED uint64_t tk_from_parts_u64(bool minus, tk_u128 magnitude)
+{
+    (void)minus;
+    return tk_u128_low(magnitude);
+}
+
+/* atoi_fast/src/quick.rt:10 */
+TK_INLINE tk_option_u64 tk_one_digit_u64(tk_bytes s)
+{
+    if (s.len == 1 && '0' <= s.at[0] && s.at[0] <= '9') {
+        uint8_t digit = s.at[0];
+        tk_u128 number = tk_u128_of(TK_CAST(uint8_t, digit - '0'));
+        return tk_some_u64(tk_from_parts_u64(false, number));
+    }
+    return tk_none_u64();
+}
+
+/* atoi_core/src/number.rt:399 */
+TK_HINTED tk_i128 tk_from_parts_i128(bool minus, tk_u128 magnitude)
+{
+    if (!minus) {
+        return tk_u128_as_i128(magnitude);
+    }
+    if (tk_u128_equal(magnitude, tk_u128_make(UINT64_C(9223372036854775808), 0))) {
+        return tk_i128_make(UINT64_C(9223372036854775808), 0);
+    }
+    return tk_i128_negate(tk_u128_as_i128(magnitude));
+}
+
+/* atoi_fast/src/quick.rt:10 */
+TK_INLINE tk_option_i128 tk_one_digit_i128(tk_bytes s)
+{
+    if (s.len == 1 && '0' <= s.at[0] && s.at[0] <= '9') {
+        uint8_t digit = s.at[0];
+        tk_u128 number = tk_u128_of(TK_CAST(uint8_t, digit - '0'));
+        return tk_some_i128(tk_from_parts_i128(false, number));
+    }
+    return tk_none_i128();
+}
+
+/* atoi_core/src/number.rt:371 */
+TK_HINTED tk_u128 tk_from_parts_u128(bool minus, tk_u128 magnitude)
+{
+    (void)minus;
+    return magnitude;
+}
+
+/* atoi_fast/src/quick.rt:10 */
+TK_INLINE tk_option_u128 tk_one_digit_u128(tk_bytes s)
+{
+    if (s.len == 1 && '0' <= s.at[0] && s.at[0] <= '9') {
+        uint8_t digit = s.at[0];
+        tk_u128 number = tk_u128_of(TK_CAST(uint8_t, digit - '0'));
+        return tk_some_u128(tk_from_parts_u128(false, number));
+    }
+    return tk_none_u128();
+}
+
+/* The number of one digit at the start of a slice. The second byte is first, as a minus is hard to predict. */
+/* atoi_fast/src/quick.rt:47 */
+TK_INLINE tk_option_pair_i8_size tk_digit_prefix_i8(tk_bytes s)
+{
+    if (s.len >= 2 && '0' <= s.at[1] && s.at[1] <= '9') {
+        return tk_none_pair_i8_size();
+    }
+    if (s.len >= 1 && '0' <= s.at[0] && s.at[0] <= '9') {
+        uint8_t digit = s.at[0];
+        tk_u128 number = tk_u128_of(TK_CAST(uint8_t, digit - '0'));
+        return tk_some_pair_i8_size(tk_new_pair_i8_size(tk_from_parts_i8(false, number), 1));
+    }
+    return tk_none_pair_i8_size();
+}
+
+/* Returns the word of the first 8 bytes. */
+/* atoi_fast/src/loads.rt:110 */
+TK_HINTED uint64_t tk_load_full(tk_bytes s)
+{
+    if (s.len >= 8) {
+        const uint8_t *first = s.at;
+        return tk_load_64(first);
+    }
+    return 0;
+}
+
+/* atoi_fast/src/short_prefix.rt:66 */
+TK_HINTED uint8_t tk_lowest_byte(uint64_t word)
+{
+    return TK_CAST(uint8_t, word & 0xFF);
 }
 
 /*
- * Returns the highest bit of each byte that is no digit. After the first such byte, bits may be wrong. `minus` is 1 if
- * the first byte is a minus, which then has no bit, but a `0` after it has one.
+ * What `sum_of` returns, after its first product. The two sums of four digits are joined by one small
+ * product, which needs no 64-bit constant.
  */
-TORKETTLE_INLINE_ uint64_t torkettle_marks(uint64_t word, uint64_t minus) TORKETTLE_NOEXCEPT
+/* atoi_fast/src/digits.rt:124 */
+TK_HINTED uint64_t tk_sum_of_product(uint64_t product)
 {
-    return ((word + 0x4646464646464646u) | (word - 0x3030303030303030u)) & (0x8080808080808080u - (minus << 7));
+    uint64_t tens = (product >> 8) & UINT64_C(0x00FF00FF00FF00FF);
+    uint64_t hundreds = tens * 0x640001;
+    return ((hundreds >> 16) & 0xFFFF) * 10000 + (hundreds >> 48);
 }
 
-/* Joins four numbers of two digits, the first in the lowest byte, and the others in every second byte after it. */
-TORKETTLE_INLINE_ uint64_t torkettle_join_pairs(uint64_t pairs) TORKETTLE_NOEXCEPT
+/* `process_8` for bytes below 16. */
+/* atoi_fast/src/digits.rt:113 */
+TK_HINTED uint64_t tk_sum_of(uint64_t digits)
 {
-    pairs &= 0x00ff00ff00ff00ffu;
-    pairs = (pairs * (100u << 16 | 1) >> 16) & 0x0000ffff0000ffffu;
-    return pairs * (UINT64_C(10000) << 32 | 1) >> 32;
+    return tk_sum_of_product(digits * 0xA01);
+}
+
+/* Returns how many digits the word begins with. */
+/* atoi_fast/src/digits.rt:19 */
+TK_HINTED uint32_t tk_digits_of(uint64_t word)
+{
+    uint64_t above = word + UINT64_C(0x4646464646464646);
+    uint64_t below = word - TK_ZEROS;
+    uint64_t marks = (above | below) & UINT64_C(0x8080808080808080);
+    if (marks == 0) {
+        return 8;
+    }
+    return tk_trailing_zeros_64(marks) / 8;
 }
 
 /*
- * Reads the number at the start of 16 bytes, on a little-endian target, and returns its length. Returns 0 if the
- * library has to read it: more than 15 digits, a zero after a minus, and what is no number.
- *
- * A word has the first of eight bytes in its lowest bits. Its digits are moved up, so that zeros precede them. The
- * product by 10 << 8 | 1 adds to each digit ten times the one before it.
+ * Returns the number of the lowest `len` bytes of `digits`, which are digits minus 48. One product by
+ * a factor from a table takes the place of a shift and a product.
  */
-TORKETTLE_INLINE_ size_t torkettle_read_16(const char *text, bool is_signed, int64_t *value) TORKETTLE_NOEXCEPT
+/* atoi_fast/src/digits.rt:147 */
+TK_HINTED uint64_t tk_value_by_product(uint64_t digits, uint32_t len)
 {
-    static const uint64_t powers[] = {1, 10, 100, 1000, 10000, 100000, 1000000, 10000000};
-    const uint64_t zeros = 0x3030303030303030u, minus = is_signed && text[0] == '-';
-    uint64_t first, last, marks, number;
-    unsigned place, count;
-    memcpy(&first, text, sizeof first);
-    marks = torkettle_marks(first, minus);
-    /* A minus becomes a zero. */
-    first += 3 * minus - zeros;
-    if (marks != 0) {
-        place = TORKETTLE_CAST_(unsigned, __builtin_ctzll(marks));
-        count = place / 8;
-        number = torkettle_join_pairs((first << (63 - place)) * (10 << 8 | 1));
-    } else {
-        memcpy(&last, text + 8, sizeof last);
-        marks = torkettle_marks(last, 0);
-        if (marks == 0)
-            return 0;
-        place = TORKETTLE_CAST_(unsigned, __builtin_ctzll(marks));
-        count = place / 8;
-        number = torkettle_join_pairs(first * (10 << 8 | 1) >> 8) * powers[count];
-        number += torkettle_join_pairs(((last - zeros) << (63 - place)) * (10 << 8 | 1));
-        count += 8;
-    }
-    *value = TORKETTLE_CAST_(int64_t, (number ^ (0 - minus)) + minus);
-    return count > minus ? count : 0;
+    return tk_sum_of_product(digits * tk_factors[tk_index(TK_CAST(size_t, len), 8)]);
 }
 
-/* Reads the number at the start of a text, and returns its length, or 0 if the library has to read it. */
-TORKETTLE_INLINE_ size_t torkettle_read_prefix(const char *text, size_t length, bool is_signed,
-                                               int64_t *value) TORKETTLE_NOEXCEPT
+/* Returns ten to the power of `digits`, which is at most 16. */
+/* atoi_core/src/loops/powers.rt:26 */
+TK_HINTED uint64_t tk_power_of_ten(uint32_t digits)
 {
-    if (length > 16 && __BYTE_ORDER__ == __ORDER_LITTLE_ENDIAN__) {
-        if (torkettle_is_digit(text[1]) || !torkettle_is_digit(text[0]))
-            return torkettle_read_16(text, is_signed, value);
-        *value = text[0] - '0';
-        return 1;
+    return tk_powers[tk_index(TK_CAST(size_t, digits), 17)];
+}
+
+/*
+ * Returns the number of this sign and magnitude, if the type has it. The magnitude is at most `most`,
+ * a constant: for a type that has all numbers up to it, LLVM leaves out the test.
+ */
+/* atoi_fast/src/in_range.rt:17 */
+TK_INLINE tk_option_i8 tk_number_in_range_i8(uint64_t most, bool minus, uint64_t magnitude)
+{
+    if (tk_u128_less(tk_u128_of(127), tk_u128_of(most))
+        && magnitude > tk_u128_low(tk_u128_of(127)) + TK_CAST(uint64_t, minus)) {
+        return tk_none_i8();
     }
-    *value = length > 0 ? text[0] - '0' : 0;
-    return torkettle_prefix_is_digit(text, length);
+    return tk_some_i8(tk_from_parts_i8(minus, tk_u128_of(magnitude)));
+}
+
+/* The number of 8 to 15 bytes, of which the first eight spell `high`, with a zero for a minus. */
+/* atoi_fast/src/short_prefix.rt:74 */
+TK_INLINE tk_option_pair_i8_size tk_prefix_of_two_words_i8(bool minus, uint64_t high, tk_bytes s)
+{
+    uint64_t next = tk_load_full(tk_bytes_from(s, 8));
+    uint32_t more = tk_digits_of(next);
+    if (more == 8) {
+        return tk_none_pair_i8_size();
+    }
+    uint64_t low = tk_value_by_product(next - TK_ZEROS, more);
+    uint64_t magnitude = high * tk_power_of_ten(more) + low;
+    tk_option_i8 number_found = tk_number_in_range_i8(TK_MOST_IN_TWO_WORDS, minus, magnitude);
+    if (!number_found.is_some) {
+        return tk_none_pair_i8_size();
+    }
+    int8_t number = number_found.value;
+    return tk_some_pair_i8_size(tk_new_pair_i8_size(number, 8 + TK_CAST(size_t, more)));
+}
+
+/*
+ * Returns the number at the start of `s` and its length, if that is below 16 or, for `i64` and `u64`, at most 19
+ * digits. Others may be `None`, too.
+ */
+/* atoi_fast/src/short_prefix.rt:33 */
+TK_INLINE tk_option_pair_i8_size tk_prefix_of_words_i8(tk_bytes s)
+{
+    uint64_t word = tk_load_full(s);
+    /* A `-` borrows from the next byte, so that a `0` there looks like no digit. */
+    uint64_t above = word + UINT64_C(0x4646464646464646);
+    uint64_t below = word - TK_ZEROS;
+    uint64_t marks = (above | below) & UINT64_C(0x8080808080808000);
+    if ((marks & 0x8000) != 0) {
+        /*
+         * Most numbers of many texts have one digit: the processor guesses that, and the next load waits
+         * for nothing.
+         */
+        uint8_t digit = tk_lowest_byte(below);
+        if (digit > 9) {
+            return tk_none_pair_i8_size();
+        }
+        return tk_some_pair_i8_size(tk_new_pair_i8_size(tk_from_parts_i8(false, tk_u128_of(digit)), 1));
+    }
+    bool minus = true & (tk_lowest_byte(word) == '-');
+    /* The digit of a `-` is 0, and takes the borrow back. */
+    uint64_t digits = below + 3 * TK_CAST(uint64_t, minus);
+    if (tk_lowest_byte(digits) > 9) {
+        return tk_none_pair_i8_size();
+    }
+    if (marks == 0) {
+        return tk_prefix_of_two_words_i8(minus, tk_sum_of(digits), s);
+    }
+    uint32_t len = tk_trailing_zeros_64(marks) / 8;
+    tk_option_i8 number_found = tk_number_in_range_i8(TK_MOST_IN_WORD, minus, tk_value_by_product(digits, len));
+    if (!number_found.is_some) {
+        return tk_none_pair_i8_size();
+    }
+    int8_t number = number_found.value;
+    return tk_some_pair_i8_size(tk_new_pair_i8_size(number, TK_CAST(size_t, len)));
+}
+
+/*
+ * Returns the number at the start of a slice and its length, if that is one digit or, in a slice of at least 16
+ * bytes, fewer than 16 bytes. Others may be `None`, too.
+ */
+/* atoi_fast/src/quick.rt:25 */
+TK_INLINE tk_option_pair_i8_size tk_quick_prefix_i8(tk_bytes s)
+{
+    if (s.len < 16) {
+        return tk_digit_prefix_i8(s);
+    }
+    if (s.len >= 2 && '0' <= s.at[0] && s.at[0] <= '9' && !tk_is_digit(s.at[1])) {
+        uint8_t first = s.at[0];
+        tk_u128 number = tk_u128_of(TK_CAST(uint8_t, first - '0'));
+        return tk_some_pair_i8_size(tk_new_pair_i8_size(tk_from_parts_i8(false, number), 1));
+    }
+    if (s.len >= 3 && '0' <= s.at[0] && s.at[0] <= '9' && '0' <= s.at[1] && s.at[1] <= '9' && !tk_is_digit(s.at[2])) {
+        uint8_t first = s.at[0];
+        uint8_t second = s.at[1];
+        uint32_t tens = TK_CAST(uint32_t, TK_CAST(uint8_t, first - '0'));
+        uint32_t number = 10 * tens + TK_CAST(uint32_t, TK_CAST(uint8_t, second - '0'));
+        return tk_some_pair_i8_size(tk_new_pair_i8_size(tk_from_parts_i8(false, tk_u128_of(number)), 2));
+    }
+    return tk_prefix_of_words_i8(s);
+}
+
+/* atoi_fast/src/quick.rt:47 */
+TK_INLINE tk_option_pair_u8_size tk_digit_prefix_u8(tk_bytes s)
+{
+    if (s.len >= 2 && '0' <= s.at[1] && s.at[1] <= '9') {
+        return tk_none_pair_u8_size();
+    }
+    if (s.len >= 1 && '0' <= s.at[0] && s.at[0] <= '9') {
+        uint8_t digit = s.at[0];
+        tk_u128 number = tk_u128_of(TK_CAST(uint8_t, digit - '0'));
+        return tk_some_pair_u8_size(tk_new_pair_u8_size(tk_from_parts_u8(false, number), 1));
+    }
+    return tk_none_pair_u8_size();
+}
+
+/* atoi_fast/src/in_range.rt:17 */
+TK_INLINE tk_option_u8 tk_number_in_range_u8(uint64_t most, bool minus, uint64_t magnitude)
+{
+    if (tk_u128_less(tk_u128_of(255), tk_u128_of(most))
+        && magnitude > tk_u128_low(tk_u128_of(255)) + TK_CAST(uint64_t, minus)) {
+        return tk_none_u8();
+    }
+    return tk_some_u8(tk_from_parts_u8(minus, tk_u128_of(magnitude)));
+}
+
+/* atoi_fast/src/short_prefix.rt:74 */
+TK_INLINE tk_option_pair_u8_size tk_prefix_of_two_words_u8(bool minus, uint64_t high, tk_bytes s)
+{
+    uint64_t next = tk_load_full(tk_bytes_from(s, 8));
+    uint32_t more = tk_digits_of(next);
+    if (more == 8) {
+        return tk_none_pair_u8_size();
+    }
+    uint64_t low = tk_value_by_product(next - TK_ZEROS, more);
+    uint64_t magnitude = high * tk_power_of_ten(more) + low;
+    tk_option_u8 number_found = tk_number_in_range_u8(TK_MOST_IN_TWO_WORDS, minus, magnitude);
+    if (!number_found.is_some) {
+        return tk_none_pair_u8_size();
+    }
+    uint8_t number = number_found.value;
+    return tk_some_pair_u8_size(tk_new_pair_u8_size(number, 8 + TK_CAST(size_t, more)));
+}
+
+/* atoi_fast/src/short_prefix.rt:33 */
+TK_INLINE tk_option_pair_u8_size tk_prefix_of_words_u8(tk_bytes s)
+{
+    uint64_t word = tk_load_full(s);
+    /* A `-` borrows from the next byte, so that a `0` there looks like no digit. */
+    uint64_t above = word + UINT64_C(0x4646464646464646);
+    uint64_t below = word - TK_ZEROS;
+    uint64_t marks = (above | below) & UINT64_C(0x8080808080808000);
+    if ((marks & 0x8000) != 0) {
+        /*
+         * Most numbers of many texts have one digit: the processor guesses that, and the next load waits
+         * for nothing.
+         */
+        uint8_t digit = tk_lowest_byte(below);
+        if (digit > 9) {
+            return tk_none_pair_u8_size();
+        }
+        return tk_some_pair_u8_size(tk_new_pair_u8_size(tk_from_parts_u8(false, tk_u128_of(digit)), 1));
+    }
+    bool minus = false & (tk_lowest_byte(word) == '-');
+    /* The digit of a `-` is 0, and takes the borrow back. */
+    uint64_t digits = below + 3 * TK_CAST(uint64_t, minus);
+    if (tk_lowest_byte(digits) > 9) {
+        return tk_none_pair_u8_size();
+    }
+    if (marks == 0) {
+        return tk_prefix_of_two_words_u8(minus, tk_sum_of(digits), s);
+    }
+    uint32_t len = tk_trailing_zeros_64(marks) / 8;
+    tk_option_u8 number_found = tk_number_in_range_u8(TK_MOST_IN_WORD, minus, tk_value_by_product(digits, len));
+    if (!number_found.is_some) {
+        return tk_none_pair_u8_size();
+    }
+    uint8_t number = number_found.value;
+    return tk_some_pair_u8_size(tk_new_pair_u8_size(number, TK_CAST(size_t, len)));
+}
+
+/* atoi_fast/src/quick.rt:25 */
+TK_INLINE tk_option_pair_u8_size tk_quick_prefix_u8(tk_bytes s)
+{
+    if (s.len < 16) {
+        return tk_digit_prefix_u8(s);
+    }
+    if (s.len >= 2 && '0' <= s.at[0] && s.at[0] <= '9' && !tk_is_digit(s.at[1])) {
+        uint8_t first = s.at[0];
+        tk_u128 number = tk_u128_of(TK_CAST(uint8_t, first - '0'));
+        return tk_some_pair_u8_size(tk_new_pair_u8_size(tk_from_parts_u8(false, number), 1));
+    }
+    if (s.len >= 3 && '0' <= s.at[0] && s.at[0] <= '9' && '0' <= s.at[1] && s.at[1] <= '9' && !tk_is_digit(s.at[2])) {
+        uint8_t first = s.at[0];
+        uint8_t second = s.at[1];
+        uint32_t tens = TK_CAST(uint32_t, TK_CAST(uint8_t, first - '0'));
+        uint32_t number = 10 * tens + TK_CAST(uint32_t, TK_CAST(uint8_t, second - '0'));
+        return tk_some_pair_u8_size(tk_new_pair_u8_size(tk_from_parts_u8(false, tk_u128_of(number)), 2));
+    }
+    return tk_prefix_of_words_u8(s);
+}
+
+/* atoi_fast/src/quick.rt:47 */
+TK_INLINE tk_option_pair_i16_size tk_digit_prefix_i16(tk_bytes s)
+{
+    if (s.len >= 2 && '0' <= s.at[1] && s.at[1] <= '9') {
+        return tk_none_pair_i16_size();
+    }
+    if (s.len >= 1 && '0' <= s.at[0] && s.at[0] <= '9') {
+        uint8_t digit = s.at[0];
+        tk_u128 number = tk_u128_of(TK_CAST(uint8_t, digit - '0'));
+        return tk_some_pair_i16_size(tk_new_pair_i16_size(tk_from_parts_i16(false, number), 1));
+    }
+    return tk_none_pair_i16_size();
+}
+
+/* atoi_fast/src/in_range.rt:17 */
+TK_INLINE tk_option_i16 tk_number_in_range_i16(uint64_t most, bool minus, uint64_t magnitude)
+{
+    if (tk_u128_less(tk_u128_of(32767), tk_u128_of(most))
+        && magnitude > tk_u128_low(tk_u128_of(32767)) + TK_CAST(uint64_t, minus)) {
+        return tk_none_i16();
+    }
+    return tk_some_i16(tk_from_parts_i16(minus, tk_u128_of(magnitude)));
+}
+
+/* atoi_fast/src/short_prefix.rt:74 */
+TK_INLINE tk_option_pair_i16_size tk_prefix_of_two_words_i16(bool minus, uint64_t high, tk_bytes s)
+{
+    uint64_t next = tk_load_full(tk_bytes_from(s, 8));
+    uint32_t more = tk_digits_of(next);
+    if (more == 8) {
+        return tk_none_pair_i16_size();
+    }
+    uint64_t low = tk_value_by_product(next - TK_ZEROS, more);
+    uint64_t magnitude = high * tk_power_of_ten(more) + low;
+    tk_option_i16 number_found = tk_number_in_range_i16(TK_MOST_IN_TWO_WORDS, minus, magnitude);
+    if (!number_found.is_some) {
+        return tk_none_pair_i16_size();
+    }
+    int16_t number = number_found.value;
+    return tk_some_pair_i16_size(tk_new_pair_i16_size(number, 8 + TK_CAST(size_t, more)));
+}
+
+/* atoi_fast/src/short_prefix.rt:33 */
+TK_INLINE tk_option_pair_i16_size tk_prefix_of_words_i16(tk_bytes s)
+{
+    uint64_t word = tk_load_full(s);
+    /* A `-` borrows from the next byte, so that a `0` there looks like no digit. */
+    uint64_t above = word + UINT64_C(0x4646464646464646);
+    uint64_t below = word - TK_ZEROS;
+    uint64_t marks = (above | below) & UINT64_C(0x8080808080808000);
+    if ((marks & 0x8000) != 0) {
+        /*
+         * Most numbers of many texts have one digit: the processor guesses that, and the next load waits
+         * for nothing.
+         */
+        uint8_t digit = tk_lowest_byte(below);
+        if (digit > 9) {
+            return tk_none_pair_i16_size();
+        }
+        return tk_some_pair_i16_size(tk_new_pair_i16_size(tk_from_parts_i16(false, tk_u128_of(digit)), 1));
+    }
+    bool minus = true & (tk_lowest_byte(word) == '-');
+    /* The digit of a `-` is 0, and takes the borrow back. */
+    uint64_t digits = below + 3 * TK_CAST(uint64_t, minus);
+    if (tk_lowest_byte(digits) > 9) {
+        return tk_none_pair_i16_size();
+    }
+    if (marks == 0) {
+        return tk_prefix_of_two_words_i16(minus, tk_sum_of(digits), s);
+    }
+    uint32_t len = tk_trailing_zeros_64(marks) / 8;
+    tk_option_i16 number_found = tk_number_in_range_i16(TK_MOST_IN_WORD, minus, tk_value_by_product(digits, len));
+    if (!number_found.is_some) {
+        return tk_none_pair_i16_size();
+    }
+    int16_t number = number_found.value;
+    return tk_some_pair_i16_size(tk_new_pair_i16_size(number, TK_CAST(size_t, len)));
+}
+
+/* atoi_fast/src/quick.rt:25 */
+TK_INLINE tk_option_pair_i16_size tk_quick_prefix_i16(tk_bytes s)
+{
+    if (s.len < 16) {
+        return tk_digit_prefix_i16(s);
+    }
+    if (s.len >= 2 && '0' <= s.at[0] && s.at[0] <= '9' && !tk_is_digit(s.at[1])) {
+        uint8_t first = s.at[0];
+        tk_u128 number = tk_u128_of(TK_CAST(uint8_t, first - '0'));
+        return tk_some_pair_i16_size(tk_new_pair_i16_size(tk_from_parts_i16(false, number), 1));
+    }
+    if (s.len >= 3 && '0' <= s.at[0] && s.at[0] <= '9' && '0' <= s.at[1] && s.at[1] <= '9' && !tk_is_digit(s.at[2])) {
+        uint8_t first = s.at[0];
+        uint8_t second = s.at[1];
+        uint32_t tens = TK_CAST(uint32_t, TK_CAST(uint8_t, first - '0'));
+        uint32_t number = 10 * tens + TK_CAST(uint32_t, TK_CAST(uint8_t, second - '0'));
+        return tk_some_pair_i16_size(tk_new_pair_i16_size(tk_from_parts_i16(false, tk_u128_of(number)), 2));
+    }
+    return tk_prefix_of_words_i16(s);
+}
+
+/* atoi_fast/src/quick.rt:47 */
+TK_INLINE tk_option_pair_u16_size tk_digit_prefix_u16(tk_bytes s)
+{
+    if (s.len >= 2 && '0' <= s.at[1] && s.at[1] <= '9') {
+        return tk_none_pair_u16_size();
+    }
+    if (s.len >= 1 && '0' <= s.at[0] && s.at[0] <= '9') {
+        uint8_t digit = s.at[0];
+        tk_u128 number = tk_u128_of(TK_CAST(uint8_t, digit - '0'));
+        return tk_some_pair_u16_size(tk_new_pair_u16_size(tk_from_parts_u16(false, number), 1));
+    }
+    return tk_none_pair_u16_size();
+}
+
+/* atoi_fast/src/in_range.rt:17 */
+TK_INLINE tk_option_u16 tk_number_in_range_u16(uint64_t most, bool minus, uint64_t magnitude)
+{
+    if (tk_u128_less(tk_u128_of(65535), tk_u128_of(most))
+        && magnitude > tk_u128_low(tk_u128_of(65535)) + TK_CAST(uint64_t, minus)) {
+        return tk_none_u16();
+    }
+    return tk_some_u16(tk_from_parts_u16(minus, tk_u128_of(magnitude)));
+}
+
+/* atoi_fast/src/short_prefix.rt:74 */
+TK_INLINE tk_option_pair_u16_size tk_prefix_of_two_words_u16(bool minus, uint64_t high, tk_bytes s)
+{
+    uint64_t next = tk_load_full(tk_bytes_from(s, 8));
+    uint32_t more = tk_digits_of(next);
+    if (more == 8) {
+        return tk_none_pair_u16_size();
+    }
+    uint64_t low = tk_value_by_product(next - TK_ZEROS, more);
+    uint64_t magnitude = high * tk_power_of_ten(more) + low;
+    tk_option_u16 number_found = tk_number_in_range_u16(TK_MOST_IN_TWO_WORDS, minus, magnitude);
+    if (!number_found.is_some) {
+        return tk_none_pair_u16_size();
+    }
+    uint16_t number = number_found.value;
+    return tk_some_pair_u16_size(tk_new_pair_u16_size(number, 8 + TK_CAST(size_t, more)));
+}
+
+/* atoi_fast/src/short_prefix.rt:33 */
+TK_INLINE tk_option_pair_u16_size tk_prefix_of_words_u16(tk_bytes s)
+{
+    uint64_t word = tk_load_full(s);
+    /* A `-` borrows from the next byte, so that a `0` there looks like no digit. */
+    uint64_t above = word + UINT64_C(0x4646464646464646);
+    uint64_t below = word - TK_ZEROS;
+    uint64_t marks = (above | below) & UINT64_C(0x8080808080808000);
+    if ((marks & 0x8000) != 0) {
+        /*
+         * Most numbers of many texts have one digit: the processor guesses that, and the next load waits
+         * for nothing.
+         */
+        uint8_t digit = tk_lowest_byte(below);
+        if (digit > 9) {
+            return tk_none_pair_u16_size();
+        }
+        return tk_some_pair_u16_size(tk_new_pair_u16_size(tk_from_parts_u16(false, tk_u128_of(digit)), 1));
+    }
+    bool minus = false & (tk_lowest_byte(word) == '-');
+    /* The digit of a `-` is 0, and takes the borrow back. */
+    uint64_t digits = below + 3 * TK_CAST(uint64_t, minus);
+    if (tk_lowest_byte(digits) > 9) {
+        return tk_none_pair_u16_size();
+    }
+    if (marks == 0) {
+        return tk_prefix_of_two_words_u16(minus, tk_sum_of(digits), s);
+    }
+    uint32_t len = tk_trailing_zeros_64(marks) / 8;
+    tk_option_u16 number_found = tk_number_in_range_u16(TK_MOST_IN_WORD, minus, tk_value_by_product(digits, len));
+    if (!number_found.is_some) {
+        return tk_none_pair_u16_size();
+    }
+    uint16_t number = number_found.value;
+    return tk_some_pair_u16_size(tk_new_pair_u16_size(number, TK_CAST(size_t, len)));
+}
+
+/* atoi_fast/src/quick.rt:25 */
+TK_INLINE tk_option_pair_u16_size tk_quick_prefix_u16(tk_bytes s)
+{
+    if (s.len < 16) {
+        return tk_digit_prefix_u16(s);
+    }
+    if (s.len >= 2 && '0' <= s.at[0] && s.at[0] <= '9' && !tk_is_digit(s.at[1])) {
+        uint8_t first = s.at[0];
+        tk_u128 number = tk_u128_of(TK_CAST(uint8_t, first - '0'));
+        return tk_some_pair_u16_size(tk_new_pair_u16_size(tk_from_parts_u16(false, number), 1));
+    }
+    if (s.len >= 3 && '0' <= s.at[0] && s.at[0] <= '9' && '0' <= s.at[1] && s.at[1] <= '9' && !tk_is_digit(s.at[2])) {
+        uint8_t first = s.at[0];
+        uint8_t second = s.at[1];
+        uint32_t tens = TK_CAST(uint32_t, TK_CAST(uint8_t, first - '0'));
+        uint32_t number = 10 * tens + TK_CAST(uint32_t, TK_CAST(uint8_t, second - '0'));
+        return tk_some_pair_u16_size(tk_new_pair_u16_size(tk_from_parts_u16(false, tk_u128_of(number)), 2));
+    }
+    return tk_prefix_of_words_u16(s);
+}
+
+/* atoi_fast/src/quick.rt:47 */
+TK_INLINE tk_option_pair_i32_size tk_digit_prefix_i32(tk_bytes s)
+{
+    if (s.len >= 2 && '0' <= s.at[1] && s.at[1] <= '9') {
+        return tk_none_pair_i32_size();
+    }
+    if (s.len >= 1 && '0' <= s.at[0] && s.at[0] <= '9') {
+        uint8_t digit = s.at[0];
+        tk_u128 number = tk_u128_of(TK_CAST(uint8_t, digit - '0'));
+        return tk_some_pair_i32_size(tk_new_pair_i32_size(tk_from_parts_i32(false, number), 1));
+    }
+    return tk_none_pair_i32_size();
+}
+
+/* atoi_fast/src/in_range.rt:17 */
+TK_INLINE tk_option_i32 tk_number_in_range_i32(uint64_t most, bool minus, uint64_t magnitude)
+{
+    if (tk_u128_less(tk_u128_of(2147483647), tk_u128_of(most))
+        && magnitude > tk_u128_low(tk_u128_of(2147483647)) + TK_CAST(uint64_t, minus)) {
+        return tk_none_i32();
+    }
+    return tk_some_i32(tk_from_parts_i32(minus, tk_u128_of(magnitude)));
+}
+
+/* atoi_fast/src/short_prefix.rt:74 */
+TK_INLINE tk_option_pair_i32_size tk_prefix_of_two_words_i32(bool minus, uint64_t high, tk_bytes s)
+{
+    uint64_t next = tk_load_full(tk_bytes_from(s, 8));
+    uint32_t more = tk_digits_of(next);
+    if (more == 8) {
+        return tk_none_pair_i32_size();
+    }
+    uint64_t low = tk_value_by_product(next - TK_ZEROS, more);
+    uint64_t magnitude = high * tk_power_of_ten(more) + low;
+    tk_option_i32 number_found = tk_number_in_range_i32(TK_MOST_IN_TWO_WORDS, minus, magnitude);
+    if (!number_found.is_some) {
+        return tk_none_pair_i32_size();
+    }
+    int32_t number = number_found.value;
+    return tk_some_pair_i32_size(tk_new_pair_i32_size(number, 8 + TK_CAST(size_t, more)));
+}
+
+/* atoi_fast/src/short_prefix.rt:33 */
+TK_INLINE tk_option_pair_i32_size tk_prefix_of_words_i32(tk_bytes s)
+{
+    uint64_t word = tk_load_full(s);
+    /* A `-` borrows from the next byte, so that a `0` there looks like no digit. */
+    uint64_t above = word + UINT64_C(0x4646464646464646);
+    uint64_t below = word - TK_ZEROS;
+    uint64_t marks = (above | below) & UINT64_C(0x8080808080808000);
+    if ((marks & 0x8000) != 0) {
+        /*
+         * Most numbers of many texts have one digit: the processor guesses that, and the next load waits
+         * for nothing.
+         */
+        uint8_t digit = tk_lowest_byte(below);
+        if (digit > 9) {
+            return tk_none_pair_i32_size();
+        }
+        return tk_some_pair_i32_size(tk_new_pair_i32_size(tk_from_parts_i32(false, tk_u128_of(digit)), 1));
+    }
+    bool minus = true & (tk_lowest_byte(word) == '-');
+    /* The digit of a `-` is 0, and takes the borrow back. */
+    uint64_t digits = below + 3 * TK_CAST(uint64_t, minus);
+    if (tk_lowest_byte(digits) > 9) {
+        return tk_none_pair_i32_size();
+    }
+    if (marks == 0) {
+        return tk_prefix_of_two_words_i32(minus, tk_sum_of(digits), s);
+    }
+    uint32_t len = tk_trailing_zeros_64(marks) / 8;
+    tk_option_i32 number_found = tk_number_in_range_i32(TK_MOST_IN_WORD, minus, tk_value_by_product(digits, len));
+    if (!number_found.is_some) {
+        return tk_none_pair_i32_size();
+    }
+    int32_t number = number_found.value;
+    return tk_some_pair_i32_size(tk_new_pair_i32_size(number, TK_CAST(size_t, len)));
+}
+
+/* atoi_fast/src/quick.rt:25 */
+TK_INLINE tk_option_pair_i32_size tk_quick_prefix_i32(tk_bytes s)
+{
+    if (s.len < 16) {
+        return tk_digit_prefix_i32(s);
+    }
+    if (s.len >= 2 && '0' <= s.at[0] && s.at[0] <= '9' && !tk_is_digit(s.at[1])) {
+        uint8_t first = s.at[0];
+        tk_u128 number = tk_u128_of(TK_CAST(uint8_t, first - '0'));
+        return tk_some_pair_i32_size(tk_new_pair_i32_size(tk_from_parts_i32(false, number), 1));
+    }
+    if (s.len >= 3 && '0' <= s.at[0] && s.at[0] <= '9' && '0' <= s.at[1] && s.at[1] <= '9' && !tk_is_digit(s.at[2])) {
+        uint8_t first = s.at[0];
+        uint8_t second = s.at[1];
+        uint32_t tens = TK_CAST(uint32_t, TK_CAST(uint8_t, first - '0'));
+        uint32_t number = 10 * tens + TK_CAST(uint32_t, TK_CAST(uint8_t, second - '0'));
+        return tk_some_pair_i32_size(tk_new_pair_i32_size(tk_from_parts_i32(false, tk_u128_of(number)), 2));
+    }
+    return tk_prefix_of_words_i32(s);
+}
+
+/* atoi_fast/src/quick.rt:47 */
+TK_INLINE tk_option_pair_u32_size tk_digit_prefix_u32(tk_bytes s)
+{
+    if (s.len >= 2 && '0' <= s.at[1] && s.at[1] <= '9') {
+        return tk_none_pair_u32_size();
+    }
+    if (s.len >= 1 && '0' <= s.at[0] && s.at[0] <= '9') {
+        uint8_t digit = s.at[0];
+        tk_u128 number = tk_u128_of(TK_CAST(uint8_t, digit - '0'));
+        return tk_some_pair_u32_size(tk_new_pair_u32_size(tk_from_parts_u32(false, number), 1));
+    }
+    return tk_none_pair_u32_size();
+}
+
+/* atoi_fast/src/in_range.rt:17 */
+TK_INLINE tk_option_u32 tk_number_in_range_u32(uint64_t most, bool minus, uint64_t magnitude)
+{
+    if (tk_u128_less(tk_u128_of(UINT64_C(4294967295)), tk_u128_of(most))
+        && magnitude > tk_u128_low(tk_u128_of(UINT64_C(4294967295))) + TK_CAST(uint64_t, minus)) {
+        return tk_none_u32();
+    }
+    return tk_some_u32(tk_from_parts_u32(minus, tk_u128_of(magnitude)));
+}
+
+/* atoi_fast/src/short_prefix.rt:74 */
+TK_INLINE tk_option_pair_u32_size tk_prefix_of_two_words_u32(bool minus, uint64_t high, tk_bytes s)
+{
+    uint64_t next = tk_load_full(tk_bytes_from(s, 8));
+    uint32_t more = tk_digits_of(next);
+    if (more == 8) {
+        return tk_none_pair_u32_size();
+    }
+    uint64_t low = tk_value_by_product(next - TK_ZEROS, more);
+    uint64_t magnitude = high * tk_power_of_ten(more) + low;
+    tk_option_u32 number_found = tk_number_in_range_u32(TK_MOST_IN_TWO_WORDS, minus, magnitude);
+    if (!number_found.is_some) {
+        return tk_none_pair_u32_size();
+    }
+    uint32_t number = number_found.value;
+    return tk_some_pair_u32_size(tk_new_pair_u32_size(number, 8 + TK_CAST(size_t, more)));
+}
+
+/* atoi_fast/src/short_prefix.rt:33 */
+TK_INLINE tk_option_pair_u32_size tk_prefix_of_words_u32(tk_bytes s)
+{
+    uint64_t word = tk_load_full(s);
+    /* A `-` borrows from the next byte, so that a `0` there looks like no digit. */
+    uint64_t above = word + UINT64_C(0x4646464646464646);
+    uint64_t below = word - TK_ZEROS;
+    uint64_t marks = (above | below) & UINT64_C(0x8080808080808000);
+    if ((marks & 0x8000) != 0) {
+        /*
+         * Most numbers of many texts have one digit: the processor guesses that, and the next load waits
+         * for nothing.
+         */
+        uint8_t digit = tk_lowest_byte(below);
+        if (digit > 9) {
+            return tk_none_pair_u32_size();
+        }
+        return tk_some_pair_u32_size(tk_new_pair_u32_size(tk_from_parts_u32(false, tk_u128_of(digit)), 1));
+    }
+    bool minus = false & (tk_lowest_byte(word) == '-');
+    /* The digit of a `-` is 0, and takes the borrow back. */
+    uint64_t digits = below + 3 * TK_CAST(uint64_t, minus);
+    if (tk_lowest_byte(digits) > 9) {
+        return tk_none_pair_u32_size();
+    }
+    if (marks == 0) {
+        return tk_prefix_of_two_words_u32(minus, tk_sum_of(digits), s);
+    }
+    uint32_t len = tk_trailing_zeros_64(marks) / 8;
+    tk_option_u32 number_found = tk_number_in_range_u32(TK_MOST_IN_WORD, minus, tk_value_by_product(digits, len));
+    if (!number_found.is_some) {
+        return tk_none_pair_u32_size();
+    }
+    uint32_t number = number_found.value;
+    return tk_some_pair_u32_size(tk_new_pair_u32_size(number, TK_CAST(size_t, len)));
+}
+
+/* atoi_fast/src/quick.rt:25 */
+TK_INLINE tk_option_pair_u32_size tk_quick_prefix_u32(tk_bytes s)
+{
+    if (s.len < 16) {
+        return tk_digit_prefix_u32(s);
+    }
+    if (s.len >= 2 && '0' <= s.at[0] && s.at[0] <= '9' && !tk_is_digit(s.at[1])) {
+        uint8_t first = s.at[0];
+        tk_u128 number = tk_u128_of(TK_CAST(uint8_t, first - '0'));
+        return tk_some_pair_u32_size(tk_new_pair_u32_size(tk_from_parts_u32(false, number), 1));
+    }
+    if (s.len >= 3 && '0' <= s.at[0] && s.at[0] <= '9' && '0' <= s.at[1] && s.at[1] <= '9' && !tk_is_digit(s.at[2])) {
+        uint8_t first = s.at[0];
+        uint8_t second = s.at[1];
+        uint32_t tens = TK_CAST(uint32_t, TK_CAST(uint8_t, first - '0'));
+        uint32_t number = 10 * tens + TK_CAST(uint32_t, TK_CAST(uint8_t, second - '0'));
+        return tk_some_pair_u32_size(tk_new_pair_u32_size(tk_from_parts_u32(false, tk_u128_of(number)), 2));
+    }
+    return tk_prefix_of_words_u32(s);
+}
+
+/* atoi_fast/src/quick.rt:47 */
+TK_INLINE tk_option_pair_i64_size tk_digit_prefix_i64(tk_bytes s)
+{
+    if (s.len >= 2 && '0' <= s.at[1] && s.at[1] <= '9') {
+        return tk_none_pair_i64_size();
+    }
+    if (s.len >= 1 && '0' <= s.at[0] && s.at[0] <= '9') {
+        uint8_t digit = s.at[0];
+        tk_u128 number = tk_u128_of(TK_CAST(uint8_t, digit - '0'));
+        return tk_some_pair_i64_size(tk_new_pair_i64_size(tk_from_parts_i64(false, number), 1));
+    }
+    return tk_none_pair_i64_size();
+}
+
+/* atoi_fast/src/in_range.rt:17 */
+TK_INLINE tk_option_i64 tk_number_in_range_i64(uint64_t most, bool minus, uint64_t magnitude)
+{
+    if (tk_u128_less(tk_u128_of(UINT64_C(9223372036854775807)), tk_u128_of(most))
+        && magnitude > tk_u128_low(tk_u128_of(UINT64_C(9223372036854775807))) + TK_CAST(uint64_t, minus)) {
+        return tk_none_i64();
+    }
+    return tk_some_i64(tk_from_parts_i64(minus, tk_u128_of(magnitude)));
+}
+
+/* atoi_fast/src/short_prefix.rt:74 */
+TK_INLINE tk_option_pair_i64_size tk_prefix_of_two_words_i64(bool minus, uint64_t high, tk_bytes s)
+{
+    uint64_t next = tk_load_full(tk_bytes_from(s, 8));
+    uint32_t more = tk_digits_of(next);
+    if (more == 8) {
+        uint64_t high_2 = high * 100000000 + tk_sum_of(next - TK_ZEROS);
+        return tk_prefix_of_three_words_i64(minus, high_2, s);
+    }
+    uint64_t low = tk_value_by_product(next - TK_ZEROS, more);
+    uint64_t magnitude = high * tk_power_of_ten(more) + low;
+    tk_option_i64 number_found = tk_number_in_range_i64(TK_MOST_IN_TWO_WORDS, minus, magnitude);
+    if (!number_found.is_some) {
+        return tk_none_pair_i64_size();
+    }
+    int64_t number = number_found.value;
+    return tk_some_pair_i64_size(tk_new_pair_i64_size(number, 8 + TK_CAST(size_t, more)));
+}
+
+/* atoi_fast/src/short_prefix.rt:33 */
+TK_INLINE tk_option_pair_i64_size tk_prefix_of_words_i64(tk_bytes s)
+{
+    uint64_t word = tk_load_full(s);
+    /* A `-` borrows from the next byte, so that a `0` there looks like no digit. */
+    uint64_t above = word + UINT64_C(0x4646464646464646);
+    uint64_t below = word - TK_ZEROS;
+    uint64_t marks = (above | below) & UINT64_C(0x8080808080808000);
+    if ((marks & 0x8000) != 0) {
+        /*
+         * Most numbers of many texts have one digit: the processor guesses that, and the next load waits
+         * for nothing.
+         */
+        uint8_t digit = tk_lowest_byte(below);
+        if (digit > 9) {
+            return tk_none_pair_i64_size();
+        }
+        return tk_some_pair_i64_size(tk_new_pair_i64_size(tk_from_parts_i64(false, tk_u128_of(digit)), 1));
+    }
+    bool minus = true & (tk_lowest_byte(word) == '-');
+    /* The digit of a `-` is 0, and takes the borrow back. */
+    uint64_t digits = below + 3 * TK_CAST(uint64_t, minus);
+    if (tk_lowest_byte(digits) > 9) {
+        return tk_none_pair_i64_size();
+    }
+    if (marks == 0) {
+        return tk_prefix_of_two_words_i64(minus, tk_sum_of(digits), s);
+    }
+    uint32_t len = tk_trailing_zeros_64(marks) / 8;
+    tk_option_i64 number_found = tk_number_in_range_i64(TK_MOST_IN_WORD, minus, tk_value_by_product(digits, len));
+    if (!number_found.is_some) {
+        return tk_none_pair_i64_size();
+    }
+    int64_t number = number_found.value;
+    return tk_some_pair_i64_size(tk_new_pair_i64_size(number, TK_CAST(size_t, len)));
+}
+
+/* atoi_fast/src/quick.rt:25 */
+TK_INLINE tk_option_pair_i64_size tk_quick_prefix_i64(tk_bytes s)
+{
+    if (s.len < 16) {
+        return tk_digit_prefix_i64(s);
+    }
+    if (s.len >= 2 && '0' <= s.at[0] && s.at[0] <= '9' && !tk_is_digit(s.at[1])) {
+        uint8_t first = s.at[0];
+        tk_u128 number = tk_u128_of(TK_CAST(uint8_t, first - '0'));
+        return tk_some_pair_i64_size(tk_new_pair_i64_size(tk_from_parts_i64(false, number), 1));
+    }
+    if (s.len >= 3 && '0' <= s.at[0] && s.at[0] <= '9' && '0' <= s.at[1] && s.at[1] <= '9' && !tk_is_digit(s.at[2])) {
+        uint8_t first = s.at[0];
+        uint8_t second = s.at[1];
+        uint32_t tens = TK_CAST(uint32_t, TK_CAST(uint8_t, first - '0'));
+        uint32_t number = 10 * tens + TK_CAST(uint32_t, TK_CAST(uint8_t, second - '0'));
+        return tk_some_pair_i64_size(tk_new_pair_i64_size(tk_from_parts_i64(false, tk_u128_of(number)), 2));
+    }
+    return tk_prefix_of_words_i64(s);
+}
+
+/* atoi_fast/src/quick.rt:47 */
+TK_INLINE tk_option_pair_u64_size tk_digit_prefix_u64(tk_bytes s)
+{
+    if (s.len >= 2 && '0' <= s.at[1] && s.at[1] <= '9') {
+        return tk_none_pair_u64_size();
+    }
+    if (s.len >= 1 && '0' <= s.at[0] && s.at[0] <= '9') {
+        uint8_t digit = s.at[0];
+        tk_u128 number = tk_u128_of(TK_CAST(uint8_t, digit - '0'));
+        return tk_some_pair_u64_size(tk_new_pair_u64_size(tk_from_parts_u64(false, number), 1));
+    }
+    return tk_none_pair_u64_size();
+}
+
+/* atoi_fast/src/in_range.rt:17 */
+TK_INLINE tk_option_u64 tk_number_in_range_u64(uint64_t most, bool minus, uint64_t magnitude)
+{
+    if (tk_u128_less(tk_u128_of(UINT64_C(18446744073709551615)), tk_u128_of(most))
+        && magnitude > tk_u128_low(tk_u128_of(UINT64_C(18446744073709551615))) + TK_CAST(uint64_t, minus)) {
+        return tk_none_u64();
+    }
+    return tk_some_u64(tk_from_parts_u64(minus, tk_u128_of(magnitude)));
+}
+
+/* atoi_fast/src/short_prefix.rt:74 */
+TK_INLINE tk_option_pair_u64_size tk_prefix_of_two_words_u64(bool minus, uint64_t high, tk_bytes s)
+{
+    uint64_t next = tk_load_full(tk_bytes_from(s, 8));
+    uint32_t more = tk_digits_of(next);
+    if (more == 8) {
+        uint64_t high_2 = high * 100000000 + tk_sum_of(next - TK_ZEROS);
+        return tk_prefix_of_three_words_u64(minus, high_2, s);
+    }
+    uint64_t low = tk_value_by_product(next - TK_ZEROS, more);
+    uint64_t magnitude = high * tk_power_of_ten(more) + low;
+    tk_option_u64 number_found = tk_number_in_range_u64(TK_MOST_IN_TWO_WORDS, minus, magnitude);
+    if (!number_found.is_some) {
+        return tk_none_pair_u64_size();
+    }
+    uint64_t number = number_found.value;
+    return tk_some_pair_u64_size(tk_new_pair_u64_size(number, 8 + TK_CAST(size_t, more)));
+}
+
+/* atoi_fast/src/short_prefix.rt:33 */
+TK_INLINE tk_option_pair_u64_size tk_prefix_of_words_u64(tk_bytes s)
+{
+    uint64_t word = tk_load_full(s);
+    /* A `-` borrows from the next byte, so that a `0` there looks like no digit. */
+    uint64_t above = word + UINT64_C(0x4646464646464646);
+    uint64_t below = word - TK_ZEROS;
+    uint64_t marks = (above | below) & UINT64_C(0x8080808080808000);
+    if ((marks & 0x8000) != 0) {
+        /*
+         * Most numbers of many texts have one digit: the processor guesses that, and the next load waits
+         * for nothing.
+         */
+        uint8_t digit = tk_lowest_byte(below);
+        if (digit > 9) {
+            return tk_none_pair_u64_size();
+        }
+        return tk_some_pair_u64_size(tk_new_pair_u64_size(tk_from_parts_u64(false, tk_u128_of(digit)), 1));
+    }
+    bool minus = false & (tk_lowest_byte(word) == '-');
+    /* The digit of a `-` is 0, and takes the borrow back. */
+    uint64_t digits = below + 3 * TK_CAST(uint64_t, minus);
+    if (tk_lowest_byte(digits) > 9) {
+        return tk_none_pair_u64_size();
+    }
+    if (marks == 0) {
+        return tk_prefix_of_two_words_u64(minus, tk_sum_of(digits), s);
+    }
+    uint32_t len = tk_trailing_zeros_64(marks) / 8;
+    tk_option_u64 number_found = tk_number_in_range_u64(TK_MOST_IN_WORD, minus, tk_value_by_product(digits, len));
+    if (!number_found.is_some) {
+        return tk_none_pair_u64_size();
+    }
+    uint64_t number = number_found.value;
+    return tk_some_pair_u64_size(tk_new_pair_u64_size(number, TK_CAST(size_t, len)));
+}
+
+/* atoi_fast/src/quick.rt:25 */
+TK_INLINE tk_option_pair_u64_size tk_quick_prefix_u64(tk_bytes s)
+{
+    if (s.len < 16) {
+        return tk_digit_prefix_u64(s);
+    }
+    if (s.len >= 2 && '0' <= s.at[0] && s.at[0] <= '9' && !tk_is_digit(s.at[1])) {
+        uint8_t first = s.at[0];
+        tk_u128 number = tk_u128_of(TK_CAST(uint8_t, first - '0'));
+        return tk_some_pair_u64_size(tk_new_pair_u64_size(tk_from_parts_u64(false, number), 1));
+    }
+    if (s.len >= 3 && '0' <= s.at[0] && s.at[0] <= '9' && '0' <= s.at[1] && s.at[1] <= '9' && !tk_is_digit(s.at[2])) {
+        uint8_t first = s.at[0];
+        uint8_t second = s.at[1];
+        uint32_t tens = TK_CAST(uint32_t, TK_CAST(uint8_t, first - '0'));
+        uint32_t number = 10 * tens + TK_CAST(uint32_t, TK_CAST(uint8_t, second - '0'));
+        return tk_some_pair_u64_size(tk_new_pair_u64_size(tk_from_parts_u64(false, tk_u128_of(number)), 2));
+    }
+    return tk_prefix_of_words_u64(s);
+}
+
+/* atoi_fast/src/quick.rt:47 */
+TK_INLINE tk_option_pair_i128_size tk_digit_prefix_i128(tk_bytes s)
+{
+    if (s.len >= 2 && '0' <= s.at[1] && s.at[1] <= '9') {
+        return tk_none_pair_i128_size();
+    }
+    if (s.len >= 1 && '0' <= s.at[0] && s.at[0] <= '9') {
+        uint8_t digit = s.at[0];
+        tk_u128 number = tk_u128_of(TK_CAST(uint8_t, digit - '0'));
+        return tk_some_pair_i128_size(tk_new_pair_i128_size(tk_from_parts_i128(false, number), 1));
+    }
+    return tk_none_pair_i128_size();
+}
+
+/* atoi_fast/src/in_range.rt:17 */
+TK_INLINE tk_option_i128 tk_number_in_range_i128(uint64_t most, bool minus, uint64_t magnitude)
+{
+    if (tk_u128_less(tk_u128_make(UINT64_C(9223372036854775807), UINT64_C(18446744073709551615)), tk_u128_of(most))
+        && magnitude > tk_u128_low(tk_u128_make(UINT64_C(9223372036854775807),
+                                                UINT64_C(18446744073709551615))) + TK_CAST(uint64_t, minus)) {
+        return tk_none_i128();
+    }
+    return tk_some_i128(tk_from_parts_i128(minus, tk_u128_of(magnitude)));
+}
+
+/* atoi_fast/src/short_prefix.rt:74 */
+TK_INLINE tk_option_pair_i128_size tk_prefix_of_two_words_i128(bool minus, uint64_t high, tk_bytes s)
+{
+    uint64_t next = tk_load_full(tk_bytes_from(s, 8));
+    uint32_t more = tk_digits_of(next);
+    if (more == 8) {
+        return tk_none_pair_i128_size();
+    }
+    uint64_t low = tk_value_by_product(next - TK_ZEROS, more);
+    uint64_t magnitude = high * tk_power_of_ten(more) + low;
+    tk_option_i128 number_found = tk_number_in_range_i128(TK_MOST_IN_TWO_WORDS, minus, magnitude);
+    if (!number_found.is_some) {
+        return tk_none_pair_i128_size();
+    }
+    tk_i128 number = number_found.value;
+    return tk_some_pair_i128_size(tk_new_pair_i128_size(number, 8 + TK_CAST(size_t, more)));
+}
+
+/* atoi_fast/src/short_prefix.rt:33 */
+TK_INLINE tk_option_pair_i128_size tk_prefix_of_words_i128(tk_bytes s)
+{
+    uint64_t word = tk_load_full(s);
+    /* A `-` borrows from the next byte, so that a `0` there looks like no digit. */
+    uint64_t above = word + UINT64_C(0x4646464646464646);
+    uint64_t below = word - TK_ZEROS;
+    uint64_t marks = (above | below) & UINT64_C(0x8080808080808000);
+    if ((marks & 0x8000) != 0) {
+        /*
+         * Most numbers of many texts have one digit: the processor guesses that, and the next load waits
+         * for nothing.
+         */
+        uint8_t digit = tk_lowest_byte(below);
+        if (digit > 9) {
+            return tk_none_pair_i128_size();
+        }
+        return tk_some_pair_i128_size(tk_new_pair_i128_size(tk_from_parts_i128(false, tk_u128_of(digit)), 1));
+    }
+    bool minus = true & (tk_lowest_byte(word) == '-');
+    /* The digit of a `-` is 0, and takes the borrow back. */
+    uint64_t digits = below + 3 * TK_CAST(uint64_t, minus);
+    if (tk_lowest_byte(digits) > 9) {
+        return tk_none_pair_i128_size();
+    }
+    if (marks == 0) {
+        return tk_prefix_of_two_words_i128(minus, tk_sum_of(digits), s);
+    }
+    uint32_t len = tk_trailing_zeros_64(marks) / 8;
+    tk_option_i128 number_found = tk_number_in_range_i128(TK_MOST_IN_WORD, minus, tk_value_by_product(digits, len));
+    if (!number_found.is_some) {
+        return tk_none_pair_i128_size();
+    }
+    tk_i128 number = number_found.value;
+    return tk_some_pair_i128_size(tk_new_pair_i128_size(number, TK_CAST(size_t, len)));
+}
+
+/* atoi_fast/src/quick.rt:25 */
+TK_INLINE tk_option_pair_i128_size tk_quick_prefix_i128(tk_bytes s)
+{
+    if (s.len < 16) {
+        return tk_digit_prefix_i128(s);
+    }
+    if (s.len >= 2 && '0' <= s.at[0] && s.at[0] <= '9' && !tk_is_digit(s.at[1])) {
+        uint8_t first = s.at[0];
+        tk_u128 number = tk_u128_of(TK_CAST(uint8_t, first - '0'));
+        return tk_some_pair_i128_size(tk_new_pair_i128_size(tk_from_parts_i128(false, number), 1));
+    }
+    if (s.len >= 3 && '0' <= s.at[0] && s.at[0] <= '9' && '0' <= s.at[1] && s.at[1] <= '9' && !tk_is_digit(s.at[2])) {
+        uint8_t first = s.at[0];
+        uint8_t second = s.at[1];
+        uint32_t tens = TK_CAST(uint32_t, TK_CAST(uint8_t, first - '0'));
+        uint32_t number = 10 * tens + TK_CAST(uint32_t, TK_CAST(uint8_t, second - '0'));
+        return tk_some_pair_i128_size(tk_new_pair_i128_size(tk_from_parts_i128(false, tk_u128_of(number)), 2));
+    }
+    return tk_prefix_of_words_i128(s);
+}
+
+/* atoi_fast/src/quick.rt:47 */
+TK_INLINE tk_option_pair_u128_size tk_digit_prefix_u128(tk_bytes s)
+{
+    if (s.len >= 2 && '0' <= s.at[1] && s.at[1] <= '9') {
+        return tk_none_pair_u128_size();
+    }
+    if (s.len >= 1 && '0' <= s.at[0] && s.at[0] <= '9') {
+        uint8_t digit = s.at[0];
+        tk_u128 number = tk_u128_of(TK_CAST(uint8_t, digit - '0'));
+        return tk_some_pair_u128_size(tk_new_pair_u128_size(tk_from_parts_u128(false, number), 1));
+    }
+    return tk_none_pair_u128_size();
+}
+
+/* atoi_fast/src/in_range.rt:17 */
+TK_INLINE tk_option_u128 tk_number_in_range_u128(uint64_t most, bool minus, uint64_t magnitude)
+{
+    if (tk_u128_less(tk_u128_make(UINT64_C(18446744073709551615), UINT64_C(18446744073709551615)), tk_u128_of(most))
+        && magnitude > tk_u128_low(tk_u128_make(UINT64_C(18446744073709551615),
+                                                UINT64_C(18446744073709551615))) + TK_CAST(uint64_t, minus)) {
+        return tk_none_u128();
+    }
+    return tk_some_u128(tk_from_parts_u128(minus, tk_u128_of(magnitude)));
+}
+
+/* atoi_fast/src/short_prefix.rt:74 */
+TK_INLINE tk_option_pair_u128_size tk_prefix_of_two_words_u128(bool minus, uint64_t high, tk_bytes s)
+{
+    uint64_t next = tk_load_full(tk_bytes_from(s, 8));
+    uint32_t more = tk_digits_of(next);
+    if (more == 8) {
+        return tk_none_pair_u128_size();
+    }
+    uint64_t low = tk_value_by_product(next - TK_ZEROS, more);
+    uint64_t magnitude = high * tk_power_of_ten(more) + low;
+    tk_option_u128 number_found = tk_number_in_range_u128(TK_MOST_IN_TWO_WORDS, minus, magnitude);
+    if (!number_found.is_some) {
+        return tk_none_pair_u128_size();
+    }
+    tk_u128 number = number_found.value;
+    return tk_some_pair_u128_size(tk_new_pair_u128_size(number, 8 + TK_CAST(size_t, more)));
+}
+
+/* atoi_fast/src/short_prefix.rt:33 */
+TK_INLINE tk_option_pair_u128_size tk_prefix_of_words_u128(tk_bytes s)
+{
+    uint64_t word = tk_load_full(s);
+    /* A `-` borrows from the next byte, so that a `0` there looks like no digit. */
+    uint64_t above = word + UINT64_C(0x4646464646464646);
+    uint64_t below = word - TK_ZEROS;
+    uint64_t marks = (above | below) & UINT64_C(0x8080808080808000);
+    if ((marks & 0x8000) != 0) {
+        /*
+         * Most numbers of many texts have one digit: the processor guesses that, and the next load waits
+         * for nothing.
+         */
+        uint8_t digit = tk_lowest_byte(below);
+        if (digit > 9) {
+            return tk_none_pair_u128_size();
+        }
+        return tk_some_pair_u128_size(tk_new_pair_u128_size(tk_from_parts_u128(false, tk_u128_of(digit)), 1));
+    }
+    bool minus = false & (tk_lowest_byte(word) == '-');
+    /* The digit of a `-` is 0, and takes the borrow back. */
+    uint64_t digits = below + 3 * TK_CAST(uint64_t, minus);
+    if (tk_lowest_byte(digits) > 9) {
+        return tk_none_pair_u128_size();
+    }
+    if (marks == 0) {
+        return tk_prefix_of_two_words_u128(minus, tk_sum_of(digits), s);
+    }
+    uint32_t len = tk_trailing_zeros_64(marks) / 8;
+    tk_option_u128 number_found = tk_number_in_range_u128(TK_MOST_IN_WORD, minus, tk_value_by_product(digits, len));
+    if (!number_found.is_some) {
+        return tk_none_pair_u128_size();
+    }
+    tk_u128 number = number_found.value;
+    return tk_some_pair_u128_size(tk_new_pair_u128_size(number, TK_CAST(size_t, len)));
+}
+
+/* atoi_fast/src/quick.rt:25 */
+TK_INLINE tk_option_pair_u128_size tk_quick_prefix_u128(tk_bytes s)
+{
+    if (s.len < 16) {
+        return tk_digit_prefix_u128(s);
+    }
+    if (s.len >= 2 && '0' <= s.at[0] && s.at[0] <= '9' && !tk_is_digit(s.at[1])) {
+        uint8_t first = s.at[0];
+        tk_u128 number = tk_u128_of(TK_CAST(uint8_t, first - '0'));
+        return tk_some_pair_u128_size(tk_new_pair_u128_size(tk_from_parts_u128(false, number), 1));
+    }
+    if (s.len >= 3 && '0' <= s.at[0] && s.at[0] <= '9' && '0' <= s.at[1] && s.at[1] <= '9' && !tk_is_digit(s.at[2])) {
+        uint8_t first = s.at[0];
+        uint8_t second = s.at[1];
+        uint32_t tens = TK_CAST(uint32_t, TK_CAST(uint8_t, first - '0'));
+        uint32_t number = 10 * tens + TK_CAST(uint32_t, TK_CAST(uint8_t, second - '0'));
+        return tk_some_pair_u128_size(tk_new_pair_u128_size(tk_from_parts_u128(false, tk_u128_of(number)), 2));
+    }
+    return tk_prefix_of_words_u128(s);
+}
+
+/* Returns whether `byte` may separate fields: any byte except a digit, `+` or `-`. */
+/* atoi_column/src/column.rt:27 */
+TK_HINTED bool tk_is_separator(uint8_t byte)
+{
+    return !(('0' <= byte && byte <= '9') || byte == '+' || byte == '-');
+}
+/* ---- The interface, written by hand. */
+
+TK_INLINE tk_bytes tk_text(const char *text, size_t length) TORKETTLE_NOEXCEPT
+{
+    return tk_bytes_of(TORKETTLE_BYTES_(text), length);
 }
 
 /*
@@ -360,34 +2393,27 @@ static inline torkettle_status torkettle_refusal(torkettle_status status) TORKET
     return status == TORKETTLE_OK ? TORKETTLE_EMPTY : status;
 }
 
-/* How many bytes of a text are fields: none if the separator is a digit, `+` or `-`, and so no field is one digit. */
+/* How many bytes of a text are fields: none if the separator is a digit, `+` or `-`, and so no field is found. */
 static inline size_t torkettle_rest_length(size_t length, char separator) TORKETTLE_NOEXCEPT
 {
-    return torkettle_is_digit(separator) || separator == '+' || separator == '-' ? 0 : length;
+    return tk_is_separator(TK_CAST(uint8_t, separator)) ? length : 0;
 }
 
-/* `suffix` is `_i64` and so on. The program may have `i64` itself as a macro, which the call would expand. */
-#define TORKETTLE_PICK_(kind, suffix)                                                                                  \
-    (flags & TORKETTLE_SKIP_ZEROES                                                                                     \
-         ? (flags & TORKETTLE_SKIP_PLUS ? torkettle_##kind##_zeroes_plus##suffix(text, length)                         \
-                                        : torkettle_##kind##_zeroes##suffix(text, length))                             \
-         : (flags & TORKETTLE_SKIP_PLUS ? torkettle_##kind##_plus##suffix(text, length)                                \
-                                        : torkettle_##kind##suffix(text, length)))
-
-/* Reads the next field of a column or of fields. `called` does that, unless the field is one digit and a separator. */
+/* Reads the next field of a column or of fields. `called` does that, unless a number and then a separator are first. */
 #define TORKETTLE_NEXT_(kind, called, suffix)                                                                          \
-    static inline torkettle_found##suffix torkettle_next_of_##kind##suffix(torkettle_##kind##suffix *fields)           \
+    TK_INLINE torkettle_found##suffix torkettle_next_of_##kind##suffix(torkettle_##kind##suffix *fields)               \
         TORKETTLE_NOEXCEPT                                                                                             \
     {                                                                                                                  \
-        const char *digit = fields->rest;                                                                              \
-        if (fields->rest_length < 2 || digit[1] != fields->separator || !torkettle_is_digit(digit[0]))                 \
+        tk_option_pair##suffix##_size quick = tk_quick_prefix##suffix(tk_text(fields->rest, fields->rest_length));     \
+        size_t count = quick.value.second;                                                                             \
+        if (!quick.is_some || count == fields->rest_length || fields->rest[count] != fields->separator)                \
             return torkettle_##called##suffix(fields);                                                                 \
         fields->status = TORKETTLE_OK;                                                                                 \
         fields->next_index += 1;                                                                                       \
-        fields->next_offset += 2;                                                                                      \
-        fields->rest += 2;                                                                                             \
-        fields->rest_length -= 2;                                                                                      \
-        return torkettle_digit##suffix(digit);                                                                         \
+        fields->next_offset += count + 1;                                                                              \
+        fields->rest += count + 1;                                                                                     \
+        fields->rest_length -= count + 1;                                                                              \
+        return TK_MAKE(torkettle_found##suffix, quick.value.first, 1);                                                 \
     }
 
 #define TORKETTLE_FUNCTIONS_(name, type)                                                                               \
@@ -406,7 +2432,6 @@ static inline size_t torkettle_rest_length(size_t length, char separator) TORKET
         size_t rest_length;                                                                                            \
         char separator;                                                                                                \
         char is_lines;                                                                                                 \
-        char values_are_set;                                                                                           \
     } torkettle_column_##name;                                                                                         \
                                                                                                                        \
     typedef struct torkettle_fields_##name {                                                                           \
@@ -421,23 +2446,12 @@ static inline size_t torkettle_rest_length(size_t length, char separator) TORKET
         size_t rest_length;                                                                                            \
         char separator;                                                                                                \
         char is_lines;                                                                                                 \
-        char values_are_set;                                                                                           \
     } torkettle_fields_##name;                                                                                         \
                                                                                                                        \
-    torkettle_found_##name torkettle_whole_##name(const char *text, size_t length) TORKETTLE_SYMBOL_(whole_##name);    \
-    torkettle_found_##name torkettle_whole_zeroes_##name(const char *text, size_t length)                              \
-        TORKETTLE_SYMBOL_(whole_zeroes_##name);                                                                        \
-    torkettle_found_##name torkettle_whole_plus_##name(const char *text, size_t length)                                \
-        TORKETTLE_SYMBOL_(whole_plus_##name);                                                                          \
-    torkettle_found_##name torkettle_whole_zeroes_plus_##name(const char *text, size_t length)                         \
-        TORKETTLE_SYMBOL_(whole_zeroes_plus_##name);                                                                   \
-    torkettle_found_##name torkettle_prefix_##name(const char *text, size_t length) TORKETTLE_SYMBOL_(prefix_##name);  \
-    torkettle_found_##name torkettle_prefix_zeroes_##name(const char *text, size_t length)                             \
-        TORKETTLE_SYMBOL_(prefix_zeroes_##name);                                                                       \
-    torkettle_found_##name torkettle_prefix_plus_##name(const char *text, size_t length)                               \
-        TORKETTLE_SYMBOL_(prefix_plus_##name);                                                                         \
-    torkettle_found_##name torkettle_prefix_zeroes_plus_##name(const char *text, size_t length)                        \
-        TORKETTLE_SYMBOL_(prefix_zeroes_plus_##name);                                                                  \
+    torkettle_found_##name torkettle_whole_##name(const char *text, size_t length, unsigned flags)                     \
+        TORKETTLE_SYMBOL_(whole_##name);                                                                               \
+    torkettle_found_##name torkettle_prefix_##name(const char *text, size_t length, unsigned flags)                    \
+        TORKETTLE_SYMBOL_(prefix_##name);                                                                              \
     torkettle_found_##name torkettle_whole_canonical_##name(const char *text, size_t length)                           \
         TORKETTLE_SYMBOL_(whole_canonical_##name);                                                                     \
     torkettle_found_##name torkettle_prefix_json_##name(const char *text, size_t length)                               \
@@ -446,6 +2460,15 @@ static inline size_t torkettle_rest_length(size_t length, char separator) TORKET
     torkettle_found_##name torkettle_next_field_##name(torkettle_fields_##name *fields)                                \
         TORKETTLE_SYMBOL_(next_field_##name);                                                                          \
                                                                                                                        \
+    torkettle_status torkettle_parse_pos_##name(const char *text, size_t length, unsigned flags, type *value)          \
+        TORKETTLE_SYMBOL_(parse_pos_##name);                                                                           \
+    torkettle_status torkettle_parse_prefix_pos_##name(const char *text, size_t length, unsigned flags, type *value,   \
+                                                       size_t *count) TORKETTLE_SYMBOL_(parse_prefix_pos_##name);      \
+    torkettle_status torkettle_called_parse_##name(const char *text, size_t length, unsigned flags, type *value)       \
+        TORKETTLE_SYMBOL_(parse_##name);                                                                               \
+    torkettle_status torkettle_called_parse_prefix_##name(const char *text, size_t length, unsigned flags,             \
+                                                          type *value, size_t *count)                                  \
+        TORKETTLE_SYMBOL_(parse_prefix_##name);                                                                        \
     torkettle_error torkettle_parse_error_##name(const char *text, size_t length, unsigned flags)                      \
         TORKETTLE_SYMBOL_(parse_error_##name);                                                                         \
     torkettle_error torkettle_parse_prefix_error_##name(const char *text, size_t length, unsigned flags)               \
@@ -457,24 +2480,22 @@ static inline size_t torkettle_rest_length(size_t length, char separator) TORKET
     size_t torkettle_fields_##name##_read(torkettle_fields_##name *fields, type *values, size_t count)                 \
         TORKETTLE_SYMBOL_(fields_##name##_read);                                                                       \
                                                                                                                        \
-    static inline torkettle_found_##name torkettle_digit_##name(const char *digit) TORKETTLE_NOEXCEPT                  \
-    {                                                                                                                  \
-        torkettle_found_##name found;                                                                                  \
-        found.value = TORKETTLE_CAST_(type, *digit - '0');                                                             \
-        found.length = 1;                                                                                              \
-        return found;                                                                                                  \
-    }                                                                                                                  \
-                                                                                                                       \
-    TORKETTLE_INLINE_ torkettle_found_##name torkettle_read_##name(const char *text, size_t length, unsigned flags)    \
+    TK_INLINE torkettle_found_##name torkettle_of_whole_##name(const char *text, size_t length, unsigned flags)        \
         TORKETTLE_NOEXCEPT                                                                                             \
     {                                                                                                                  \
-        torkettle_found_##name found;                                                                                  \
-        int64_t value = 0;                                                                                             \
-        found.length = torkettle_read_prefix(text, length, TORKETTLE_CAST_(type, -1) < 1, &value);                     \
-        found.value = TORKETTLE_CAST_(type, value);                                                                    \
-        if (found.length > 0 && TORKETTLE_CAST_(int64_t, found.value) == value)                                        \
-            return found;                                                                                              \
-        return TORKETTLE_PICK_(prefix, _##name);                                                                       \
+        tk_option_##name digit = tk_one_digit_##name(tk_text(text, length));                                           \
+        if (digit.is_some)                                                                                             \
+            return TK_MAKE(torkettle_found_##name, digit.value, 1);                                                    \
+        return torkettle_whole_##name(text, length, flags);                                                            \
+    }                                                                                                                  \
+                                                                                                                       \
+    TK_INLINE torkettle_found_##name torkettle_of_prefix_##name(const char *text, size_t length, unsigned flags)       \
+        TORKETTLE_NOEXCEPT                                                                                             \
+    {                                                                                                                  \
+        tk_option_pair_##name##_size quick = tk_quick_prefix_##name(tk_text(text, length));                            \
+        if (quick.is_some)                                                                                             \
+            return TK_MAKE(torkettle_found_##name, quick.value.first, quick.value.second);                             \
+        return torkettle_prefix_##name(text, length, flags);                                                           \
     }                                                                                                                  \
                                                                                                                        \
     TORKETTLE_NEXT_(column, next, _##name)                                                                             \
@@ -483,18 +2504,17 @@ static inline size_t torkettle_rest_length(size_t length, char separator) TORKET
     static inline torkettle_status torkettle_parse_##name(const char *text, size_t length, unsigned flags,             \
                                                           type *value) TORKETTLE_NOEXCEPT                              \
     {                                                                                                                  \
-        torkettle_found_##name found =                                                                                 \
-            torkettle_whole_is_digit(text, length) ? torkettle_digit_##name(text) : TORKETTLE_PICK_(whole, _##name);   \
+        torkettle_found_##name found = torkettle_of_whole_##name(text, length, flags);                                 \
         if (found.length == 0)                                                                                         \
             return torkettle_refusal(torkettle_parse_error_##name(text, length, flags).status);                        \
         *value = found.value;                                                                                          \
         return TORKETTLE_OK;                                                                                           \
     }                                                                                                                  \
                                                                                                                        \
-    TORKETTLE_INLINE_ torkettle_status torkettle_parse_prefix_##name(const char *text, size_t length, unsigned flags,  \
-                                                                     type *value, size_t *count) TORKETTLE_NOEXCEPT    \
+    TK_INLINE torkettle_status torkettle_parse_prefix_##name(const char *text, size_t length, unsigned flags,          \
+                                                             type *value, size_t *count) TORKETTLE_NOEXCEPT            \
     {                                                                                                                  \
-        torkettle_found_##name found = torkettle_read_##name(text, length, flags);                                     \
+        torkettle_found_##name found = torkettle_of_prefix_##name(text, length, flags);                                \
         if (found.length == 0)                                                                                         \
             return torkettle_refusal(torkettle_parse_prefix_error_##name(text, length, flags).status);                 \
         *value = found.value;                                                                                          \
@@ -504,9 +2524,7 @@ static inline size_t torkettle_rest_length(size_t length, char separator) TORKET
                                                                                                                        \
     static inline bool torkettle_canonical_##name(const char *text, size_t length, type *value) TORKETTLE_NOEXCEPT     \
     {                                                                                                                  \
-        torkettle_found_##name found = torkettle_whole_is_digit(text, length)                                          \
-                                           ? torkettle_digit_##name(text)                                              \
-                                           : torkettle_whole_canonical_##name(text, length);                           \
+        torkettle_found_##name found = torkettle_whole_canonical_##name(text, length);                                 \
         if (found.length == 0)                                                                                         \
             return false;                                                                                              \
         *value = found.value;                                                                                          \
@@ -542,7 +2560,7 @@ static inline size_t torkettle_rest_length(size_t length, char separator) TORKET
         fields->rest = text;                                                                                           \
         fields->rest_length = torkettle_rest_length(length, separator);                                                \
         fields->separator = separator;                                                                                 \
-        fields->is_lines = fields->values_are_set = 0;                                                                 \
+        fields->is_lines = 0;                                                                                          \
     }                                                                                                                  \
                                                                                                                        \
     static inline void torkettle_fields_##name##_init_lines(torkettle_fields_##name *fields, const char *text,         \
@@ -578,9 +2596,9 @@ TORKETTLE_FUNCTIONS_(i32, int32_t)
 TORKETTLE_FUNCTIONS_(u32, uint32_t)
 TORKETTLE_FUNCTIONS_(i64, int64_t)
 TORKETTLE_FUNCTIONS_(u64, uint64_t)
-#ifdef __SIZEOF_INT128__
-__extension__ typedef __int128 torkettle_i128;
-__extension__ typedef unsigned __int128 torkettle_u128;
+#if defined __SIZEOF_INT128__ && !defined TORKETTLE_NO_INT128
+typedef tk_i128 torkettle_i128;
+typedef tk_u128 torkettle_u128;
 TORKETTLE_FUNCTIONS_(i128, torkettle_i128)
 TORKETTLE_FUNCTIONS_(u128, torkettle_u128)
 #endif
@@ -659,14 +2677,28 @@ const char *torkettle_version(void) TORKETTLE_SYMBOL_(version);
 
 #undef TORKETTLE_ALIASES_
 #undef TORKETTLE_FUNCTIONS_
-#undef TORKETTLE_INLINE_
 #undef TORKETTLE_NEXT_
-#undef TORKETTLE_PICK_
-#undef TORKETTLE_CAST_
+/* torkettle.c goes on with these. */
+#ifndef TORKETTLE_SOURCE_
+#undef TK_CAST
+#undef TK_COLD
+#undef TK_FAR
+#undef TK_FAR_COLD
+#undef TK_HINTED
+#undef TK_INLINE
+#undef TK_MAKE
+#undef TK_MOST_IN_TWO_WORDS
+#undef TK_MOST_IN_WORD
+#undef TK_NOINLINE
+#undef TK_TEXT
+#undef TK_ZEROS
+#undef TK_SYMBOL
+#undef TORKETTLE_BYTES_
 #undef TORKETTLE_SYMBOL_
 #undef TORKETTLE_PREFIX_
 #undef TORKETTLE_TEXT_
 #undef TORKETTLE_NOEXCEPT
+#endif
 
 #ifdef __cplusplus
 }

@@ -1,7 +1,7 @@
 // Torkettle for C++17: `torkettle::from_chars`, with the results of `std::from_chars`, integers of JSON, and ranges
 // over the numbers of a text. Nothing here throws or allocates, unless `std::from_chars` does.
 //
-// Link with libtorkettle.so or libtorkettle.a.
+// Compile torkettle.c with your program, or link with a library of it.
 #ifndef TORKETTLE_HPP
 #define TORKETTLE_HPP
 
@@ -9,7 +9,6 @@
 
 #include <charconv>
 #include <cstddef>
-#include <cstring>
 #include <iterator>
 #include <optional>
 #include <string>
@@ -30,26 +29,24 @@ struct functions;
 #define TORKETTLE_FUNCTIONS_(size, is_signed, name)                                                                    \
     template <>                                                                                                        \
     struct functions<size, is_signed> {                                                                                \
-        static auto whole(const char *text, std::size_t length) noexcept                                               \
+        [[gnu::always_inline]] static auto whole(const char *text, std::size_t length, unsigned flags) noexcept        \
         {                                                                                                              \
-            return torkettle_whole_is_digit(text, length) ? torkettle_digit_##name(text)                               \
-                                                          : torkettle_whole_zeroes_##name(text, length);               \
+            return torkettle_of_whole_##name(text, length, flags);                                                     \
         }                                                                                                              \
         [[gnu::always_inline]] static auto prefix(const char *text, std::size_t length) noexcept                       \
         {                                                                                                              \
-            return torkettle_read_##name(text, length, TORKETTLE_SKIP_ZEROES);                                         \
+            return torkettle_of_prefix_##name(text, length, TORKETTLE_SKIP_ZEROES);                                    \
         }                                                                                                              \
         static auto canonical(const char *text, std::size_t length) noexcept                                           \
         {                                                                                                              \
-            return torkettle_whole_is_digit(text, length) ? torkettle_digit_##name(text)                               \
-                                                          : torkettle_whole_canonical_##name(text, length);            \
+            return torkettle_whole_canonical_##name(text, length);                                                     \
         }                                                                                                              \
         static auto json(const char *text, std::size_t length) noexcept                                                \
         {                                                                                                              \
             return torkettle_prefix_json_##name(text, length);                                                         \
         }                                                                                                              \
         using fields = torkettle_fields_##name;                                                                        \
-        static auto next(fields &state) noexcept                                                                       \
+        [[gnu::always_inline]] static auto next(fields &state) noexcept                                                \
         {                                                                                                              \
             return torkettle_next_of_fields_##name(&state);                                                            \
         }                                                                                                              \
@@ -68,7 +65,7 @@ TORKETTLE_FUNCTIONS_(4, true, i32)
 TORKETTLE_FUNCTIONS_(4, false, u32)
 TORKETTLE_FUNCTIONS_(8, true, i64)
 TORKETTLE_FUNCTIONS_(8, false, u64)
-#ifdef __SIZEOF_INT128__
+#if defined __SIZEOF_INT128__ && !defined TORKETTLE_NO_INT128
 TORKETTLE_FUNCTIONS_(16, true, i128)
 TORKETTLE_FUNCTIONS_(16, false, u128)
 #endif
@@ -86,7 +83,7 @@ constexpr bool is_integer = (std::is_integral_v<T> &&
                              && is_other<std::remove_cv_t<T>, char8_t>
 #endif
                              )
-#ifdef __SIZEOF_INT128__
+#if defined __SIZEOF_INT128__ && !defined TORKETTLE_NO_INT128
                             || std::is_same_v<T, torkettle_i128> || std::is_same_v<T, torkettle_u128>
 #endif
     ;
@@ -143,11 +140,12 @@ inline auto from_chars(const char *first, const char *last, T &value, Format... 
     return std::from_chars(first, last, value, format...);
 }
 
-// Returns the number, if the whole text is one that `from_chars` reads.
+// Returns the number, if the whole text is one that `from_chars` reads. With other flags (see torkettle.h), leading
+// zeros count as digits, or a `+` may come before them.
 template <class T, std::enable_if_t<detail::is_integer<T>, int> = 0>
-inline std::optional<T> parse(std::string_view text) noexcept
+inline std::optional<T> parse(std::string_view text, unsigned flags = TORKETTLE_SKIP_ZEROES) noexcept
 {
-    const auto found = detail::functions_of<T>::whole(text.data(), text.size());
+    const auto found = detail::functions_of<T>::whole(text.data(), text.size(), flags);
     if (found.length == 0)
         return std::nullopt;
     return static_cast<T>(found.value);
@@ -193,35 +191,13 @@ struct item {
 
 namespace detail {
 
-// Returns where the field of this index begins in a text. Looks for it from the field before it, unless `before` is null.
-// A loop that uses no offset leaves out the call, since the function is pure.
-[[gnu::pure, gnu::noinline]] inline const char *place_of(std::size_t index, std::string_view text, char separator,
-                                                         const char *before) noexcept
-{
-    const char *place = before != nullptr ? before : text.data();
-    const char *const end = text.data() + text.size();
-    for (std::size_t fields = before != nullptr ? 1 : index; fields > 0; --fields)
-        place = static_cast<const char *>(std::memchr(place, separator, static_cast<std::size_t>(end - place))) + 1;
-    return place;
-}
-
 template <class Allocator>
 using string = std::basic_string<char, std::char_traits<char>, Allocator>;
 
 // The items of a text, read once: a loop goes on where the last one ended. If `ends`, the first error is the last item.
-//
-// After some items, iterators take numbers from a block of them, which is read at once. A copy has no block.
 template <class T, bool ends>
 class range {
     static_assert(is_integer<T>, "T is an integer type that std::from_chars takes");
-
-    // A field of a block: where it begins, and the index of the next one.
-    struct mark {
-        const char *block = nullptr;
-        char separator = 0;
-        std::size_t next = 0;
-        const char *place = nullptr;
-    };
 
 public:
     // An input iterator. It reads on in the range that it was made by, and is equal to `end()` when nothing is left. What
@@ -249,7 +225,7 @@ public:
         }
         [[gnu::always_inline]] iterator &operator++() noexcept
         {
-            if (!items->advance(current, last))
+            if (!items->next(current))
                 items = nullptr;
             return *this;
         }
@@ -271,7 +247,6 @@ public:
     private:
         range *items = nullptr;
         item<T> current;
-        mark last;
     };
 
     // The fields of a text, which must stay as it is, with a separator between them. One more may follow the last. If
@@ -283,15 +258,6 @@ public:
     // A string that nothing else keeps is freed before the range is read.
     template <class Allocator>
     range(const string<Allocator> &&text, char separator) = delete;
-
-    range(const range &other) noexcept : state(other.unread())
-    {
-    }
-    range &operator=(const range &other) noexcept
-    {
-        start_at(other.unread());
-        return *this;
-    }
 
     // The lines of a text. A line ends with "\n" or "\r\n", which is not part of it.
     static range of_lines(std::string_view text) noexcept
@@ -309,10 +275,19 @@ public:
     }
 
     // Reads the next field into `field`. At the end, returns false, and leaves `field` as it is.
-    bool next(item<T> &field) noexcept
+    [[gnu::always_inline]] bool next(item<T> &field) noexcept
     {
-        go_back();
-        return read_alone(field);
+        const std::size_t index = state.next_index;
+        const std::size_t offset = state.next_offset;
+        const auto found = functions::next(state);
+        if (found.length == 1) {
+            field = {static_cast<T>(found.value), std::errc(), std::string_view(), index, offset};
+            return true;
+        }
+        if (found.length == 0)
+            return false;
+        field = refused();
+        return true;
     }
 
     // Reads at most `count` numbers into `values` and returns how many it has read. It reads fewer than `count` only if
@@ -321,7 +296,6 @@ public:
     // faster than `next` for more than about 15 fields.
     std::size_t read(T *values, std::size_t count) noexcept
     {
-        go_back();
         const std::size_t numbers = functions::read(state, values, count);
         if (state.status != TORKETTLE_OK)
             refused();
@@ -331,7 +305,7 @@ public:
     // Returns the error at which the last call of `read` or `next` stopped, if any.
     std::optional<item<T>> error_item() const noexcept
     {
-        if (state.status == TORKETTLE_OK || used < filled)
+        if (state.status == TORKETTLE_OK)
             return std::nullopt;
         return error();
     }
@@ -349,27 +323,21 @@ public:
     // The index of the next field or, at the end, the number of fields.
     std::size_t next_index() const noexcept
     {
-        return unread().next_index;
+        return state.next_index;
     }
 
     // The offset of the next field or, at the end, of the end of the text.
     std::size_t next_offset() const noexcept
     {
-        return unread().next_offset;
+        return state.next_offset;
     }
 
 private:
     using functions = functions_of<T>;
     using fields = typename functions::fields;
 
-    // So many items are read alone before the first block, and after an error, since a short block is slower.
-    static constexpr std::size_t first_alone = 4;
-    static constexpr std::size_t alone_after_error = 16;
-    static constexpr std::size_t first_room = 64;
-    static constexpr std::size_t last_room = 8192 / sizeof(T);
-
     range(std::string_view text, char separator, char is_lines) noexcept
-        : state{TORKETTLE_OK, 0, 0, nullptr, 0, 0, 0, text.data(), 0, separator, is_lines, 0}
+        : state{TORKETTLE_OK, 0, 0, nullptr, 0, 0, 0, text.data(), 0, separator, is_lines}
     {
         state.rest_length = torkettle_rest_length(text.size(), separator);
     }
@@ -388,125 +356,8 @@ private:
         return error();
     }
 
-    [[gnu::always_inline]] bool read_alone(item<T> &field) noexcept
-    {
-        const std::size_t offset = state.next_offset;
-        const auto found = functions::next(state);
-        if (__builtin_expect(found.length != 1, 0)) {
-            if (found.length == 0)
-                return false;
-            field = refused();
-            return true;
-        }
-        field = {static_cast<T>(found.value), std::errc(), std::string_view(), state.next_index - 1, offset};
-        return true;
-    }
-
-    // Does what `next` does, with a block. `last` is where the field before was, if the same iterator has read it. No
-    // function that is not inlined gets the address of the item.
-    [[gnu::always_inline]] bool advance(item<T> &field, mark &last) noexcept
-    {
-        // Most iterators go on where they were. Their index is in a register, and `used` in memory takes longer.
-        std::size_t index = last.next;
-        if (__builtin_expect(index != used || index >= filled, 0)) {
-            if (!has_block())
-                return read_alone(field);
-            index = used;
-        }
-        const bool is_next = last.block == block.rest && last.separator == block.separator && last.next == index;
-        const char *const place = place_of(index, block_text(), block.separator, is_next ? last.place : nullptr);
-        const std::size_t offset = block.next_offset + static_cast<std::size_t>(place - block.rest);
-        field = {block_values[index], std::errc(), std::string_view(), block.next_index + index, offset};
-        ++index;
-        used = index;
-        last = {block.rest, block.separator, index, place};
-        return true;
-    }
-
-    // Returns whether there are numbers in the block or, unless the next item is read alone, in the next block.
-    [[gnu::noinline]] bool has_block() noexcept
-    {
-        if (used < filled)
-            return true;
-        if (alone > 0) {
-            --alone;
-            return false;
-        }
-        return state.rest_length > 0 && read_block();
-    }
-
-    // Reads the next numbers, up to an error or the end, and returns whether there are any.
-    bool read_block() noexcept
-    {
-        if (set < room) {
-            std::memset(block_values + set, 0, (room - set) * sizeof(T));
-            set = room;
-        }
-        block = state;
-        used = 0;
-        state.values_are_set = 1;
-        filled = functions::read(state, block_values, room);
-        state.values_are_set = 0;
-        room = 4 * room < last_room ? 4 * room : last_room;
-        if (state.status != TORKETTLE_OK) {
-            // `read_alone` reads the error again.
-            state.status = TORKETTLE_OK;
-            state.rest_length += static_cast<std::size_t>(state.rest - state.text);
-            state.rest = state.text;
-            state.next_index = state.index;
-            state.next_offset = state.offset;
-            alone = alone_after_error;
-            room = first_room;
-        }
-        return filled > 0;
-    }
-
-    std::string_view block_text() const noexcept
-    {
-        return {block.rest, block.rest_length};
-    }
-
-    // What the iterators have not read yet.
-    fields unread() const noexcept
-    {
-        if (used == filled)
-            return state;
-        fields left = block;
-        left.status = TORKETTLE_OK;
-        left.rest = place_of(used, block_text(), block.separator, nullptr);
-        const auto length = static_cast<std::size_t>(left.rest - block.rest);
-        left.rest_length -= length;
-        left.next_index += used;
-        left.next_offset += length;
-        return left;
-    }
-
-    void start_at(const fields &left) noexcept
-    {
-        state = left;
-        used = filled = 0;
-        alone = first_alone;
-        room = first_room;
-    }
-
-    void go_back() noexcept
-    {
-        if (used < filled)
-            start_at(unread());
-    }
-
-    // What the library has not read yet.
+    // What is left to read.
     fields state;
-    // What it had not read before the block, and the numbers of the block, of which the iterators have read some.
-    fields block;
-    T block_values[last_room];
-    std::size_t used = 0;
-    std::size_t filled = 0;
-    // How many numbers of the array have been set.
-    std::size_t set = 0;
-    // How many items are read alone before the next block, and how many numbers that has.
-    std::size_t alone = first_alone;
-    std::size_t room = first_room;
 };
 
 } // namespace detail

@@ -164,6 +164,16 @@ static int is_error(torkettle_error error, torkettle_status status, unsigned bit
                 CHECK(refuses_prefix_##name("+42,7", flags, TORKETTLE_EMPTY));                                         \
                 CHECK(whole_##name("+" ZEROS "7", flags, &value) == TORKETTLE_EMPTY);                                  \
             }                                                                                                          \
+            CHECK(torkettle_parse_pos_##name("042", 3, flags, &value) == TORKETTLE_OK && value == 42);                 \
+            CHECK(torkettle_parse_pos_##name("-7", 2, flags, &value) == TORKETTLE_EMPTY && value == 42);               \
+            CHECK(torkettle_parse_pos_##name("+7", 2, flags, &value) == TORKETTLE_EMPTY && value == 42);               \
+            CHECK(torkettle_parse_pos_##name("7x", 2, flags, &value) == TORKETTLE_INVALID && value == 42);             \
+            CHECK(torkettle_parse_prefix_pos_##name("-7", 2, flags, &value, &count) == TORKETTLE_EMPTY);               \
+            CHECK(torkettle_parse_prefix_pos_##name("07-", 3, flags, &value, &count) == TORKETTLE_OK);                 \
+            CHECK(value == 7 && count == 2);                                                                           \
+            CHECK(torkettle_called_parse_##name("12", 2, flags, &value) == TORKETTLE_OK && value == 12);               \
+            CHECK(torkettle_called_parse_prefix_##name("1,2", 3, flags, &value, &count) == TORKETTLE_OK);              \
+            CHECK(value == 1 && count == 1);                                                                           \
             CHECK(whole_##name(ZEROS "7", flags, &value) == wide && value == (wide ? UNTOUCHED_##name : 7));           \
             CHECK(prefix_##name(ZEROS "7 ", flags, &value, &count) == size);                                           \
             CHECK(size ? value == UNTOUCHED_##name &&count == 999 : value == 7 && count == 42);                        \

@@ -48,15 +48,10 @@ static unsigned below(unsigned count)
 #define DEFINE_CHECKS(name, type)                                                                                      \
     static void check_text_##name(const char *text, size_t length)                                                     \
     {                                                                                                                  \
-        torkettle_found_##name (*const wholes[])(const char *, size_t) = {                                             \
-            torkettle_whole_##name, torkettle_whole_zeroes_##name, torkettle_whole_plus_##name,                        \
-            torkettle_whole_zeroes_plus_##name};                                                                       \
-        torkettle_found_##name (*const prefixes[])(const char *, size_t) = {                                           \
-            torkettle_prefix_##name, torkettle_prefix_zeroes_##name, torkettle_prefix_plus_##name,                     \
-            torkettle_prefix_zeroes_plus_##name};                                                                      \
         unsigned flags;                                                                                                \
         for (flags = 0; flags < 4; flags++) {                                                                          \
-            torkettle_found_##name whole = wholes[flags](text, length), prefix = prefixes[flags](text, length);        \
+            torkettle_found_##name whole = torkettle_whole_##name(text, length, flags);                                \
+            torkettle_found_##name prefix = torkettle_prefix_##name(text, length, flags);                              \
             type value = 99, start = 99;                                                                               \
             size_t count = 99;                                                                                         \
             int is_whole = torkettle_parse_##name(text, length, flags, &value) == TORKETTLE_OK;                        \

@@ -30,9 +30,9 @@ static long number_at(const char *text, char **end)
 {
     const char *start = text + strspn(text, " \t\n\v\f\r");
     unsigned flags = TORKETTLE_SKIP_ZEROES | TORKETTLE_SKIP_PLUS;
-    size_t count = 0;
+    size_t length = strspn(start, "+-0123456789"), count = 0;
     long value = 0;
-    torkettle_status status = torkettle_parse_prefix_l(start, strlen(start), flags, &value, &count);
+    torkettle_status status = torkettle_parse_prefix_l(start, length, flags, &value, &count);
 
     if (status == TORKETTLE_EMPTY)
         start = text;

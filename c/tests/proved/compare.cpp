@@ -1,17 +1,16 @@
-// Compares the printed C, `PROVED`, with the Rust of the package: compare TEXTS COLUMNS SEED [TYPES], of which each
-// text is parsed as that many types, one after the other, or as all. To build it:
+// Compares the proved functions of torkettle.c with the Rust of the package: compare TEXTS COLUMNS SEED [TYPES], of
+// which each text is parsed as that many types, one after the other, or as all. To build it:
 //
-//     .ci/translate --c out
 //     cargo build --release --manifest-path c/tests/proved/Cargo.toml
-//     c++ -std=c++17 -O1 -DPROVED='"out/torkettle_proved.h"' c/tests/proved/compare.cpp
+//     c++ -std=c++17 -O1 -Ic/include -Ic/src c/tests/proved/compare.cpp
 //         c/tests/proved/target/release/libtorkettle_oracle.a
 //
-// With -DCHECKED, what is proved is asserted: bounds, and in torkettle_checked.h that nothing overflows.
+// With -DCHECKED, what is proved is asserted: bounds and, in the files of `.ci/translate --c`, that nothing overflows.
 #include <cassert>
 #ifdef CHECKED
 #define TORKETTLE_CHECK(condition) assert(condition)
 #endif
-#include PROVED
+#include "torkettle.c"
 #include <cstdio>
 #include <cstdlib>
 #include <cstring>
@@ -155,9 +154,6 @@ struct Row {
     void explained(tk_error found, tk_bytes text)
     {
         error(found, text);
-        tk_option_size offset = tk_error_offset_in(found, text);
-        push(offset.is_some ? offset.value : UINT64_MAX);
-        push(tk_error_kind(found, text));
         uint8_t out[400];
         const size_t length = tk_error_text(found, out);
         uint64_t sum = 0;
@@ -220,6 +216,8 @@ static void same(const char *what, const char *type, tk_bytes text, unsigned fla
         static std::vector<uint64_t> other(256);                                                                       \
         static Row row;                                                                                                \
         const bool zeroes = flags & 1, plus = flags & 2;                                                               \
+        const tk_option_##name digit = tk_one_digit_##name(text);                                                      \
+        const tk_option_pair_##name##_size quick = tk_quick_prefix_##name(text);                                       \
         row.numbers.clear();                                                                                           \
         row.whole(tk_atoi_simd_parse_##name(text, zeroes, plus), text);                                                \
         row.prefix(tk_atoi_simd_parse_prefix_##name(text, zeroes, plus), text);                                        \
@@ -231,6 +229,11 @@ static void same(const char *what, const char *type, tk_bytes text, unsigned fla
         json.is_some ? (row.value(json.value.first), row.push(json.value.second.len)) : row.push(UINT64_MAX);          \
         same("parses", #name, text, flags, row, other,                                                                 \
              oracle_parses_##name(text.at, text.len, flags, other.data()));                                            \
+        row.numbers.clear();                                                                                           \
+        row.whole(digit.is_some ? tk_ok_##name(digit.value) : tk_atoi_simd_parse_##name(text, zeroes, plus), text);    \
+        row.prefix(quick.is_some ? tk_ok_pair_##name##_size(quick.value)                                               \
+                                 : tk_atoi_simd_parse_prefix_##name(text, zeroes, plus), text);                        \
+        same("quick reads", #name, text, flags, row, other, row.numbers.size());                                       \
     }                                                                                                                  \
     static void fields_##name(tk_bytes text, uint8_t separator, bool lines, size_t want)                               \
     {                                                                                                                  \
@@ -238,19 +241,8 @@ static void same(const char *what, const char *type, tk_bytes text, unsigned fla
         static Row row;                                                                                                \
         static std::vector<type> values(512);                                                                          \
         row.numbers.clear();                                                                                           \
-        tk_column column = tk_column_new(text, separator);                                                             \
-        for (auto item = tk_column_next_##name(&column); item.is_some; item = tk_column_next_##name(&column)) {        \
-            tk_column_error bad = item.value.error;                                                                    \
-            if (item.value.is_ok) {                                                                                    \
-                row.value(item.value.value);                                                                           \
-                continue;                                                                                              \
-            }                                                                                                          \
-            row.push(bad.tag == TK_COLUMN_ERROR_FIELD ? 7 : 8), row.push(bad.index), row.push(bad.place);              \
-            if (bad.tag == TK_COLUMN_ERROR_FIELD)                                                                      \
-                row.error(bad.cause, tk_bytes_from(text, bad.place));                                                  \
-        }                                                                                                              \
         const tk_fields all = lines ? tk_fields_lines(text) : tk_fields_new(text, separator);                          \
-        tk_fields left = tk_fields_starting_at(all, want, 3 * want);                                                   \
+        tk_fields left = all;                                                                                          \
         row.position(left);                                                                                            \
         for (auto item = tk_fields_next_##name(&left); item.is_some; item = tk_fields_next_##name(&left))              \
             row.item(item.value, text), row.position(left);                                                            \

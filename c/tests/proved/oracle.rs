@@ -1,9 +1,8 @@
 //! What the Rust of the package returns, as rows of numbers that `compare.cpp` compares with those of C.
 #![allow(improper_ctypes_definitions)]
 
-use std::num::IntErrorKind;
 use std::slice::{from_raw_parts, from_raw_parts_mut};
-use torkettle::column::{Column, ColumnError, FieldError, Fields, is_separator};
+use torkettle::column::{FieldError, Fields, is_separator};
 use torkettle::formats::{canonical, json_integer};
 use torkettle::{AtoiSimdError, Parse};
 
@@ -60,14 +59,6 @@ impl Row<'_> {
     // What can be asked of an error.
     fn explained(&mut self, error: AtoiSimdError<'_>, text: &[u8]) {
         self.error(error, text);
-        self.push(error.offset_in(text).map_or(u64::MAX, |it| it as u64));
-        self.push(match error.kind(text) {
-            IntErrorKind::Empty => 0,
-            IntErrorKind::InvalidDigit => 1,
-            IntErrorKind::PosOverflow => 2,
-            IntErrorKind::NegOverflow => 3,
-            _ => 4,
-        });
         let mut out = [0; 400];
         let length = error.text(&mut out);
         let sum =
@@ -134,21 +125,6 @@ fn parses<T: Parse>(text: &[u8], flags: u32, row: &mut Row<'_>) {
     }
 }
 
-fn column<T: Parse>(text: &[u8], separator: u8, row: &mut Row<'_>) {
-    for item in Column::<T>::new(text, separator) {
-        match item {
-            Ok(value) => row.value(value),
-            Err(ColumnError::Field { index, place, cause }) => {
-                row.push_all(&[7, index as u64, place as u64]);
-                row.error(cause, &text[place..]);
-            }
-            Err(ColumnError::Trailing { index, place }) => {
-                row.push_all(&[8, index as u64, place as u64]);
-            }
-        }
-    }
-}
-
 // Items one by one, and then numbers by `read`, with an item behind each.
 fn fields<T: Parse + Default>(
     text: &[u8],
@@ -158,7 +134,7 @@ fn fields<T: Parse + Default>(
     row: &mut Row<'_>,
 ) {
     let all = if lines { Fields::<T>::lines(text) } else { Fields::<T>::new(text, separator) };
-    let mut left = all.clone().starting_at(want, 3 * want);
+    let mut left = all.clone();
     row.position(&left);
     while let Some(item) = left.next() {
         row.item(item, text);
@@ -198,7 +174,6 @@ macro_rules! oracles {
                 if !is_separator(separator) {
                     return 0;
                 }
-                column::<$type>(text, separator, &mut row);
                 fields::<$type>(text, separator, lines, want, &mut row);
                 row.count
             }

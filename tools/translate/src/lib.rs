@@ -2,7 +2,7 @@
 //!
 //! The stages are those of a compiler: `lexer` makes tokens of a source, `parser` makes a tree of these, `modules`
 //! collects the trees of the package, `resolve` says what their names stand for, `checks` and `conditions` refuse
-//! what would lose its meaning, and `rust` prints. `facade` reads what the package exports. `c` prints C.
+//! what would lose its meaning, and `rust` prints. `facade` reads what the package exports. `c` prints the library for C.
 
 pub mod c;
 pub mod checks;
@@ -39,6 +39,15 @@ pub fn made(top: &Path) -> Result<BTreeMap<PathBuf, String>, Fault> {
     translate(&facade, &Package::read(top)?)
 }
 
+// Makes the Rust, and the library for C where there is one.
+fn all(top: &Path) -> Result<BTreeMap<PathBuf, String>, Fault> {
+    let mut made = made(top)?;
+    if top.join("c/interface").exists() {
+        made.extend(c::made(top, false)?.map(|(file, text)| (PathBuf::from(file), text)));
+    }
+    Ok(made)
+}
+
 /// Makes the Rust of a package that exports what the facade says.
 pub fn translate(facade: &Source, package: &Package) -> Result<BTreeMap<PathBuf, String>, Fault> {
     let exports = facade::exports(facade)?;
@@ -53,7 +62,7 @@ pub fn translate(facade: &Source, package: &Package) -> Result<BTreeMap<PathBuf,
 
 /// Writes the files below `top`, and removes all others from their folder.
 pub fn write(top: &Path) -> Result<(), Fault> {
-    let made = made(top)?;
+    let made = all(top)?;
     for file in differing(top, &made)? {
         let path = top.join(&file);
         let done = match made.get(&file) {
@@ -69,7 +78,7 @@ pub fn write(top: &Path) -> Result<(), Fault> {
 /// Returns how many files are made, and those below `top` that are not there, hold something else, or are not
 /// made. Writes nothing.
 pub fn compare(top: &Path) -> Result<(usize, Vec<PathBuf>), Fault> {
-    let made = made(top)?;
+    let made = all(top)?;
     Ok((made.len(), differing(top, &made)?.into_iter().collect()))
 }
 

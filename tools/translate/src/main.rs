@@ -20,14 +20,14 @@ fn main() -> ExitCode {
     if faults.is_empty() { ExitCode::SUCCESS } else { ExitCode::FAILURE }
 }
 
-// Writes the C of the proved sources into a folder.
+// Writes the library for C into a folder, with operators that assert what is proved.
 fn write_c(folder: &str) -> Vec<String> {
-    let files = match torkettle_translate::c::made(Path::new("")) {
+    let files = match torkettle_translate::c::made(Path::new(""), true) {
         Ok(files) => files,
         Err(fault) => return vec![fault.to_string()],
     };
-    let written =
-        files.iter().map(|(name, text)| std::fs::write(Path::new(folder).join(name), text));
+    let path = |name| Path::new(folder).join(Path::new(name).file_name().unwrap_or_default());
+    let written = files.iter().map(|(name, text)| std::fs::write(path(name), text));
     written.filter_map(|it| it.err().map(|error| format!("{folder}: {error}"))).collect()
 }
 
@@ -36,7 +36,7 @@ fn check() -> Vec<String> {
     match compare(Path::new("")) {
         Err(fault) => vec![fault.to_string()],
         Ok((files, differ)) => {
-            println!("{files} files of the Cargo package, {} differ", differ.len());
+            println!("{files} files of the Cargo package and of C, {} differ", differ.len());
             let line = |file: &std::path::PathBuf| {
                 format!("{} is not what .ci/translate makes", file.display())
             };

@@ -101,32 +101,29 @@ fn checked_operators_assert_what_is_proved() {
 
 // What a compiler has in each file must be small, and functions that types do not change are there once.
 #[test]
-fn the_package_has_an_inline_part_and_the_rest() {
-    let [(_, all), _, (_, inline), (_, rest)] = made(Path::new(TOP)).unwrap();
-    for text in [&all, &inline, &rest] {
+fn the_library_has_an_inline_part_and_the_rest() {
+    let [(_, header), (_, source)] = made(Path::new(TOP), false).unwrap();
+    for text in [&header, &source] {
         assert!(text.is_ascii());
         assert!(text.lines().all(|line| line.len() <= 120));
+        assert!(!text.contains("/* @"));
     }
-    for (name, count) in [
-        ("greatest_magnitude", 1),
-        ("fields_position", 1),
-        ("parse_text_i64", 1),
-        ("fields_read_u8", 1),
+    for (name, is_inline) in [
+        ("value_by_product", true),
+        ("quick_prefix_i64", true),
+        ("fields_position", false),
+        ("parse_text_i64", false),
+        ("fields_read_u8", false),
     ] {
         let head = format!("tk_{name}(");
         let is_head = |line: &&str| line.starts_with("TK_") && line.contains(&head);
-        assert_eq!(all.lines().filter(is_head).count(), count, "{name}");
+        let count = |text: &str| text.lines().filter(is_head).count();
+        let counts = if is_inline { (1, 0) } else { (0, 1) };
+        assert_eq!((count(&header), count(&source)), counts, "{name}");
     }
-    assert!(inline.contains(" tk_fields_next_i64(tk_fields *self)\n{"));
-    assert!(
-        inline.contains("TK_FAR tk_result_u64 tk_narrow_whole_windows(")
-            && !inline.contains("tk_fields_read_i64")
-    );
-    assert!(inline.contains(" TK_SYMBOL(tk_narrow_whole_windows);"));
-    assert!(
-        rest.contains(
-            "TK_FAR tk_result_u64 tk_narrow_whole_windows(uint64_t bound, tk_bytes s)\n{"
-        )
-    );
-    assert!(!rest.contains("typedef struct tk_fields {") && rest.contains(" tk_fields_read_i64("));
+    let far = "tk_option_pair_i64_size tk_prefix_of_three_words_i64(bool minus, uint64_t high,";
+    assert!(header.contains(&format!("TK_FAR {far}")) && source.contains(&format!("TK_FAR {far}")));
+    assert!(header.contains(" TK_SYMBOL(tk_prefix_of_three_words_i64);"));
+    assert!(source.contains("TK_NOINLINE tk_result_u64 tk_whole_64("));
+    assert!(header.contains("#undef TK_INLINE\n") && header.contains("#undef TK_ZEROS\n"));
 }

@@ -51,8 +51,12 @@ impl CLibrary {
         Object::open(&built.join(OBJECT))
     }
 
-    // The static library, as cargo builds it, but without jumps that cross 32 bytes.
+    // The library as one file of C or, in older states, as cargo builds it: without jumps that cross 32 bytes.
     fn archive(&self) -> Result<PathBuf, String> {
+        let source = self.folder.join("src/torkettle.c");
+        if source.exists() {
+            return Ok(source);
+        }
         let mut cargo = Command::new("cargo");
         cargo.args(["build", "--release", "--quiet"]).current_dir(&self.folder);
         run(cargo.env("CARGO_TARGET_DIR", &self.target).env("RUSTFLAGS", WITHIN_32_BYTES))?;

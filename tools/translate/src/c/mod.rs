@@ -12,81 +12,76 @@ pub mod types;
 pub mod world;
 
 use crate::checks;
-use crate::modules::Package;
+use crate::modules::{Package, read_text};
 use crate::resolve::{Definition, Namespace, Scopes};
 use crate::source::Fault;
 use ir::{Bindings, Callee, Done, Id, Type};
 use special::{Key, Special};
 use std::collections::BTreeSet;
 use std::path::Path;
-use world::{Place, World};
+use world::{Place, World, name_of};
 
 /// The types whose calls C has.
 pub const TYPES: [&str; 10] =
     ["i8", "u8", "i16", "u16", "i32", "u32", "i64", "u64", "i128", "u128"];
 
 /// What C calls: functions by their crate and path, `Self::` for one of a type, and for each type of integers.
-const ROOTS: [(&str, &str); 18] = [
+const ROOTS: [(&str, &str); 15] = [
+    ("atoi_fast", "one_digit"),
+    ("atoi_fast", "quick_prefix"),
     ("atoi_simd", "T::atoi_simd_parse"),
     ("atoi_simd", "T::atoi_simd_parse_prefix"),
     ("atoi_simd", "T::atoi_simd_parse_pos"),
     ("atoi_simd", "T::atoi_simd_parse_prefix_pos"),
-    ("atoi_core", "AtoiSimdError::kind"),
-    ("atoi_core", "AtoiSimdError::offset_in"),
     ("atoi_core", "AtoiSimdError::text"),
     ("atoi_formats", "canonical"),
     ("atoi_formats", "json_integer"),
     ("atoi_column", "is_separator"),
-    ("atoi_column", "Column::new"),
-    ("atoi_column", "Column::next"),
     ("atoi_column", "Fields::new"),
     ("atoi_column", "Fields::lines"),
-    ("atoi_column", "Fields::starting_at"),
     ("atoi_column", "Fields::position"),
     ("atoi_column", "Fields::next"),
     ("atoi_column", "Fields::read"),
 ];
 
 const HEAD: &str =
-    "/* Made by .ci/translate from the proved sources of Torkettle. Do not edit. */\n";
+    "/* Made by .ci/translate from the proved sources and c/interface. Do not edit. */\n";
 
 /// The roots that `torkettle.h` has inline.
-const INLINE: [&str; 10] = [
-    "T::atoi_simd_parse",
-    "T::atoi_simd_parse_prefix",
-    "is_separator",
-    "Column::new",
-    "Column::next",
-    "Fields::new",
-    "Fields::lines",
-    "Fields::starting_at",
-    "Fields::position",
-    "Fields::next",
-];
+const INLINE: [&str; 3] = ["one_digit", "quick_prefix", "is_separator"];
 
-/// Returns the files of C that are made of the sources below `top`: all as one header, whose operators may assert
-/// that nothing overflows, and the same as an inline part and the rest.
-pub fn made(top: &Path) -> Done<[(&'static str, String); 4]> {
+/// What these call, and the header does not contain, as it is long.
+const FAR: [&str; 1] = ["prefix_of_three_words"];
+
+/// What C calls where Rust inlines it: long functions that few numbers need. Each type would have a copy.
+pub const CALLED: [&str; 4] = ["atoi_simd_parse_prefix", "prefix_128", "whole_64", "whole_128"];
+
+/// What is written by hand of the library: the start of its functions, the header and the source.
+const INTERFACE: &str = "c/interface";
+
+/// Returns the files of the library for C that are made of the sources below `top`: the header and the source. Their
+/// operators may assert that nothing overflows.
+pub fn made(top: &Path, is_checked: bool) -> Done<[(&'static str, String); 2]> {
     let package = Package::read(top)?;
     let scopes = Scopes::new(&package)?;
     checks::check(&package, &scopes)?;
     let world = World::new(&package, &scopes);
-    let all =
-        |is_checked| Ok::<_, Fault>(header(&print(&world, &ROOTS, &[], &TYPES, is_checked)?.1));
-    let (inline, rest) = print(&world, &ROOTS, &INLINE, &TYPES, false)?;
+    let (inline, rest) = print(&world, &ROOTS, &INLINE, &TYPES, is_checked)?;
+    let part = |name: &str| read_text(top, &Path::new(INTERFACE).join(name));
+    let inline = format!("{}\n{inline}", part("prelude.h")?);
+    let names = inline
+        .lines()
+        .filter_map(|line| line.trim_start_matches('#').trim().strip_prefix("define TK_"));
+    let names: BTreeSet<&str> = names.filter_map(|it| it.split(['(', ' ']).next()).collect();
+    let forgotten: String = names.iter().map(|name| format!("#undef TK_{name}\n")).collect();
+    let header = part("torkettle.h")?
+        .replace("/* @proved */\n", &inline)
+        .replace("/* @forget */\n", &forgotten);
+    let source = part("torkettle.c")?.replace("/* @proved */\n", &rest);
     Ok([
-        ("torkettle_proved.h", all(false)?),
-        ("torkettle_checked.h", all(true)?),
-        ("torkettle_inline.h", header(&inline)),
-        ("torkettle_rest.c", format!("{HEAD}#include \"torkettle_inline.h\"\n\n{rest}")),
+        ("c/include/torkettle.h", HEAD.to_owned() + &header),
+        ("c/src/torkettle.c", HEAD.to_owned() + &source),
     ])
-}
-
-/// Returns a header with printed functions.
-pub fn header(functions: &str) -> String {
-    let guard = "TORKETTLE_PROVED_H";
-    let prelude = include_str!("../../../../c/src/prelude.h");
-    format!("{HEAD}#ifndef {guard}\n#define {guard}\n\n{prelude}\n{functions}\n#endif\n")
 }
 
 /// Prints functions, and all that they call, as the part that the roots of the second list need in each file, and
@@ -130,7 +125,8 @@ fn near(special: &Special, mut open: Vec<Key>, far: &mut BTreeSet<Key>) -> BTree
     let mut near = BTreeSet::new();
     while let Some(key) = open.pop() {
         let Some(chosen) = special.functions.iter().find(|it| it.key == key) else { continue };
-        if print::is_apart(special.world, &key, &chosen.function) {
+        let is_far = name_of(special.world.item(key.0)).is_some_and(|it| FAR.contains(&it));
+        if is_far || print::is_apart(special.world, &key, &chosen.function) {
             far.insert(key);
         } else if near.insert(key) {
             open.extend(special::called(&chosen.function));

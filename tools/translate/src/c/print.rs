@@ -144,7 +144,9 @@ impl Body<'_, '_> {
         let name = self.printer.names[key].clone();
         let is_recursive = calls_itself(function, key);
         // What calls itself cannot be inlined.
-        let qualifier = if is_recursive { "TK_NOINLINE" } else { qualifier(&item.notes) };
+        let is_called = name_of(item).is_some_and(|it| super::CALLED.contains(&it));
+        let qualifier =
+            if is_recursive || is_called { "TK_NOINLINE" } else { qualifier(&item.notes) };
         let qualifier = match (qualifier, self.printer.far.contains(key)) {
             ("TK_COLD", true) => "TK_FAR_COLD",
             (_, true) => "TK_FAR",

@@ -1,13 +1,3 @@
-#include <stddef.h>
-#include <stdint.h>
-#ifndef __cplusplus
-#include <stdbool.h>
-#endif
-
-#if SIZE_MAX < UINT64_MAX
-#error "Torkettle needs a 64-bit target: its proofs are for no others"
-#endif
-
 /* A cast, and a value of a struct, in C and in C++. */
 #ifdef __cplusplus
 #define TK_CAST(type, value) static_cast<type>(value)
@@ -19,9 +9,8 @@
 #define TK_TEXT(text) tk_bytes_of((const uint8_t *)(text), sizeof(text) - 1)
 #endif
 
-/* What a compiler has to do with a function, as the attributes of the source say it, unless a library has its own. */
-#ifdef TK_INLINE
-#elif defined __GNUC__ || defined __clang__
+/* What a compiler has to do with a function, as the attributes of the source say it. */
+#if defined __GNUC__ || defined __clang__
 #if defined __OPTIMIZE__ && !defined __OPTIMIZE_SIZE__
 #define TK_INLINE static inline __attribute__((__always_inline__, __unused__))
 #define TK_HINTED static inline __attribute__((__always_inline__, __unused__))
@@ -34,7 +23,6 @@
 #define TK_NOINLINE static __attribute__((__noinline__, __unused__))
 #define TK_COLD static __attribute__((__noinline__, __cold__, __unused__))
 #elif defined _MSC_VER
-#include <intrin.h>
 #define TK_INLINE static __forceinline
 #define TK_HINTED static __forceinline
 #define TK_FAR __declspec(noinline)
@@ -48,11 +36,6 @@
 #define TK_FAR_COLD
 #define TK_NOINLINE static inline
 #define TK_COLD static inline
-#endif
-
-/* The symbol of a function that another file defines, as an attribute behind its declaration. */
-#ifndef TK_SYMBOL
-#define TK_SYMBOL(name)
 #endif
 
 /* A condition that is proved to hold. A test may define this as `assert`. */
