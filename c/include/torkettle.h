@@ -1287,21 +1287,6 @@ TK_INLINE tk_option_u128 tk_one_digit_u128(tk_bytes s)
     return tk_none_u128();
 }
 
-/* The number of one digit at the start of a slice. The second byte is first, as a minus is hard to predict. */
-/* atoi_fast/src/quick.rt:47 */
-TK_INLINE tk_option_pair_i8_size tk_digit_prefix_i8(tk_bytes s)
-{
-    if (s.len >= 2 && '0' <= s.at[1] && s.at[1] <= '9') {
-        return tk_none_pair_i8_size();
-    }
-    if (s.len >= 1 && '0' <= s.at[0] && s.at[0] <= '9') {
-        uint8_t digit = s.at[0];
-        tk_u128 number = tk_u128_of(TK_CAST(uint8_t, digit - '0'));
-        return tk_some_pair_i8_size(tk_new_pair_i8_size(tk_from_parts_i8(false, number), 1));
-    }
-    return tk_none_pair_i8_size();
-}
-
 /* Returns the word of the first 8 bytes. */
 /* atoi_fast/src/loads.rt:110 */
 TK_HINTED uint64_t tk_load_full(tk_bytes s)
@@ -1442,20 +1427,30 @@ TK_INLINE tk_option_pair_i8_size tk_prefix_of_words_i8(tk_bytes s)
     return tk_some_pair_i8_size(tk_new_pair_i8_size(number, TK_CAST(size_t, len)));
 }
 
+/* The number of one digit at the start of a slice. */
+/* atoi_fast/src/quick.rt:41 */
+TK_INLINE tk_option_pair_i8_size tk_digit_prefix_i8(tk_bytes s)
+{
+    if (s.len >= 2 && '0' <= s.at[1] && s.at[1] <= '9') {
+        return tk_none_pair_i8_size();
+    }
+    if (s.len >= 1 && '0' <= s.at[0] && s.at[0] <= '9') {
+        uint8_t digit = s.at[0];
+        tk_u128 number = tk_u128_of(TK_CAST(uint8_t, digit - '0'));
+        return tk_some_pair_i8_size(tk_new_pair_i8_size(tk_from_parts_i8(false, number), 1));
+    }
+    return tk_none_pair_i8_size();
+}
+
 /*
- * Returns the number at the start of a slice and its length, if that is one digit or, in a slice of at least 16
- * bytes, fewer than 16 bytes. Others may be `None`, too.
+ * Returns the number at the start of a slice and its length, if that is one digit or two, or, in a slice of at least
+ * 16 bytes, fewer than 16 bytes. Others may be `None`, too. A minus before more digits takes no branch.
  */
 /* atoi_fast/src/quick.rt:25 */
 TK_INLINE tk_option_pair_i8_size tk_quick_prefix_i8(tk_bytes s)
 {
-    if (s.len < 16) {
-        return tk_digit_prefix_i8(s);
-    }
-    if (s.len >= 2 && '0' <= s.at[0] && s.at[0] <= '9' && !tk_is_digit(s.at[1])) {
-        uint8_t first = s.at[0];
-        tk_u128 number = tk_u128_of(TK_CAST(uint8_t, first - '0'));
-        return tk_some_pair_i8_size(tk_new_pair_i8_size(tk_from_parts_i8(false, number), 1));
+    if (s.len >= 3 && '0' <= s.at[1] && s.at[1] <= '9' && '0' <= s.at[2] && s.at[2] <= '9' && s.len >= 16) {
+        return tk_prefix_of_words_i8(s);
     }
     if (s.len >= 3 && '0' <= s.at[0] && s.at[0] <= '9' && '0' <= s.at[1] && s.at[1] <= '9' && !tk_is_digit(s.at[2])) {
         uint8_t first = s.at[0];
@@ -1464,21 +1459,7 @@ TK_INLINE tk_option_pair_i8_size tk_quick_prefix_i8(tk_bytes s)
         uint32_t number = 10 * tens + TK_CAST(uint32_t, TK_CAST(uint8_t, second - '0'));
         return tk_some_pair_i8_size(tk_new_pair_i8_size(tk_from_parts_i8(false, tk_u128_of(number)), 2));
     }
-    return tk_prefix_of_words_i8(s);
-}
-
-/* atoi_fast/src/quick.rt:47 */
-TK_INLINE tk_option_pair_u8_size tk_digit_prefix_u8(tk_bytes s)
-{
-    if (s.len >= 2 && '0' <= s.at[1] && s.at[1] <= '9') {
-        return tk_none_pair_u8_size();
-    }
-    if (s.len >= 1 && '0' <= s.at[0] && s.at[0] <= '9') {
-        uint8_t digit = s.at[0];
-        tk_u128 number = tk_u128_of(TK_CAST(uint8_t, digit - '0'));
-        return tk_some_pair_u8_size(tk_new_pair_u8_size(tk_from_parts_u8(false, number), 1));
-    }
-    return tk_none_pair_u8_size();
+    return tk_digit_prefix_i8(s);
 }
 
 /* atoi_fast/src/in_range.rt:17 */
@@ -1546,16 +1527,25 @@ TK_INLINE tk_option_pair_u8_size tk_prefix_of_words_u8(tk_bytes s)
     return tk_some_pair_u8_size(tk_new_pair_u8_size(number, TK_CAST(size_t, len)));
 }
 
+/* atoi_fast/src/quick.rt:41 */
+TK_INLINE tk_option_pair_u8_size tk_digit_prefix_u8(tk_bytes s)
+{
+    if (s.len >= 2 && '0' <= s.at[1] && s.at[1] <= '9') {
+        return tk_none_pair_u8_size();
+    }
+    if (s.len >= 1 && '0' <= s.at[0] && s.at[0] <= '9') {
+        uint8_t digit = s.at[0];
+        tk_u128 number = tk_u128_of(TK_CAST(uint8_t, digit - '0'));
+        return tk_some_pair_u8_size(tk_new_pair_u8_size(tk_from_parts_u8(false, number), 1));
+    }
+    return tk_none_pair_u8_size();
+}
+
 /* atoi_fast/src/quick.rt:25 */
 TK_INLINE tk_option_pair_u8_size tk_quick_prefix_u8(tk_bytes s)
 {
-    if (s.len < 16) {
-        return tk_digit_prefix_u8(s);
-    }
-    if (s.len >= 2 && '0' <= s.at[0] && s.at[0] <= '9' && !tk_is_digit(s.at[1])) {
-        uint8_t first = s.at[0];
-        tk_u128 number = tk_u128_of(TK_CAST(uint8_t, first - '0'));
-        return tk_some_pair_u8_size(tk_new_pair_u8_size(tk_from_parts_u8(false, number), 1));
+    if (s.len >= 3 && '0' <= s.at[1] && s.at[1] <= '9' && '0' <= s.at[2] && s.at[2] <= '9' && s.len >= 16) {
+        return tk_prefix_of_words_u8(s);
     }
     if (s.len >= 3 && '0' <= s.at[0] && s.at[0] <= '9' && '0' <= s.at[1] && s.at[1] <= '9' && !tk_is_digit(s.at[2])) {
         uint8_t first = s.at[0];
@@ -1564,21 +1554,7 @@ TK_INLINE tk_option_pair_u8_size tk_quick_prefix_u8(tk_bytes s)
         uint32_t number = 10 * tens + TK_CAST(uint32_t, TK_CAST(uint8_t, second - '0'));
         return tk_some_pair_u8_size(tk_new_pair_u8_size(tk_from_parts_u8(false, tk_u128_of(number)), 2));
     }
-    return tk_prefix_of_words_u8(s);
-}
-
-/* atoi_fast/src/quick.rt:47 */
-TK_INLINE tk_option_pair_i16_size tk_digit_prefix_i16(tk_bytes s)
-{
-    if (s.len >= 2 && '0' <= s.at[1] && s.at[1] <= '9') {
-        return tk_none_pair_i16_size();
-    }
-    if (s.len >= 1 && '0' <= s.at[0] && s.at[0] <= '9') {
-        uint8_t digit = s.at[0];
-        tk_u128 number = tk_u128_of(TK_CAST(uint8_t, digit - '0'));
-        return tk_some_pair_i16_size(tk_new_pair_i16_size(tk_from_parts_i16(false, number), 1));
-    }
-    return tk_none_pair_i16_size();
+    return tk_digit_prefix_u8(s);
 }
 
 /* atoi_fast/src/in_range.rt:17 */
@@ -1646,16 +1622,25 @@ TK_INLINE tk_option_pair_i16_size tk_prefix_of_words_i16(tk_bytes s)
     return tk_some_pair_i16_size(tk_new_pair_i16_size(number, TK_CAST(size_t, len)));
 }
 
+/* atoi_fast/src/quick.rt:41 */
+TK_INLINE tk_option_pair_i16_size tk_digit_prefix_i16(tk_bytes s)
+{
+    if (s.len >= 2 && '0' <= s.at[1] && s.at[1] <= '9') {
+        return tk_none_pair_i16_size();
+    }
+    if (s.len >= 1 && '0' <= s.at[0] && s.at[0] <= '9') {
+        uint8_t digit = s.at[0];
+        tk_u128 number = tk_u128_of(TK_CAST(uint8_t, digit - '0'));
+        return tk_some_pair_i16_size(tk_new_pair_i16_size(tk_from_parts_i16(false, number), 1));
+    }
+    return tk_none_pair_i16_size();
+}
+
 /* atoi_fast/src/quick.rt:25 */
 TK_INLINE tk_option_pair_i16_size tk_quick_prefix_i16(tk_bytes s)
 {
-    if (s.len < 16) {
-        return tk_digit_prefix_i16(s);
-    }
-    if (s.len >= 2 && '0' <= s.at[0] && s.at[0] <= '9' && !tk_is_digit(s.at[1])) {
-        uint8_t first = s.at[0];
-        tk_u128 number = tk_u128_of(TK_CAST(uint8_t, first - '0'));
-        return tk_some_pair_i16_size(tk_new_pair_i16_size(tk_from_parts_i16(false, number), 1));
+    if (s.len >= 3 && '0' <= s.at[1] && s.at[1] <= '9' && '0' <= s.at[2] && s.at[2] <= '9' && s.len >= 16) {
+        return tk_prefix_of_words_i16(s);
     }
     if (s.len >= 3 && '0' <= s.at[0] && s.at[0] <= '9' && '0' <= s.at[1] && s.at[1] <= '9' && !tk_is_digit(s.at[2])) {
         uint8_t first = s.at[0];
@@ -1664,21 +1649,7 @@ TK_INLINE tk_option_pair_i16_size tk_quick_prefix_i16(tk_bytes s)
         uint32_t number = 10 * tens + TK_CAST(uint32_t, TK_CAST(uint8_t, second - '0'));
         return tk_some_pair_i16_size(tk_new_pair_i16_size(tk_from_parts_i16(false, tk_u128_of(number)), 2));
     }
-    return tk_prefix_of_words_i16(s);
-}
-
-/* atoi_fast/src/quick.rt:47 */
-TK_INLINE tk_option_pair_u16_size tk_digit_prefix_u16(tk_bytes s)
-{
-    if (s.len >= 2 && '0' <= s.at[1] && s.at[1] <= '9') {
-        return tk_none_pair_u16_size();
-    }
-    if (s.len >= 1 && '0' <= s.at[0] && s.at[0] <= '9') {
-        uint8_t digit = s.at[0];
-        tk_u128 number = tk_u128_of(TK_CAST(uint8_t, digit - '0'));
-        return tk_some_pair_u16_size(tk_new_pair_u16_size(tk_from_parts_u16(false, number), 1));
-    }
-    return tk_none_pair_u16_size();
+    return tk_digit_prefix_i16(s);
 }
 
 /* atoi_fast/src/in_range.rt:17 */
@@ -1746,16 +1717,25 @@ TK_INLINE tk_option_pair_u16_size tk_prefix_of_words_u16(tk_bytes s)
     return tk_some_pair_u16_size(tk_new_pair_u16_size(number, TK_CAST(size_t, len)));
 }
 
+/* atoi_fast/src/quick.rt:41 */
+TK_INLINE tk_option_pair_u16_size tk_digit_prefix_u16(tk_bytes s)
+{
+    if (s.len >= 2 && '0' <= s.at[1] && s.at[1] <= '9') {
+        return tk_none_pair_u16_size();
+    }
+    if (s.len >= 1 && '0' <= s.at[0] && s.at[0] <= '9') {
+        uint8_t digit = s.at[0];
+        tk_u128 number = tk_u128_of(TK_CAST(uint8_t, digit - '0'));
+        return tk_some_pair_u16_size(tk_new_pair_u16_size(tk_from_parts_u16(false, number), 1));
+    }
+    return tk_none_pair_u16_size();
+}
+
 /* atoi_fast/src/quick.rt:25 */
 TK_INLINE tk_option_pair_u16_size tk_quick_prefix_u16(tk_bytes s)
 {
-    if (s.len < 16) {
-        return tk_digit_prefix_u16(s);
-    }
-    if (s.len >= 2 && '0' <= s.at[0] && s.at[0] <= '9' && !tk_is_digit(s.at[1])) {
-        uint8_t first = s.at[0];
-        tk_u128 number = tk_u128_of(TK_CAST(uint8_t, first - '0'));
-        return tk_some_pair_u16_size(tk_new_pair_u16_size(tk_from_parts_u16(false, number), 1));
+    if (s.len >= 3 && '0' <= s.at[1] && s.at[1] <= '9' && '0' <= s.at[2] && s.at[2] <= '9' && s.len >= 16) {
+        return tk_prefix_of_words_u16(s);
     }
     if (s.len >= 3 && '0' <= s.at[0] && s.at[0] <= '9' && '0' <= s.at[1] && s.at[1] <= '9' && !tk_is_digit(s.at[2])) {
         uint8_t first = s.at[0];
@@ -1764,21 +1744,7 @@ TK_INLINE tk_option_pair_u16_size tk_quick_prefix_u16(tk_bytes s)
         uint32_t number = 10 * tens + TK_CAST(uint32_t, TK_CAST(uint8_t, second - '0'));
         return tk_some_pair_u16_size(tk_new_pair_u16_size(tk_from_parts_u16(false, tk_u128_of(number)), 2));
     }
-    return tk_prefix_of_words_u16(s);
-}
-
-/* atoi_fast/src/quick.rt:47 */
-TK_INLINE tk_option_pair_i32_size tk_digit_prefix_i32(tk_bytes s)
-{
-    if (s.len >= 2 && '0' <= s.at[1] && s.at[1] <= '9') {
-        return tk_none_pair_i32_size();
-    }
-    if (s.len >= 1 && '0' <= s.at[0] && s.at[0] <= '9') {
-        uint8_t digit = s.at[0];
-        tk_u128 number = tk_u128_of(TK_CAST(uint8_t, digit - '0'));
-        return tk_some_pair_i32_size(tk_new_pair_i32_size(tk_from_parts_i32(false, number), 1));
-    }
-    return tk_none_pair_i32_size();
+    return tk_digit_prefix_u16(s);
 }
 
 /* atoi_fast/src/in_range.rt:17 */
@@ -1846,16 +1812,25 @@ TK_INLINE tk_option_pair_i32_size tk_prefix_of_words_i32(tk_bytes s)
     return tk_some_pair_i32_size(tk_new_pair_i32_size(number, TK_CAST(size_t, len)));
 }
 
+/* atoi_fast/src/quick.rt:41 */
+TK_INLINE tk_option_pair_i32_size tk_digit_prefix_i32(tk_bytes s)
+{
+    if (s.len >= 2 && '0' <= s.at[1] && s.at[1] <= '9') {
+        return tk_none_pair_i32_size();
+    }
+    if (s.len >= 1 && '0' <= s.at[0] && s.at[0] <= '9') {
+        uint8_t digit = s.at[0];
+        tk_u128 number = tk_u128_of(TK_CAST(uint8_t, digit - '0'));
+        return tk_some_pair_i32_size(tk_new_pair_i32_size(tk_from_parts_i32(false, number), 1));
+    }
+    return tk_none_pair_i32_size();
+}
+
 /* atoi_fast/src/quick.rt:25 */
 TK_INLINE tk_option_pair_i32_size tk_quick_prefix_i32(tk_bytes s)
 {
-    if (s.len < 16) {
-        return tk_digit_prefix_i32(s);
-    }
-    if (s.len >= 2 && '0' <= s.at[0] && s.at[0] <= '9' && !tk_is_digit(s.at[1])) {
-        uint8_t first = s.at[0];
-        tk_u128 number = tk_u128_of(TK_CAST(uint8_t, first - '0'));
-        return tk_some_pair_i32_size(tk_new_pair_i32_size(tk_from_parts_i32(false, number), 1));
+    if (s.len >= 3 && '0' <= s.at[1] && s.at[1] <= '9' && '0' <= s.at[2] && s.at[2] <= '9' && s.len >= 16) {
+        return tk_prefix_of_words_i32(s);
     }
     if (s.len >= 3 && '0' <= s.at[0] && s.at[0] <= '9' && '0' <= s.at[1] && s.at[1] <= '9' && !tk_is_digit(s.at[2])) {
         uint8_t first = s.at[0];
@@ -1864,21 +1839,7 @@ TK_INLINE tk_option_pair_i32_size tk_quick_prefix_i32(tk_bytes s)
         uint32_t number = 10 * tens + TK_CAST(uint32_t, TK_CAST(uint8_t, second - '0'));
         return tk_some_pair_i32_size(tk_new_pair_i32_size(tk_from_parts_i32(false, tk_u128_of(number)), 2));
     }
-    return tk_prefix_of_words_i32(s);
-}
-
-/* atoi_fast/src/quick.rt:47 */
-TK_INLINE tk_option_pair_u32_size tk_digit_prefix_u32(tk_bytes s)
-{
-    if (s.len >= 2 && '0' <= s.at[1] && s.at[1] <= '9') {
-        return tk_none_pair_u32_size();
-    }
-    if (s.len >= 1 && '0' <= s.at[0] && s.at[0] <= '9') {
-        uint8_t digit = s.at[0];
-        tk_u128 number = tk_u128_of(TK_CAST(uint8_t, digit - '0'));
-        return tk_some_pair_u32_size(tk_new_pair_u32_size(tk_from_parts_u32(false, number), 1));
-    }
-    return tk_none_pair_u32_size();
+    return tk_digit_prefix_i32(s);
 }
 
 /* atoi_fast/src/in_range.rt:17 */
@@ -1946,16 +1907,25 @@ TK_INLINE tk_option_pair_u32_size tk_prefix_of_words_u32(tk_bytes s)
     return tk_some_pair_u32_size(tk_new_pair_u32_size(number, TK_CAST(size_t, len)));
 }
 
+/* atoi_fast/src/quick.rt:41 */
+TK_INLINE tk_option_pair_u32_size tk_digit_prefix_u32(tk_bytes s)
+{
+    if (s.len >= 2 && '0' <= s.at[1] && s.at[1] <= '9') {
+        return tk_none_pair_u32_size();
+    }
+    if (s.len >= 1 && '0' <= s.at[0] && s.at[0] <= '9') {
+        uint8_t digit = s.at[0];
+        tk_u128 number = tk_u128_of(TK_CAST(uint8_t, digit - '0'));
+        return tk_some_pair_u32_size(tk_new_pair_u32_size(tk_from_parts_u32(false, number), 1));
+    }
+    return tk_none_pair_u32_size();
+}
+
 /* atoi_fast/src/quick.rt:25 */
 TK_INLINE tk_option_pair_u32_size tk_quick_prefix_u32(tk_bytes s)
 {
-    if (s.len < 16) {
-        return tk_digit_prefix_u32(s);
-    }
-    if (s.len >= 2 && '0' <= s.at[0] && s.at[0] <= '9' && !tk_is_digit(s.at[1])) {
-        uint8_t first = s.at[0];
-        tk_u128 number = tk_u128_of(TK_CAST(uint8_t, first - '0'));
-        return tk_some_pair_u32_size(tk_new_pair_u32_size(tk_from_parts_u32(false, number), 1));
+    if (s.len >= 3 && '0' <= s.at[1] && s.at[1] <= '9' && '0' <= s.at[2] && s.at[2] <= '9' && s.len >= 16) {
+        return tk_prefix_of_words_u32(s);
     }
     if (s.len >= 3 && '0' <= s.at[0] && s.at[0] <= '9' && '0' <= s.at[1] && s.at[1] <= '9' && !tk_is_digit(s.at[2])) {
         uint8_t first = s.at[0];
@@ -1964,21 +1934,7 @@ TK_INLINE tk_option_pair_u32_size tk_quick_prefix_u32(tk_bytes s)
         uint32_t number = 10 * tens + TK_CAST(uint32_t, TK_CAST(uint8_t, second - '0'));
         return tk_some_pair_u32_size(tk_new_pair_u32_size(tk_from_parts_u32(false, tk_u128_of(number)), 2));
     }
-    return tk_prefix_of_words_u32(s);
-}
-
-/* atoi_fast/src/quick.rt:47 */
-TK_INLINE tk_option_pair_i64_size tk_digit_prefix_i64(tk_bytes s)
-{
-    if (s.len >= 2 && '0' <= s.at[1] && s.at[1] <= '9') {
-        return tk_none_pair_i64_size();
-    }
-    if (s.len >= 1 && '0' <= s.at[0] && s.at[0] <= '9') {
-        uint8_t digit = s.at[0];
-        tk_u128 number = tk_u128_of(TK_CAST(uint8_t, digit - '0'));
-        return tk_some_pair_i64_size(tk_new_pair_i64_size(tk_from_parts_i64(false, number), 1));
-    }
-    return tk_none_pair_i64_size();
+    return tk_digit_prefix_u32(s);
 }
 
 /* atoi_fast/src/in_range.rt:17 */
@@ -2047,16 +2003,25 @@ TK_INLINE tk_option_pair_i64_size tk_prefix_of_words_i64(tk_bytes s)
     return tk_some_pair_i64_size(tk_new_pair_i64_size(number, TK_CAST(size_t, len)));
 }
 
+/* atoi_fast/src/quick.rt:41 */
+TK_INLINE tk_option_pair_i64_size tk_digit_prefix_i64(tk_bytes s)
+{
+    if (s.len >= 2 && '0' <= s.at[1] && s.at[1] <= '9') {
+        return tk_none_pair_i64_size();
+    }
+    if (s.len >= 1 && '0' <= s.at[0] && s.at[0] <= '9') {
+        uint8_t digit = s.at[0];
+        tk_u128 number = tk_u128_of(TK_CAST(uint8_t, digit - '0'));
+        return tk_some_pair_i64_size(tk_new_pair_i64_size(tk_from_parts_i64(false, number), 1));
+    }
+    return tk_none_pair_i64_size();
+}
+
 /* atoi_fast/src/quick.rt:25 */
 TK_INLINE tk_option_pair_i64_size tk_quick_prefix_i64(tk_bytes s)
 {
-    if (s.len < 16) {
-        return tk_digit_prefix_i64(s);
-    }
-    if (s.len >= 2 && '0' <= s.at[0] && s.at[0] <= '9' && !tk_is_digit(s.at[1])) {
-        uint8_t first = s.at[0];
-        tk_u128 number = tk_u128_of(TK_CAST(uint8_t, first - '0'));
-        return tk_some_pair_i64_size(tk_new_pair_i64_size(tk_from_parts_i64(false, number), 1));
+    if (s.len >= 3 && '0' <= s.at[1] && s.at[1] <= '9' && '0' <= s.at[2] && s.at[2] <= '9' && s.len >= 16) {
+        return tk_prefix_of_words_i64(s);
     }
     if (s.len >= 3 && '0' <= s.at[0] && s.at[0] <= '9' && '0' <= s.at[1] && s.at[1] <= '9' && !tk_is_digit(s.at[2])) {
         uint8_t first = s.at[0];
@@ -2065,21 +2030,7 @@ TK_INLINE tk_option_pair_i64_size tk_quick_prefix_i64(tk_bytes s)
         uint32_t number = 10 * tens + TK_CAST(uint32_t, TK_CAST(uint8_t, second - '0'));
         return tk_some_pair_i64_size(tk_new_pair_i64_size(tk_from_parts_i64(false, tk_u128_of(number)), 2));
     }
-    return tk_prefix_of_words_i64(s);
-}
-
-/* atoi_fast/src/quick.rt:47 */
-TK_INLINE tk_option_pair_u64_size tk_digit_prefix_u64(tk_bytes s)
-{
-    if (s.len >= 2 && '0' <= s.at[1] && s.at[1] <= '9') {
-        return tk_none_pair_u64_size();
-    }
-    if (s.len >= 1 && '0' <= s.at[0] && s.at[0] <= '9') {
-        uint8_t digit = s.at[0];
-        tk_u128 number = tk_u128_of(TK_CAST(uint8_t, digit - '0'));
-        return tk_some_pair_u64_size(tk_new_pair_u64_size(tk_from_parts_u64(false, number), 1));
-    }
-    return tk_none_pair_u64_size();
+    return tk_digit_prefix_i64(s);
 }
 
 /* atoi_fast/src/in_range.rt:17 */
@@ -2148,16 +2099,25 @@ TK_INLINE tk_option_pair_u64_size tk_prefix_of_words_u64(tk_bytes s)
     return tk_some_pair_u64_size(tk_new_pair_u64_size(number, TK_CAST(size_t, len)));
 }
 
+/* atoi_fast/src/quick.rt:41 */
+TK_INLINE tk_option_pair_u64_size tk_digit_prefix_u64(tk_bytes s)
+{
+    if (s.len >= 2 && '0' <= s.at[1] && s.at[1] <= '9') {
+        return tk_none_pair_u64_size();
+    }
+    if (s.len >= 1 && '0' <= s.at[0] && s.at[0] <= '9') {
+        uint8_t digit = s.at[0];
+        tk_u128 number = tk_u128_of(TK_CAST(uint8_t, digit - '0'));
+        return tk_some_pair_u64_size(tk_new_pair_u64_size(tk_from_parts_u64(false, number), 1));
+    }
+    return tk_none_pair_u64_size();
+}
+
 /* atoi_fast/src/quick.rt:25 */
 TK_INLINE tk_option_pair_u64_size tk_quick_prefix_u64(tk_bytes s)
 {
-    if (s.len < 16) {
-        return tk_digit_prefix_u64(s);
-    }
-    if (s.len >= 2 && '0' <= s.at[0] && s.at[0] <= '9' && !tk_is_digit(s.at[1])) {
-        uint8_t first = s.at[0];
-        tk_u128 number = tk_u128_of(TK_CAST(uint8_t, first - '0'));
-        return tk_some_pair_u64_size(tk_new_pair_u64_size(tk_from_parts_u64(false, number), 1));
+    if (s.len >= 3 && '0' <= s.at[1] && s.at[1] <= '9' && '0' <= s.at[2] && s.at[2] <= '9' && s.len >= 16) {
+        return tk_prefix_of_words_u64(s);
     }
     if (s.len >= 3 && '0' <= s.at[0] && s.at[0] <= '9' && '0' <= s.at[1] && s.at[1] <= '9' && !tk_is_digit(s.at[2])) {
         uint8_t first = s.at[0];
@@ -2166,21 +2126,7 @@ TK_INLINE tk_option_pair_u64_size tk_quick_prefix_u64(tk_bytes s)
         uint32_t number = 10 * tens + TK_CAST(uint32_t, TK_CAST(uint8_t, second - '0'));
         return tk_some_pair_u64_size(tk_new_pair_u64_size(tk_from_parts_u64(false, tk_u128_of(number)), 2));
     }
-    return tk_prefix_of_words_u64(s);
-}
-
-/* atoi_fast/src/quick.rt:47 */
-TK_INLINE tk_option_pair_i128_size tk_digit_prefix_i128(tk_bytes s)
-{
-    if (s.len >= 2 && '0' <= s.at[1] && s.at[1] <= '9') {
-        return tk_none_pair_i128_size();
-    }
-    if (s.len >= 1 && '0' <= s.at[0] && s.at[0] <= '9') {
-        uint8_t digit = s.at[0];
-        tk_u128 number = tk_u128_of(TK_CAST(uint8_t, digit - '0'));
-        return tk_some_pair_i128_size(tk_new_pair_i128_size(tk_from_parts_i128(false, number), 1));
-    }
-    return tk_none_pair_i128_size();
+    return tk_digit_prefix_u64(s);
 }
 
 /* atoi_fast/src/in_range.rt:17 */
@@ -2249,16 +2195,25 @@ TK_INLINE tk_option_pair_i128_size tk_prefix_of_words_i128(tk_bytes s)
     return tk_some_pair_i128_size(tk_new_pair_i128_size(number, TK_CAST(size_t, len)));
 }
 
+/* atoi_fast/src/quick.rt:41 */
+TK_INLINE tk_option_pair_i128_size tk_digit_prefix_i128(tk_bytes s)
+{
+    if (s.len >= 2 && '0' <= s.at[1] && s.at[1] <= '9') {
+        return tk_none_pair_i128_size();
+    }
+    if (s.len >= 1 && '0' <= s.at[0] && s.at[0] <= '9') {
+        uint8_t digit = s.at[0];
+        tk_u128 number = tk_u128_of(TK_CAST(uint8_t, digit - '0'));
+        return tk_some_pair_i128_size(tk_new_pair_i128_size(tk_from_parts_i128(false, number), 1));
+    }
+    return tk_none_pair_i128_size();
+}
+
 /* atoi_fast/src/quick.rt:25 */
 TK_INLINE tk_option_pair_i128_size tk_quick_prefix_i128(tk_bytes s)
 {
-    if (s.len < 16) {
-        return tk_digit_prefix_i128(s);
-    }
-    if (s.len >= 2 && '0' <= s.at[0] && s.at[0] <= '9' && !tk_is_digit(s.at[1])) {
-        uint8_t first = s.at[0];
-        tk_u128 number = tk_u128_of(TK_CAST(uint8_t, first - '0'));
-        return tk_some_pair_i128_size(tk_new_pair_i128_size(tk_from_parts_i128(false, number), 1));
+    if (s.len >= 3 && '0' <= s.at[1] && s.at[1] <= '9' && '0' <= s.at[2] && s.at[2] <= '9' && s.len >= 16) {
+        return tk_prefix_of_words_i128(s);
     }
     if (s.len >= 3 && '0' <= s.at[0] && s.at[0] <= '9' && '0' <= s.at[1] && s.at[1] <= '9' && !tk_is_digit(s.at[2])) {
         uint8_t first = s.at[0];
@@ -2267,21 +2222,7 @@ TK_INLINE tk_option_pair_i128_size tk_quick_prefix_i128(tk_bytes s)
         uint32_t number = 10 * tens + TK_CAST(uint32_t, TK_CAST(uint8_t, second - '0'));
         return tk_some_pair_i128_size(tk_new_pair_i128_size(tk_from_parts_i128(false, tk_u128_of(number)), 2));
     }
-    return tk_prefix_of_words_i128(s);
-}
-
-/* atoi_fast/src/quick.rt:47 */
-TK_INLINE tk_option_pair_u128_size tk_digit_prefix_u128(tk_bytes s)
-{
-    if (s.len >= 2 && '0' <= s.at[1] && s.at[1] <= '9') {
-        return tk_none_pair_u128_size();
-    }
-    if (s.len >= 1 && '0' <= s.at[0] && s.at[0] <= '9') {
-        uint8_t digit = s.at[0];
-        tk_u128 number = tk_u128_of(TK_CAST(uint8_t, digit - '0'));
-        return tk_some_pair_u128_size(tk_new_pair_u128_size(tk_from_parts_u128(false, number), 1));
-    }
-    return tk_none_pair_u128_size();
+    return tk_digit_prefix_i128(s);
 }
 
 /* atoi_fast/src/in_range.rt:17 */
@@ -2350,16 +2291,25 @@ TK_INLINE tk_option_pair_u128_size tk_prefix_of_words_u128(tk_bytes s)
     return tk_some_pair_u128_size(tk_new_pair_u128_size(number, TK_CAST(size_t, len)));
 }
 
+/* atoi_fast/src/quick.rt:41 */
+TK_INLINE tk_option_pair_u128_size tk_digit_prefix_u128(tk_bytes s)
+{
+    if (s.len >= 2 && '0' <= s.at[1] && s.at[1] <= '9') {
+        return tk_none_pair_u128_size();
+    }
+    if (s.len >= 1 && '0' <= s.at[0] && s.at[0] <= '9') {
+        uint8_t digit = s.at[0];
+        tk_u128 number = tk_u128_of(TK_CAST(uint8_t, digit - '0'));
+        return tk_some_pair_u128_size(tk_new_pair_u128_size(tk_from_parts_u128(false, number), 1));
+    }
+    return tk_none_pair_u128_size();
+}
+
 /* atoi_fast/src/quick.rt:25 */
 TK_INLINE tk_option_pair_u128_size tk_quick_prefix_u128(tk_bytes s)
 {
-    if (s.len < 16) {
-        return tk_digit_prefix_u128(s);
-    }
-    if (s.len >= 2 && '0' <= s.at[0] && s.at[0] <= '9' && !tk_is_digit(s.at[1])) {
-        uint8_t first = s.at[0];
-        tk_u128 number = tk_u128_of(TK_CAST(uint8_t, first - '0'));
-        return tk_some_pair_u128_size(tk_new_pair_u128_size(tk_from_parts_u128(false, number), 1));
+    if (s.len >= 3 && '0' <= s.at[1] && s.at[1] <= '9' && '0' <= s.at[2] && s.at[2] <= '9' && s.len >= 16) {
+        return tk_prefix_of_words_u128(s);
     }
     if (s.len >= 3 && '0' <= s.at[0] && s.at[0] <= '9' && '0' <= s.at[1] && s.at[1] <= '9' && !tk_is_digit(s.at[2])) {
         uint8_t first = s.at[0];
@@ -2368,7 +2318,7 @@ TK_INLINE tk_option_pair_u128_size tk_quick_prefix_u128(tk_bytes s)
         uint32_t number = 10 * tens + TK_CAST(uint32_t, TK_CAST(uint8_t, second - '0'));
         return tk_some_pair_u128_size(tk_new_pair_u128_size(tk_from_parts_u128(false, tk_u128_of(number)), 2));
     }
-    return tk_prefix_of_words_u128(s);
+    return tk_digit_prefix_u128(s);
 }
 
 /* Returns whether `byte` may separate fields: any byte except a digit, `+` or `-`. */

@@ -19,30 +19,24 @@ pub fn one_digit<T: Number>(s: &[u8]) -> Option<T>
     }
 }
 
-/// Returns the number at the start of a slice and its length, if that is one digit or, in a slice of at least 16
-/// bytes, fewer than 16 bytes. Others may be `None`, too.
+/// Returns the number at the start of a slice and its length, if that is one digit or two, or, in a slice of at least
+/// 16 bytes, fewer than 16 bytes. Others may be `None`, too. A minus before more digits takes no branch.
 #[inline(always)]
 pub fn quick_prefix<T: Number>(s: &[u8]) -> Option<(T, usize)>
     // ensures { IfSome result (λ found. BeginsWithNumber T.int_type s.now (T.number found.0) found.1) }
 {
-    if s.len() < 16 {
-        return digit_prefix(s);
-    }
     match s {
-        [first @ b'0'..=b'9', second, ..] if !second.is_ascii_digit() => {
-            let number = u128::from(*first - b'0');
-            Some((T::from_parts(false, number), 1))
-        }
+        [_, b'0'..=b'9', b'0'..=b'9', ..] if s.len() >= 16 => prefix_of_words(s),
         [first @ b'0'..=b'9', second @ b'0'..=b'9', third, ..] if !third.is_ascii_digit() => {
             let tens = u32::from(*first - b'0');
             let number = 10 * tens + u32::from(*second - b'0');
             Some((T::from_parts(false, u128::from(number)), 2))
         }
-        _ => prefix_of_words(s),
+        _ => digit_prefix(s),
     }
 }
 
-// The number of one digit at the start of a slice. The second byte is first, as a minus is hard to predict.
+// The number of one digit at the start of a slice.
 #[inline(always)]
 fn digit_prefix<T: Number>(s: &[u8]) -> Option<(T, usize)>
     // ensures { IfSome result (λ found. BeginsWithNumber T.int_type s.now (T.number found.0) found.1) }

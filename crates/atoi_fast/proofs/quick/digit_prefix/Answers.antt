@@ -10,7 +10,7 @@ pub returns-in-48-to-57-2 : goal.returns-in-48-to-57-2
 returns-in-48-to-57-2 g c =
     let ends : 2 ≤ length c.args.s.now → is_digit decimal_table (get_or c.args.s.now 1 0) ≡ false = λ two.
     elim c.if-s-lt2.branch [
-      then-s-lt2 w ↦ grind (arith, nat_tests)
+      | then-s-lt2 w ↦ grind (arith, nat_tests)
       | else-s-lt2+then-s-lt48 w ↦ grind (arith, nat_tests)
       | else-s-lt2+else-s-lt48+else-s-lt58 w ↦ grind (arith, nat_tests)
     ] in
