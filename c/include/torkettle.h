@@ -1097,12 +1097,14 @@ TK_FAR tk_option_pair_i64_size tk_prefix_of_three_words_i64(bool minus, uint64_t
 TK_FAR tk_option_pair_u64_size tk_prefix_of_three_words_u64(bool minus, uint64_t high,
                                                             tk_bytes s) TK_SYMBOL(tk_prefix_of_three_words_u64);
 
-/* A product, since the compiler would branch on the sign. */
-/* atoi_core/src/number.rt:88 */
+/* atoi_core/src/number.rt:87 */
 TK_HINTED tk_i128 tk_with_sign_64(bool minus, uint64_t magnitude)
 {
-    return tk_i128_mul(tk_i128_of(magnitude),
-                       tk_i128_sub(tk_i128_of(1), tk_i128_mul(tk_i128_of(2), tk_i128_of(minus))));
+    tk_i128 number = tk_i128_of(magnitude);
+    if (minus) {
+        return tk_i128_negate(number);
+    }
+    return number;
 }
 
 /* atoi_core/src/number.rt:143 */
@@ -1325,7 +1327,7 @@ TK_HINTED uint64_t tk_sum_of(uint64_t digits)
 
 /* Returns how many digits the word begins with. */
 /* atoi_fast/src/digits.rt:19 */
-TK_HINTED uint32_t tk_digits_of(uint64_t word)
+TK_HINTED uint32_t tk_leading_digits(uint64_t word)
 {
     uint64_t above = word + UINT64_C(0x4646464646464646);
     uint64_t below = word - TK_ZEROS;
@@ -1347,15 +1349,15 @@ TK_HINTED uint64_t tk_value_by_product(uint64_t digits, uint32_t len)
 }
 
 /* Returns ten to the power of `digits`, which is at most 16. */
-/* atoi_core/src/loops/powers.rt:26 */
+/* atoi_core/src/powers.rt:26 */
 TK_HINTED uint64_t tk_power_of_ten(uint32_t digits)
 {
     return tk_powers[tk_index(TK_CAST(size_t, digits), 17)];
 }
 
 /*
- * Returns the number of this sign and magnitude, if the type has it. The magnitude is at most `most`,
- * a constant: for a type that has all numbers up to it, LLVM leaves out the test.
+ * Returns the number of this sign and magnitude, if the type has it. The magnitude is at most `most`, a
+ * constant: a type that has all numbers up to it needs no other test.
  */
 /* atoi_fast/src/in_range.rt:17 */
 TK_INLINE tk_option_i8 tk_number_in_range_i8(uint64_t most, bool minus, uint64_t magnitude)
@@ -1372,7 +1374,7 @@ TK_INLINE tk_option_i8 tk_number_in_range_i8(uint64_t most, bool minus, uint64_t
 TK_INLINE tk_option_pair_i8_size tk_prefix_of_two_words_i8(bool minus, uint64_t high, tk_bytes s)
 {
     uint64_t next = tk_load_full(tk_bytes_from(s, 8));
-    uint32_t more = tk_digits_of(next);
+    uint32_t more = tk_leading_digits(next);
     if (more == 8) {
         return tk_none_pair_i8_size();
     }
@@ -1476,7 +1478,7 @@ TK_INLINE tk_option_u8 tk_number_in_range_u8(uint64_t most, bool minus, uint64_t
 TK_INLINE tk_option_pair_u8_size tk_prefix_of_two_words_u8(bool minus, uint64_t high, tk_bytes s)
 {
     uint64_t next = tk_load_full(tk_bytes_from(s, 8));
-    uint32_t more = tk_digits_of(next);
+    uint32_t more = tk_leading_digits(next);
     if (more == 8) {
         return tk_none_pair_u8_size();
     }
@@ -1571,7 +1573,7 @@ TK_INLINE tk_option_i16 tk_number_in_range_i16(uint64_t most, bool minus, uint64
 TK_INLINE tk_option_pair_i16_size tk_prefix_of_two_words_i16(bool minus, uint64_t high, tk_bytes s)
 {
     uint64_t next = tk_load_full(tk_bytes_from(s, 8));
-    uint32_t more = tk_digits_of(next);
+    uint32_t more = tk_leading_digits(next);
     if (more == 8) {
         return tk_none_pair_i16_size();
     }
@@ -1666,7 +1668,7 @@ TK_INLINE tk_option_u16 tk_number_in_range_u16(uint64_t most, bool minus, uint64
 TK_INLINE tk_option_pair_u16_size tk_prefix_of_two_words_u16(bool minus, uint64_t high, tk_bytes s)
 {
     uint64_t next = tk_load_full(tk_bytes_from(s, 8));
-    uint32_t more = tk_digits_of(next);
+    uint32_t more = tk_leading_digits(next);
     if (more == 8) {
         return tk_none_pair_u16_size();
     }
@@ -1761,7 +1763,7 @@ TK_INLINE tk_option_i32 tk_number_in_range_i32(uint64_t most, bool minus, uint64
 TK_INLINE tk_option_pair_i32_size tk_prefix_of_two_words_i32(bool minus, uint64_t high, tk_bytes s)
 {
     uint64_t next = tk_load_full(tk_bytes_from(s, 8));
-    uint32_t more = tk_digits_of(next);
+    uint32_t more = tk_leading_digits(next);
     if (more == 8) {
         return tk_none_pair_i32_size();
     }
@@ -1856,7 +1858,7 @@ TK_INLINE tk_option_u32 tk_number_in_range_u32(uint64_t most, bool minus, uint64
 TK_INLINE tk_option_pair_u32_size tk_prefix_of_two_words_u32(bool minus, uint64_t high, tk_bytes s)
 {
     uint64_t next = tk_load_full(tk_bytes_from(s, 8));
-    uint32_t more = tk_digits_of(next);
+    uint32_t more = tk_leading_digits(next);
     if (more == 8) {
         return tk_none_pair_u32_size();
     }
@@ -1951,7 +1953,7 @@ TK_INLINE tk_option_i64 tk_number_in_range_i64(uint64_t most, bool minus, uint64
 TK_INLINE tk_option_pair_i64_size tk_prefix_of_two_words_i64(bool minus, uint64_t high, tk_bytes s)
 {
     uint64_t next = tk_load_full(tk_bytes_from(s, 8));
-    uint32_t more = tk_digits_of(next);
+    uint32_t more = tk_leading_digits(next);
     if (more == 8) {
         uint64_t high_2 = high * 100000000 + tk_sum_of(next - TK_ZEROS);
         return tk_prefix_of_three_words_i64(minus, high_2, s);
@@ -2047,7 +2049,7 @@ TK_INLINE tk_option_u64 tk_number_in_range_u64(uint64_t most, bool minus, uint64
 TK_INLINE tk_option_pair_u64_size tk_prefix_of_two_words_u64(bool minus, uint64_t high, tk_bytes s)
 {
     uint64_t next = tk_load_full(tk_bytes_from(s, 8));
-    uint32_t more = tk_digits_of(next);
+    uint32_t more = tk_leading_digits(next);
     if (more == 8) {
         uint64_t high_2 = high * 100000000 + tk_sum_of(next - TK_ZEROS);
         return tk_prefix_of_three_words_u64(minus, high_2, s);
@@ -2144,7 +2146,7 @@ TK_INLINE tk_option_i128 tk_number_in_range_i128(uint64_t most, bool minus, uint
 TK_INLINE tk_option_pair_i128_size tk_prefix_of_two_words_i128(bool minus, uint64_t high, tk_bytes s)
 {
     uint64_t next = tk_load_full(tk_bytes_from(s, 8));
-    uint32_t more = tk_digits_of(next);
+    uint32_t more = tk_leading_digits(next);
     if (more == 8) {
         return tk_none_pair_i128_size();
     }
@@ -2240,7 +2242,7 @@ TK_INLINE tk_option_u128 tk_number_in_range_u128(uint64_t most, bool minus, uint
 TK_INLINE tk_option_pair_u128_size tk_prefix_of_two_words_u128(bool minus, uint64_t high, tk_bytes s)
 {
     uint64_t next = tk_load_full(tk_bytes_from(s, 8));
-    uint32_t more = tk_digits_of(next);
+    uint32_t more = tk_leading_digits(next);
     if (more == 8) {
         return tk_none_pair_u128_size();
     }

@@ -691,14 +691,14 @@ TK_INLINE tk_option_pair_u128_bytes tk_none_pair_u128_bytes(void)
 typedef struct tk_fields {
     tk_bytes rest;
     uint8_t separator;
-    bool trims;
+    bool is_lines;
     size_t index;
     size_t end;
 } tk_fields;
 
-TK_INLINE tk_fields tk_new_fields(tk_bytes rest, uint8_t separator, bool trims, size_t index, size_t end)
+TK_INLINE tk_fields tk_new_fields(tk_bytes rest, uint8_t separator, bool is_lines, size_t index, size_t end)
 {
-    return TK_MAKE(tk_fields, rest, separator, trims, index, end);
+    return TK_MAKE(tk_fields, rest, separator, is_lines, index, end);
 }
 
 typedef struct tk_pair_size_size {
@@ -715,13 +715,13 @@ TK_INLINE tk_pair_size_size tk_new_pair_size_size(size_t first, size_t second)
 typedef struct tk_guess {
     size_t width;
     bool has_return;
-    bool are_short;
+    bool mostly_one_digit;
     bool have_minus;
 } tk_guess;
 
-TK_INLINE tk_guess tk_new_guess(size_t width, bool has_return, bool are_short, bool have_minus)
+TK_INLINE tk_guess tk_new_guess(size_t width, bool has_return, bool mostly_one_digit, bool have_minus)
 {
-    return TK_MAKE(tk_guess, width, has_return, are_short, have_minus);
+    return TK_MAKE(tk_guess, width, has_return, mostly_one_digit, have_minus);
 }
 
 typedef struct tk_pair_bytes_bytes {
@@ -1604,7 +1604,7 @@ TK_INLINE uint64_t tk_load_from(tk_bytes s, size_t at)
  * Returns the number of a row of digits that spells `high`, followed by at most 16 more `digits`
  * that spell `low`.
  */
-/* atoi_core/src/loops/powers.rt:37 */
+/* atoi_core/src/powers.rt:37 */
 TK_HINTED tk_u128 tk_append_digits(uint64_t high, uint32_t digits, uint64_t low)
 {
     return tk_u128_add(tk_u128_mul(tk_u128_of(high), tk_u128_of(tk_power_of_ten(digits))), tk_u128_of(low));
@@ -1622,7 +1622,7 @@ TK_HINTED tk_u128 tk_greatest_magnitude(tk_u128 greatest, bool minus)
 TK_FAR tk_option_pair_i64_size tk_prefix_of_three_words_i64(bool minus, uint64_t high, tk_bytes s)
 {
     uint64_t next = tk_load_from(s, 16);
-    uint32_t more = tk_digits_of(next);
+    uint32_t more = tk_leading_digits(next);
     /* Not more than 19 digits, which no limit refuses. */
     if (more > 3 + TK_CAST(uint32_t, minus)) {
         return tk_none_pair_i64_size();
@@ -1639,7 +1639,7 @@ TK_FAR tk_option_pair_i64_size tk_prefix_of_three_words_i64(bool minus, uint64_t
 TK_FAR tk_option_pair_u64_size tk_prefix_of_three_words_u64(bool minus, uint64_t high, tk_bytes s)
 {
     uint64_t next = tk_load_from(s, 16);
-    uint32_t more = tk_digits_of(next);
+    uint32_t more = tk_leading_digits(next);
     /* Not more than 19 digits, which no limit refuses. */
     if (more > 3 + TK_CAST(uint32_t, minus)) {
         return tk_none_pair_u64_size();
@@ -1673,7 +1673,7 @@ TK_HINTED uint64_t tk_value_of(uint64_t word, uint32_t len)
     return tk_sum_of((word - TK_ZEROS) << (64 - 8 * len));
 }
 
-/* `len_zeroes`, from the difference that `digits_of` and `value_of` compute, too. */
+/* `len_zeroes`, from the difference that `leading_digits` and `value_of` compute, too. */
 /* atoi_fast/src/digits.rt:49 */
 TK_HINTED uint32_t tk_zeroes_of(uint64_t word)
 {
@@ -1695,8 +1695,8 @@ TK_HINTED uint32_t tk_zeroes_of_two(uint64_t first, uint64_t next)
 TK_INLINE tk_window tk_long_window(tk_bytes s)
 {
     uint64_t first = tk_load_full(s);
-    uint32_t len = tk_digits_of(first);
-    /* LLVM joins this test with the caller's. */
+    uint32_t len = tk_leading_digits(first);
+    /* Callers test this, too, and rustc 1.95 makes one test of both. */
     if (len == 0) {
         return tk_window_not_full(0, 0);
     }
@@ -1704,7 +1704,7 @@ TK_INLINE tk_window tk_long_window(tk_bytes s)
         return tk_window_not_full(len, tk_value_below_8(first, len));
     }
     uint64_t next = tk_load_full(tk_bytes_from(s, 8));
-    uint32_t more = tk_digits_of(next);
+    uint32_t more = tk_leading_digits(next);
     if (more != 8) {
         uint64_t high = tk_value_of(first, 8) * tk_power_of_ten(more);
         return tk_window_not_full(8 + more, high + tk_value_below_8(next, more));
@@ -1778,9 +1778,9 @@ TK_INLINE uint64_t tk_load_flipped(tk_bytes s)
     return shifted | (TK_CAST(uint64_t, back) << 32);
 }
 
-/* `digits_of` for a word xor `ZEROS`. Here, a byte is no digit if adding 118 sets its top bit. */
+/* `leading_digits` for a word xor `ZEROS`. Here, a byte is no digit if adding 118 sets its top bit. */
 /* atoi_fast/src/digits.rt:35 */
-TK_HINTED uint32_t tk_digits_of_flipped(uint64_t flipped)
+TK_HINTED uint32_t tk_leading_digits_flipped(uint64_t flipped)
 {
     uint64_t marks = ((flipped + UINT64_C(0x7676767676767676)) | flipped) & UINT64_C(0x8080808080808080);
     if (marks == 0) {
@@ -1791,7 +1791,7 @@ TK_HINTED uint32_t tk_digits_of_flipped(uint64_t flipped)
 
 /* Returns the number that the leading digits of the word spell; there may be none. */
 /* atoi_fast/src/digits.rt:70 */
-TK_HINTED uint64_t tk_number_in_word(uint64_t word, uint32_t len)
+TK_HINTED uint64_t tk_value_in_word(uint64_t word, uint32_t len)
 {
     if (len == 0) {
         return 0;
@@ -1804,17 +1804,17 @@ TK_HINTED uint64_t tk_number_in_word(uint64_t word, uint32_t len)
  * most frequent length, or none has a branch.
  */
 /* atoi_fast/src/swar.rt:241 */
-TK_INLINE tk_window tk_short_window(tk_bytes s)
+TK_INLINE tk_window tk_window_up_to_8(tk_bytes s)
 {
     if (s.len <= 1) {
         return tk_window_of_one(s);
     }
     uint64_t flipped = tk_load_flipped(s);
-    uint32_t digits = tk_digits_of_flipped(flipped);
+    uint32_t digits = tk_leading_digits_flipped(flipped);
     if (digits == 8) {
         return tk_new_window(TK_CAST(uint32_t, s.len), 0, tk_sum_of(flipped));
     }
-    return tk_new_window(digits - (8 - TK_CAST(uint32_t, s.len)), 0, tk_number_in_word(flipped ^ TK_ZEROS, digits));
+    return tk_new_window(digits - (8 - TK_CAST(uint32_t, s.len)), 0, tk_value_in_word(flipped ^ TK_ZEROS, digits));
 }
 
 /* atoi_fast/src/loads.rt:121 */
@@ -1829,15 +1829,15 @@ TK_HINTED uint64_t tk_load_last(tk_bytes s)
 
 /* The window of 9 to 15 bytes. The last eight overlap the first eight. */
 /* atoi_fast/src/swar.rt:268 */
-TK_INLINE tk_window tk_medium_window(tk_bytes s)
+TK_INLINE tk_window tk_window_9_to_15(tk_bytes s)
 {
     uint64_t first = tk_load_full(s);
-    uint32_t len = tk_digits_of(first);
+    uint32_t len = tk_leading_digits(first);
     if (len != 8) {
         return tk_window_not_full(len, tk_value_below_8(first, len));
     }
     uint64_t last = tk_load_last(s);
-    uint32_t more = tk_digits_of(last);
+    uint32_t more = tk_leading_digits(last);
     uint32_t size = TK_CAST(uint32_t, s.len);
     uint64_t high = tk_value_of(first, size - 8);
     if (more == 8) {
@@ -1849,21 +1849,21 @@ TK_INLINE tk_window tk_medium_window(tk_bytes s)
 /* atoi_fast/src/swar.rt:29 */
 TK_INLINE tk_window tk_swar_window(tk_bytes s)
 {
-    /* In this order, LLVM puts no jump before long slices. */
+    /* Long slices first: rustc 1.95 then puts no jump before them. */
     if (s.len >= 16) {
         return tk_long_window(s);
     }
     if (s.len <= 8) {
-        return tk_short_window(s);
+        return tk_window_up_to_8(s);
     }
-    return tk_medium_window(s);
+    return tk_window_9_to_15(s);
 }
 
 /*
  * Skips zeros window by window, from a first window that reported `zeroes`. Returns the first
  * window that reports none, and its offset.
  */
-/* atoi_core/src/loops.rt:17 */
+/* atoi_core/src/after_zeros.rt:14 */
 TK_INLINE tk_pair_size_window tk_window_after_zeros_swar(uint32_t zeroes, tk_bytes s)
 {
     size_t at = TK_CAST(size_t, zeroes);
@@ -1877,7 +1877,7 @@ TK_INLINE tk_pair_size_window tk_window_after_zeros_swar(uint32_t zeroes, tk_byt
 }
 
 /* atoi_core/src/narrow.rt:115 */
-TK_HINTED tk_result_u64 tk_narrow_bounded(uint64_t bound, size_t len, uint64_t number, tk_bytes s)
+TK_HINTED tk_result_u64 tk_narrow_within_bound(uint64_t bound, size_t len, uint64_t number, tk_bytes s)
 {
     if (len == 0) {
         return tk_err_u64(tk_error_empty());
@@ -1896,14 +1896,14 @@ TK_HINTED tk_result_u64 tk_narrow_bounded(uint64_t bound, size_t len, uint64_t n
 TK_HINTED tk_result_u64 tk_narrow_answer(uint64_t bound, size_t len, bool is_whole, uint64_t number, tk_bytes s)
 {
     if (!is_whole) {
-        tk_result_u64 number_found = tk_narrow_bounded(bound, len, number, s);
+        tk_result_u64 number_found = tk_narrow_within_bound(bound, len, number, s);
         if (!number_found.is_ok) {
             return tk_err_u64(number_found.error);
         }
         uint64_t number_2 = number_found.value;
         return tk_err_u64(tk_error_invalid64(number_2, len, s));
     }
-    return tk_narrow_bounded(bound, len, number, s);
+    return tk_narrow_within_bound(bound, len, number, s);
 }
 
 /* `narrow_whole_windows`, after a first window that reported zeros. */
@@ -1943,17 +1943,17 @@ TK_HINTED uint32_t tk_limit_64(bool is_signed)
 }
 
 /* atoi_fast/src/swar.rt:123 */
-TK_INLINE tk_window tk_windows_window(tk_bytes s)
+TK_INLINE tk_window tk_swar_without_parsers_window(tk_bytes s)
 {
     return tk_swar_window(s);
 }
 
-/* atoi_core/src/loops.rt:17 */
-TK_INLINE tk_pair_size_window tk_window_after_zeros_windows(uint32_t zeroes, tk_bytes s)
+/* atoi_core/src/after_zeros.rt:14 */
+TK_INLINE tk_pair_size_window tk_window_after_zeros_swar_without_parsers(uint32_t zeroes, tk_bytes s)
 {
     size_t at = TK_CAST(size_t, zeroes);
     for (;;) {
-        tk_window window = tk_windows_window(tk_bytes_from(s, at));
+        tk_window window = tk_swar_without_parsers_window(tk_bytes_from(s, at));
         if (window.zeroes == 0) {
             return tk_new_pair_size_window(at, window);
         }
@@ -1965,10 +1965,10 @@ TK_INLINE tk_pair_size_window tk_window_after_zeros_windows(uint32_t zeroes, tk_
 TK_INLINE tk_window tk_swar_window_8(tk_bytes s)
 {
     if (s.len < 8) {
-        return tk_short_window(s);
+        return tk_window_up_to_8(s);
     }
     uint64_t word = tk_load_full(s);
-    uint32_t len = tk_digits_of(word);
+    uint32_t len = tk_leading_digits(word);
     if (len != 8) {
         return tk_window_not_full(len, tk_value_below_8(word, len));
     }
@@ -1979,7 +1979,7 @@ TK_INLINE tk_window tk_swar_window_8(tk_bytes s)
  * Returns the answer of `prefix_64` for `s`, which starts with `skipped` zeros and then
  * `significant` digits that spell `number`. The errors are `Empty`, `Size` and `Overflow`.
  */
-/* atoi_core/src/loops/wide_answer.rt:25 */
+/* atoi_core/src/wide_answer.rt:25 */
 TK_INLINE tk_result_pair_u64_size tk_answer_64(uint64_t bound, uint32_t limit, size_t skipped, uint32_t significant,
                                                tk_u128 number, tk_bytes s)
 {
@@ -2002,7 +2002,7 @@ TK_INLINE tk_result_pair_u64_size tk_answer_64(uint64_t bound, uint32_t limit, s
 TK_NOINLINE tk_result_pair_u64_size tk_prefix_64_after_zeros(uint64_t bound, uint32_t limit, uint32_t zeroes,
                                                              tk_bytes s)
 {
-    tk_pair_size_window found = tk_window_after_zeros_windows(zeroes, s);
+    tk_pair_size_window found = tk_window_after_zeros_swar_without_parsers(zeroes, s);
     size_t at = found.first;
     tk_window first = found.second;
     if (first.len < 16) {
@@ -2014,7 +2014,7 @@ TK_NOINLINE tk_result_pair_u64_size tk_prefix_64_after_zeros(uint64_t bound, uin
 }
 
 /* Returns `number`, which has `len` digits, with `len`. The error is `Empty` if `len` is 0. */
-/* atoi_core/src/loops/wide_answer.rt:12 */
+/* atoi_core/src/wide_answer.rt:12 */
 TK_INLINE tk_result_pair_u64_size tk_found_or_empty_u64(uint64_t number, size_t len)
 {
     if (len == 0) {
@@ -2023,9 +2023,9 @@ TK_INLINE tk_result_pair_u64_size tk_found_or_empty_u64(uint64_t number, size_t 
     return tk_ok_pair_u64_size(tk_new_pair_u64_size(number, len));
 }
 
-/* `digits_of` for a word of four bytes. */
+/* `leading_digits` for a word of four bytes. */
 /* atoi_fast/src/digits.rt:158 */
-TK_HINTED uint32_t tk_digits_of_four(uint32_t word)
+TK_HINTED uint32_t tk_leading_digits_of_four(uint32_t word)
 {
     uint32_t above = word + 0x46464646;
     uint32_t below = word - TK_FOUR_ZEROS;
@@ -2053,19 +2053,19 @@ TK_HINTED uint32_t tk_value_after(uint32_t word, size_t skipped)
 }
 
 /* Returns the number that the bytes after the first 16 spell, if the last four are digits. */
-/* atoi_fast/src/after_16.rt:72 */
+/* atoi_fast/src/after_16.rt:71 */
 TK_HINTED tk_option_u32 tk_last_four(tk_bytes s)
 {
     uint32_t word = tk_load_last_four(s);
-    if (tk_digits_of_four(word) < 4) {
+    if (tk_leading_digits_of_four(word) < 4) {
         return tk_none_u32();
     }
     /* Some of these four may be among the first 16. */
     return tk_some_u32(tk_value_after(word, 20 - s.len));
 }
 
-/* atoi_fast/src/after_16.rt:88 */
-TK_HINTED tk_result_pair_u64_size tk_after_16_bounded(tk_u128 bound, size_t len, tk_u128 number, tk_bytes s)
+/* atoi_fast/src/after_16.rt:87 */
+TK_HINTED tk_result_pair_u64_size tk_after_16_within_bound(tk_u128 bound, size_t len, tk_u128 number, tk_bytes s)
 {
     if (tk_u128_less(bound, number)) {
         return tk_err_pair_u64_size(tk_error_overflow(s));
@@ -2086,28 +2086,28 @@ TK_HINTED uint32_t tk_value_up_to_4(uint32_t word, uint32_t len)
     return tk_sum_of_four((word - TK_FOUR_ZEROS) << (32 - 8 * len));
 }
 
-/* atoi_fast/src/after_16.rt:138 */
-TK_HINTED bool tk_begins_with_digit(tk_bytes s)
+/* atoi_fast/src/after_16.rt:137 */
+TK_HINTED bool tk_starts_with_digit(tk_bytes s)
 {
     return s.len >= 1 && '0' <= s.at[0] && s.at[0] <= '9';
 }
 
 /* `answer_after_16`, from the four bytes after 16. */
-/* atoi_fast/src/after_16.rt:107 */
+/* atoi_fast/src/after_16.rt:106 */
 TK_INLINE tk_result_pair_u64_size tk_answer_by_word(tk_u128 bound, uint32_t limit, uint64_t high, tk_bytes s)
 {
     uint32_t word = tk_load_four_from(s, 16);
     if (!tk_starts_with_digit_of_four(word)) {
         return tk_ok_pair_u64_size(tk_new_pair_u64_size(high, 16));
     }
-    uint32_t more = tk_digits_of_four(word);
+    uint32_t more = tk_leading_digits_of_four(word);
     if (more == 4) {
         tk_u128 number = tk_append_digits(high, 4, TK_CAST(uint64_t, tk_value_up_to_4(word, 4)));
-        if (limit < 20 || tk_begins_with_digit(tk_bytes_from(s, 20))) {
-            uint32_t more_2 = tk_digits_of(tk_load_from(s, 16));
+        if (limit < 20 || tk_starts_with_digit(tk_bytes_from(s, 20))) {
+            uint32_t more_2 = tk_leading_digits(tk_load_from(s, 16));
             return tk_err_pair_u64_size(tk_error_size(16 + TK_CAST(size_t, more_2), s));
         }
-        return tk_after_16_bounded(bound, 20, number, s);
+        return tk_after_16_within_bound(bound, 20, number, s);
     }
     /* At most 19 digits fit in 64 bits. */
     uint64_t number = high * tk_power_of_ten(more) + TK_CAST(uint64_t, tk_value_up_to_4(word, more));
@@ -2119,14 +2119,13 @@ TK_INLINE tk_result_pair_u64_size tk_answer_by_word(tk_u128 bound, uint32_t limi
 TK_INLINE tk_result_pair_u64_size tk_answer_near_end(tk_u128 bound, uint32_t limit, uint64_t high, tk_bytes s)
 {
     if (s.len == 16) {
-        /* With `s.len()`, LLVM drops the caller's test. */
-        return tk_ok_pair_u64_size(tk_new_pair_u64_size(high, s.len));
+        return tk_ok_pair_u64_size(tk_new_pair_u64_size(high, 16));
     }
     tk_option_u32 found = tk_last_four(s);
     if (found.is_some) {
         uint32_t low = found.value;
         tk_u128 number = tk_append_digits(high, TK_CAST(uint32_t, s.len) - 16, TK_CAST(uint64_t, low));
-        return tk_after_16_bounded(bound, s.len, number, s);
+        return tk_after_16_within_bound(bound, s.len, number, s);
     }
     return tk_answer_by_word(bound, limit, high, s);
 }
@@ -2138,7 +2137,7 @@ TK_INLINE tk_result_pair_u64_size tk_answer_near_end(tk_u128 bound, uint32_t lim
 /* atoi_fast/src/after_16.rt:19 */
 TK_INLINE tk_result_pair_u64_size tk_answer_after_16(uint64_t bound, uint32_t limit, uint64_t high, tk_bytes s)
 {
-    /* One use, so that LLVM chooses a bound by the sign only here. */
+    /* Used once, so that rustc 1.95 chooses the bound by the sign only here. */
     tk_u128 bound_2 = tk_u128_of(bound);
     if (s.len <= TK_CAST(size_t, limit)) {
         return tk_answer_near_end(bound_2, limit, high, s);
@@ -2150,7 +2149,7 @@ TK_INLINE tk_result_pair_u64_size tk_answer_after_16(uint64_t bound, uint32_t li
 /* atoi_fast/src/swar.rt:61 */
 TK_INLINE tk_result_pair_u64_size tk_swar_prefix_64(uint64_t bound, uint32_t limit, bool skip, tk_bytes s)
 {
-    /* In this order, LLVM puts no jump before long slices. */
+    /* Long slices first: rustc 1.95 then puts no jump before them. */
     if (s.len >= 16) {
         tk_window first = tk_swar_window(s);
         if (skip && first.zeroes > 0) {
@@ -2184,7 +2183,7 @@ TK_NOINLINE tk_result_u64 tk_whole_64(uint64_t bound, uint32_t limit, bool skip,
     return tk_err_u64(tk_error_invalid64(number, len, s));
 }
 
-/* atoi_core/src/loops/wide_answer.rt:12 */
+/* atoi_core/src/wide_answer.rt:12 */
 TK_INLINE tk_result_pair_u128_size tk_found_or_empty_u128(tk_u128 number, size_t len)
 {
     if (len == 0) {
@@ -2193,8 +2192,8 @@ TK_INLINE tk_result_pair_u128_size tk_found_or_empty_u128(tk_u128 number, size_t
     return tk_ok_pair_u128_size(tk_new_pair_u128_size(number, len));
 }
 
-/* atoi_core/src/loops/wide_answer.rt:83 */
-TK_HINTED tk_option_u128 tk_up_to(tk_u128 bound, tk_u128 high, tk_u128 power, uint64_t low)
+/* atoi_core/src/wide_answer.rt:83 */
+TK_HINTED tk_option_u128 tk_wide_answer_within_bound(tk_u128 bound, tk_u128 high, tk_u128 power, uint64_t low)
 {
     if (!tk_u128_product_fits(high, power)) {
         return tk_none_u128();
@@ -2216,7 +2215,7 @@ TK_HINTED tk_option_u128 tk_up_to(tk_u128 bound, tk_u128 high, tk_u128 power, ui
  * that spell `high`, and then `more` digits that spell `low`. The errors are `Size` and
  * `Overflow`.
  */
-/* atoi_core/src/loops/wide_answer.rt:53 */
+/* atoi_core/src/wide_answer.rt:53 */
 TK_INLINE tk_result_pair_u128_size tk_answer_128(tk_u128 bound, size_t skipped, tk_u128 high, uint32_t more,
                                                  uint64_t low, tk_bytes s)
 {
@@ -2229,7 +2228,7 @@ TK_INLINE tk_result_pair_u128_size tk_answer_128(tk_u128 bound, size_t skipped, 
         /* Fewer than 39 digits are never above a bound of 39. */
         return tk_ok_pair_u128_size(tk_new_pair_u128_size(tk_u128_add(tk_u128_mul(high, power), tk_u128_of(low)), len));
     }
-    tk_option_u128 found = tk_up_to(bound, high, power, low);
+    tk_option_u128 found = tk_wide_answer_within_bound(bound, high, power, low);
     if (found.is_some) {
         tk_u128 number = found.value;
         return tk_ok_pair_u128_size(tk_new_pair_u128_size(number, len));
@@ -2249,7 +2248,7 @@ TK_NOINLINE tk_result_pair_u128_size tk_answer_after_32(tk_u128 bound, size_t sk
 /* atoi_fast/src/swar.rt:162 */
 TK_NOINLINE tk_result_pair_u128_size tk_prefix_128_after_zeros(tk_u128 bound, uint32_t zeroes, tk_bytes s)
 {
-    tk_pair_size_window found = tk_window_after_zeros_windows(zeroes, s);
+    tk_pair_size_window found = tk_window_after_zeros_swar_without_parsers(zeroes, s);
     size_t at = found.first;
     tk_window first = found.second;
     if (first.len < 16) {
@@ -2302,8 +2301,7 @@ TK_NOINLINE tk_result_u128 tk_whole_128(tk_u128 bound, bool skip, tk_bytes s)
     }
     tk_u128 number = found.value.first;
     size_t len = found.value.second;
-    /* In this order, LLVM drops the test where `prefix_128` returns a known length. */
-    if (s.len == len) {
+    if (len == s.len) {
         return tk_ok_u128(number);
     }
     return tk_err_u128(tk_error_invalid128(number, len, s));
@@ -2344,7 +2342,7 @@ TK_INLINE tk_result_u128 tk_atoi_core_whole_by_size(uint32_t bits, bool is_signe
 /* atoi_fast/src/calls.rt:167 */
 TK_INLINE tk_result_u128 tk_whole_short(uint32_t bits, tk_u128 bound, tk_bytes s)
 {
-    /* LLVM joins this cast with the engine's. */
+    /* Cast as in the engine, so that rustc 1.95 casts once. */
     uint32_t size = TK_CAST(uint32_t, s.len);
     tk_window window = tk_swar_window(s);
     bool is_whole = window.len == size;
@@ -2426,7 +2424,7 @@ TK_INLINE tk_pair_bool_bytes tk_sign_take_sign(bool signed_, bool skip_plus, tk_
         return tk_new_pair_bool_bytes(false, s);
     }
     uint8_t first = s.at[0];
-    /* Before the `+`: with the sign set on two paths, the compiler would branch on it. */
+    /* Before the `+`: with the sign set on two paths, rustc 1.95 branches on it for `i128`. */
     bool minus = signed_ & (first == '-');
     if (skip_plus && first == '+') {
         return tk_new_pair_bool_bytes(minus, tk_without_first(s));
@@ -2442,7 +2440,7 @@ TK_COLD tk_result_i8 tk_parse_no_digit_i8(bool skip, bool skip_plus, tk_bytes s)
     tk_pair_bool_bytes found = tk_sign_take_sign(true, skip_plus, s);
     bool minus = found.first;
     tk_bytes body = found.second;
-    /* LLVM then leaves out the parser of longer slices. */
+    /* Of at most one byte, rustc 1.95 leaves out the parser of longer slices. */
     return tk_whole_with_sign_i8(minus, skip, tk_bytes_to(body, tk_size_min(body.len, 1)));
 }
 
@@ -2453,7 +2451,7 @@ TK_INLINE tk_option_i8 tk_short_signed_i8(tk_bytes s)
     bool minus = s.at[tk_index(0, s.len)] == '-';
     /* A `-` that is flipped once more is the digit 0, without a branch. */
     uint64_t flipped = tk_load_flipped(s) ^ (tk_factor_of(s.len) * (0x1D * TK_CAST(uint64_t, minus)));
-    if (tk_digits_of_flipped(flipped) != 8) {
+    if (tk_leading_digits_flipped(flipped) != 8) {
         return tk_none_i8();
     }
     return tk_number_in_range_i8(TK_MOST_IN_WORD, minus, tk_sum_of(flipped));
@@ -2511,7 +2509,7 @@ TK_COLD tk_result_u8 tk_parse_no_digit_u8(bool skip, bool skip_plus, tk_bytes s)
     tk_pair_bool_bytes found = tk_sign_take_sign(false, skip_plus, s);
     bool minus = found.first;
     tk_bytes body = found.second;
-    /* LLVM then leaves out the parser of longer slices. */
+    /* Of at most one byte, rustc 1.95 leaves out the parser of longer slices. */
     return tk_whole_with_sign_u8(minus, skip, tk_bytes_to(body, tk_size_min(body.len, 1)));
 }
 
@@ -2559,7 +2557,7 @@ TK_COLD tk_result_i16 tk_parse_no_digit_i16(bool skip, bool skip_plus, tk_bytes 
     tk_pair_bool_bytes found = tk_sign_take_sign(true, skip_plus, s);
     bool minus = found.first;
     tk_bytes body = found.second;
-    /* LLVM then leaves out the parser of longer slices. */
+    /* Of at most one byte, rustc 1.95 leaves out the parser of longer slices. */
     return tk_whole_with_sign_i16(minus, skip, tk_bytes_to(body, tk_size_min(body.len, 1)));
 }
 
@@ -2569,7 +2567,7 @@ TK_INLINE tk_option_i16 tk_short_signed_i16(tk_bytes s)
     bool minus = s.at[tk_index(0, s.len)] == '-';
     /* A `-` that is flipped once more is the digit 0, without a branch. */
     uint64_t flipped = tk_load_flipped(s) ^ (tk_factor_of(s.len) * (0x1D * TK_CAST(uint64_t, minus)));
-    if (tk_digits_of_flipped(flipped) != 8) {
+    if (tk_leading_digits_flipped(flipped) != 8) {
         return tk_none_i16();
     }
     return tk_number_in_range_i16(TK_MOST_IN_WORD, minus, tk_sum_of(flipped));
@@ -2626,7 +2624,7 @@ TK_COLD tk_result_u16 tk_parse_no_digit_u16(bool skip, bool skip_plus, tk_bytes 
     tk_pair_bool_bytes found = tk_sign_take_sign(false, skip_plus, s);
     bool minus = found.first;
     tk_bytes body = found.second;
-    /* LLVM then leaves out the parser of longer slices. */
+    /* Of at most one byte, rustc 1.95 leaves out the parser of longer slices. */
     return tk_whole_with_sign_u16(minus, skip, tk_bytes_to(body, tk_size_min(body.len, 1)));
 }
 
@@ -2674,7 +2672,7 @@ TK_COLD tk_result_i32 tk_parse_no_digit_i32(bool skip, bool skip_plus, tk_bytes 
     tk_pair_bool_bytes found = tk_sign_take_sign(true, skip_plus, s);
     bool minus = found.first;
     tk_bytes body = found.second;
-    /* LLVM then leaves out the parser of longer slices. */
+    /* Of at most one byte, rustc 1.95 leaves out the parser of longer slices. */
     return tk_whole_with_sign_i32(minus, skip, tk_bytes_to(body, tk_size_min(body.len, 1)));
 }
 
@@ -2684,7 +2682,7 @@ TK_INLINE tk_option_i32 tk_short_signed_i32(tk_bytes s)
     bool minus = s.at[tk_index(0, s.len)] == '-';
     /* A `-` that is flipped once more is the digit 0, without a branch. */
     uint64_t flipped = tk_load_flipped(s) ^ (tk_factor_of(s.len) * (0x1D * TK_CAST(uint64_t, minus)));
-    if (tk_digits_of_flipped(flipped) != 8) {
+    if (tk_leading_digits_flipped(flipped) != 8) {
         return tk_none_i32();
     }
     return tk_number_in_range_i32(TK_MOST_IN_WORD, minus, tk_sum_of(flipped));
@@ -2742,7 +2740,7 @@ TK_COLD tk_result_u32 tk_parse_no_digit_u32(bool skip, bool skip_plus, tk_bytes 
     tk_pair_bool_bytes found = tk_sign_take_sign(false, skip_plus, s);
     bool minus = found.first;
     tk_bytes body = found.second;
-    /* LLVM then leaves out the parser of longer slices. */
+    /* Of at most one byte, rustc 1.95 leaves out the parser of longer slices. */
     return tk_whole_with_sign_u32(minus, skip, tk_bytes_to(body, tk_size_min(body.len, 1)));
 }
 
@@ -2791,7 +2789,7 @@ TK_COLD tk_result_i64 tk_parse_no_digit_i64(bool skip, bool skip_plus, tk_bytes 
     tk_pair_bool_bytes found = tk_sign_take_sign(true, skip_plus, s);
     bool minus = found.first;
     tk_bytes body = found.second;
-    /* LLVM then leaves out the parser of longer slices. */
+    /* Of at most one byte, rustc 1.95 leaves out the parser of longer slices. */
     return tk_whole_with_sign_i64(minus, skip, tk_bytes_to(body, tk_size_min(body.len, 1)));
 }
 
@@ -2801,7 +2799,7 @@ TK_INLINE tk_option_i64 tk_short_signed_i64(tk_bytes s)
     bool minus = s.at[tk_index(0, s.len)] == '-';
     /* A `-` that is flipped once more is the digit 0, without a branch. */
     uint64_t flipped = tk_load_flipped(s) ^ (tk_factor_of(s.len) * (0x1D * TK_CAST(uint64_t, minus)));
-    if (tk_digits_of_flipped(flipped) != 8) {
+    if (tk_leading_digits_flipped(flipped) != 8) {
         return tk_none_i64();
     }
     return tk_number_in_range_i64(TK_MOST_IN_WORD, minus, tk_sum_of(flipped));
@@ -2859,7 +2857,7 @@ TK_COLD tk_result_u64 tk_parse_no_digit_u64(bool skip, bool skip_plus, tk_bytes 
     tk_pair_bool_bytes found = tk_sign_take_sign(false, skip_plus, s);
     bool minus = found.first;
     tk_bytes body = found.second;
-    /* LLVM then leaves out the parser of longer slices. */
+    /* Of at most one byte, rustc 1.95 leaves out the parser of longer slices. */
     return tk_whole_with_sign_u64(minus, skip, tk_bytes_to(body, tk_size_min(body.len, 1)));
 }
 
@@ -2910,7 +2908,7 @@ TK_COLD tk_result_i128 tk_parse_no_digit_i128(bool skip, bool skip_plus, tk_byte
     tk_pair_bool_bytes found = tk_sign_take_sign(true, skip_plus, s);
     bool minus = found.first;
     tk_bytes body = found.second;
-    /* LLVM then leaves out the parser of longer slices. */
+    /* Of at most one byte, rustc 1.95 leaves out the parser of longer slices. */
     return tk_whole_with_sign_i128(minus, skip, tk_bytes_to(body, tk_size_min(body.len, 1)));
 }
 
@@ -2961,7 +2959,7 @@ TK_COLD tk_result_u128 tk_parse_no_digit_u128(bool skip, bool skip_plus, tk_byte
     tk_pair_bool_bytes found = tk_sign_take_sign(false, skip_plus, s);
     bool minus = found.first;
     tk_bytes body = found.second;
-    /* LLVM then leaves out the parser of longer slices. */
+    /* Of at most one byte, rustc 1.95 leaves out the parser of longer slices. */
     return tk_whole_with_sign_u128(minus, skip, tk_bytes_to(body, tk_size_min(body.len, 1)));
 }
 
@@ -3135,7 +3133,7 @@ TK_NOINLINE tk_result_pair_i8_size tk_atoi_simd_parse_prefix_i8(tk_bytes s, bool
 TK_INLINE tk_option_pair_u8_size tk_unsigned_prefix_u8(tk_bytes s)
 {
     uint64_t word = tk_load_full(s);
-    uint32_t len = tk_digits_of(word);
+    uint32_t len = tk_leading_digits(word);
     if (len == 0 || len == 8) {
         return tk_none_pair_u8_size();
     }
@@ -3250,7 +3248,7 @@ TK_NOINLINE tk_result_pair_i16_size tk_atoi_simd_parse_prefix_i16(tk_bytes s, bo
 TK_INLINE tk_option_pair_u16_size tk_unsigned_prefix_u16(tk_bytes s)
 {
     uint64_t word = tk_load_full(s);
-    uint32_t len = tk_digits_of(word);
+    uint32_t len = tk_leading_digits(word);
     if (len == 0 || len == 8) {
         return tk_none_pair_u16_size();
     }
@@ -3365,7 +3363,7 @@ TK_NOINLINE tk_result_pair_i32_size tk_atoi_simd_parse_prefix_i32(tk_bytes s, bo
 TK_INLINE tk_option_pair_u32_size tk_unsigned_prefix_u32(tk_bytes s)
 {
     uint64_t word = tk_load_full(s);
-    uint32_t len = tk_digits_of(word);
+    uint32_t len = tk_leading_digits(word);
     if (len == 0 || len == 8) {
         return tk_none_pair_u32_size();
     }
@@ -3481,7 +3479,7 @@ TK_NOINLINE tk_result_pair_i64_size tk_atoi_simd_parse_prefix_i64(tk_bytes s, bo
 TK_INLINE tk_option_pair_u64_size tk_unsigned_prefix_u64(tk_bytes s)
 {
     uint64_t word = tk_load_full(s);
-    uint32_t len = tk_digits_of(word);
+    uint32_t len = tk_leading_digits(word);
     if (len == 0 || len == 8) {
         return tk_none_pair_u64_size();
     }
@@ -3599,7 +3597,7 @@ TK_NOINLINE tk_result_pair_i128_size tk_atoi_simd_parse_prefix_i128(tk_bytes s, 
 TK_INLINE tk_option_pair_u128_size tk_unsigned_prefix_u128(tk_bytes s)
 {
     uint64_t word = tk_load_full(s);
-    uint32_t len = tk_digits_of(word);
+    uint32_t len = tk_leading_digits(word);
     if (len == 0 || len == 8) {
         return tk_none_pair_u128_size();
     }
@@ -4227,8 +4225,8 @@ TK_INLINE tk_pair_bool_bytes tk_atoi_core_take_sign(bool signed_, bool skip_plus
 }
 
 /* Returns what follows `byte` if `text` begins with it, and otherwise `None`. */
-/* atoi_formats/src/after_byte.rt:18 */
-TK_HINTED tk_option_bytes tk_after(tk_bytes text, uint8_t byte)
+/* atoi_formats/src/expected_byte.rt:18 */
+TK_HINTED tk_option_bytes tk_strip_byte(tk_bytes text, uint8_t byte)
 {
     if (text.len >= 1 && text.at[0] == byte) {
         tk_bytes rest = tk_bytes_from(text, 1);
@@ -4243,7 +4241,7 @@ TK_HINTED tk_option_bytes tk_after_zero(tk_bytes text)
 {
     tk_pair_bool_bytes found = tk_atoi_core_take_sign(true, false, text);
     tk_bytes body = found.second;
-    return tk_after(body, '0');
+    return tk_strip_byte(body, '0');
 }
 
 /* Returns `value` as a number of the type. */
@@ -4746,8 +4744,8 @@ TK_HINTED tk_pair_size_size tk_fields_position(tk_fields self)
 }
 
 /* Returns the number of a first field of one byte, and what follows its separator. */
-/* atoi_column/src/fields.rt:273 */
-TK_INLINE tk_option_pair_i8_bytes tk_short_field_i8(tk_bytes rest, uint8_t separator)
+/* atoi_column/src/fields.rt:279 */
+TK_INLINE tk_option_pair_i8_bytes tk_one_digit_field_i8(tk_bytes rest, uint8_t separator)
 {
     if (rest.len >= 2 && (rest.at[1] == separator && tk_is_digit(rest.at[0]))) {
         tk_bytes following = tk_bytes_from(rest, 2);
@@ -4769,7 +4767,7 @@ TK_INLINE tk_result_pair_i8_size tk_parse_prefix_pos_i8(bool skip_zeroes, tk_byt
 }
 
 /* `parse_prefix` without a plus. Unless some numbers `have_minus`, a first digit says that there is no sign. */
-/* atoi_column/src/fields.rt:257 */
+/* atoi_column/src/fields.rt:263 */
 TK_INLINE tk_result_pair_i8_size tk_first_number_i8(tk_bytes rest, bool have_minus)
 {
     if (rest.len >= 1 && '0' <= rest.at[0] && rest.at[0] <= '9' && !have_minus) {
@@ -4779,8 +4777,8 @@ TK_INLINE tk_result_pair_i8_size tk_first_number_i8(tk_bytes rest, bool have_min
 }
 
 /* Returns what follows a field that ends before `tail`, or `None` if no field does. */
-/* atoi_column/src/fields.rt:291 */
-TK_INLINE tk_option_bytes tk_after_field(tk_bytes tail, uint8_t separator, bool trims)
+/* atoi_column/src/fields.rt:297 */
+TK_INLINE tk_option_bytes tk_after_field(tk_bytes tail, uint8_t separator, bool is_lines)
 {
     if (tail.len == 0) {
         return tk_some_bytes(tail);
@@ -4789,7 +4787,7 @@ TK_INLINE tk_option_bytes tk_after_field(tk_bytes tail, uint8_t separator, bool 
         tk_bytes following = tk_bytes_from(tail, 1);
         return tk_some_bytes(following);
     }
-    if (tail.len >= 2 && tail.at[0] == '\r' && (trims && tail.at[1] == separator)) {
+    if (tail.len >= 2 && tail.at[0] == '\r' && (is_lines && tail.at[1] == separator)) {
         tk_bytes following = tk_bytes_from(tail, 2);
         return tk_some_bytes(following);
     }
@@ -4800,11 +4798,11 @@ TK_INLINE tk_option_bytes tk_after_field(tk_bytes tail, uint8_t separator, bool 
  * Returns the value of the first field of `rest`, and what follows its separator, if the field is a
  * number without a plus.
  */
-/* atoi_column/src/fields.rt:230 */
-TK_INLINE tk_option_pair_i8_bytes tk_accepted_field_i8(tk_bytes rest, uint8_t separator, bool trims, tk_guess guess)
+/* atoi_column/src/fields.rt:236 */
+TK_INLINE tk_option_pair_i8_bytes tk_accepted_field_i8(tk_bytes rest, uint8_t separator, bool is_lines, tk_guess guess)
 {
-    if (guess.are_short) {
-        tk_option_pair_i8_bytes found = tk_short_field_i8(rest, separator);
+    if (guess.mostly_one_digit) {
+        tk_option_pair_i8_bytes found = tk_one_digit_field_i8(rest, separator);
         if (found.is_some) {
             int8_t value = found.value.first;
             tk_bytes following = found.value.second;
@@ -4817,7 +4815,7 @@ TK_INLINE tk_option_pair_i8_bytes tk_accepted_field_i8(tk_bytes rest, uint8_t se
     }
     int8_t value = found.value.first;
     size_t count = found.value.second;
-    tk_option_bytes following_found = tk_after_field(tk_bytes_from(rest, count), separator, trims);
+    tk_option_bytes following_found = tk_after_field(tk_bytes_from(rest, count), separator, is_lines);
     if (!following_found.is_some) {
         return tk_none_pair_i8_bytes();
     }
@@ -4826,7 +4824,7 @@ TK_INLINE tk_option_pair_i8_bytes tk_accepted_field_i8(tk_bytes rest, uint8_t se
 }
 
 /* Returns the length of the first field of `rest`. */
-/* atoi_column/src/fields.rt:348 */
+/* atoi_column/src/fields.rt:354 */
 TK_HINTED size_t tk_field_len(tk_bytes rest, uint8_t separator)
 {
     size_t count = 0;
@@ -4843,10 +4841,10 @@ TK_HINTED size_t tk_field_len(tk_bytes rest, uint8_t separator)
 }
 
 /* Returns the text of a field that a separator ends. */
-/* atoi_column/src/fields.rt:355 */
-TK_HINTED tk_bytes tk_text_of(tk_bytes field, bool trims)
+/* atoi_column/src/fields.rt:361 */
+TK_HINTED tk_bytes tk_text_of(tk_bytes field, bool is_lines)
 {
-    if (field.len >= 1 && field.at[field.len - 1] == '\r' && trims) {
+    if (field.len >= 1 && field.at[field.len - 1] == '\r' && is_lines) {
         tk_bytes text = tk_bytes_to(field, field.len - 1);
         return text;
     }
@@ -4854,8 +4852,8 @@ TK_HINTED tk_bytes tk_text_of(tk_bytes field, bool trims)
 }
 
 /* Returns the text of the first field of `rest`, and what follows its separator. */
-/* atoi_column/src/fields.rt:336 */
-TK_HINTED tk_pair_bytes_bytes tk_first_field(tk_bytes rest, uint8_t separator, bool trims)
+/* atoi_column/src/fields.rt:342 */
+TK_HINTED tk_pair_bytes_bytes tk_first_field(tk_bytes rest, uint8_t separator, bool is_lines)
 {
     size_t at = tk_field_len(rest, separator);
     tk_bytes field = tk_bytes_to(rest, at);
@@ -4864,18 +4862,18 @@ TK_HINTED tk_pair_bytes_bytes tk_first_field(tk_bytes rest, uint8_t separator, b
         return tk_new_pair_bytes_bytes(field, tail);
     }
     tk_bytes following = tk_bytes_from(tail, 1);
-    return tk_new_pair_bytes_bytes(tk_text_of(field, trims), following);
+    return tk_new_pair_bytes_bytes(tk_text_of(field, is_lines), following);
 }
 
 /*
  * Returns the item of the first field of `rest`, which may begin with a plus, and what follows its
  * separator.
  */
-/* atoi_column/src/fields.rt:307 */
-TK_COLD tk_pair_result_i8_field_error_bytes tk_read_field_i8(tk_bytes rest, uint8_t separator, bool trims, size_t index,
-                                                             size_t place)
+/* atoi_column/src/fields.rt:313 */
+TK_COLD tk_pair_result_i8_field_error_bytes tk_read_field_i8(tk_bytes rest, uint8_t separator, bool is_lines,
+                                                             size_t index, size_t place)
 {
-    tk_pair_bytes_bytes found = tk_first_field(rest, separator, trims);
+    tk_pair_bytes_bytes found = tk_first_field(rest, separator, is_lines);
     tk_bytes text = found.first;
     tk_bytes following = found.second;
     tk_result_i8 found_2 = tk_parse_i8(true, true, text);
@@ -4897,7 +4895,7 @@ TK_INLINE tk_option_result_i8_field_error tk_fields_next_i8(tk_fields *self)
         return tk_none_result_i8_field_error();
     }
     self->index = index + 1;
-    tk_option_pair_i8_bytes found = tk_accepted_field_i8(rest, self->separator, self->trims, tk_no_guess);
+    tk_option_pair_i8_bytes found = tk_accepted_field_i8(rest, self->separator, self->is_lines, tk_no_guess);
     if (found.is_some) {
         int8_t value = found.value.first;
         tk_bytes following = found.value.second;
@@ -4905,15 +4903,15 @@ TK_INLINE tk_option_result_i8_field_error tk_fields_next_i8(tk_fields *self)
         return tk_some_result_i8_field_error(tk_ok_i8_field_error(value));
     }
     size_t place = self->end - rest.len;
-    tk_pair_result_i8_field_error_bytes found_2 = tk_read_field_i8(rest, self->separator, self->trims, index, place);
+    tk_pair_result_i8_field_error_bytes found_2 = tk_read_field_i8(rest, self->separator, self->is_lines, index, place);
     tk_result_i8_field_error item = found_2.first;
     tk_bytes following = found_2.second;
     self->rest = following;
     return tk_some_result_i8_field_error(item);
 }
 
-/* atoi_column/src/fields.rt:273 */
-TK_INLINE tk_option_pair_u8_bytes tk_short_field_u8(tk_bytes rest, uint8_t separator)
+/* atoi_column/src/fields.rt:279 */
+TK_INLINE tk_option_pair_u8_bytes tk_one_digit_field_u8(tk_bytes rest, uint8_t separator)
 {
     if (rest.len >= 2 && (rest.at[1] == separator && tk_is_digit(rest.at[0]))) {
         tk_bytes following = tk_bytes_from(rest, 2);
@@ -4933,18 +4931,18 @@ TK_INLINE tk_result_pair_u8_size tk_parse_prefix_pos_u8(bool skip_zeroes, tk_byt
     return tk_atoi_simd_parse_prefix_pos_u8(s, skip_zeroes);
 }
 
-/* atoi_column/src/fields.rt:257 */
+/* atoi_column/src/fields.rt:263 */
 TK_INLINE tk_result_pair_u8_size tk_first_number_u8(tk_bytes rest, bool have_minus)
 {
     (void)have_minus;
     return tk_parse_prefix_pos_u8(true, rest);
 }
 
-/* atoi_column/src/fields.rt:230 */
-TK_INLINE tk_option_pair_u8_bytes tk_accepted_field_u8(tk_bytes rest, uint8_t separator, bool trims, tk_guess guess)
+/* atoi_column/src/fields.rt:236 */
+TK_INLINE tk_option_pair_u8_bytes tk_accepted_field_u8(tk_bytes rest, uint8_t separator, bool is_lines, tk_guess guess)
 {
-    if (guess.are_short) {
-        tk_option_pair_u8_bytes found = tk_short_field_u8(rest, separator);
+    if (guess.mostly_one_digit) {
+        tk_option_pair_u8_bytes found = tk_one_digit_field_u8(rest, separator);
         if (found.is_some) {
             uint8_t value = found.value.first;
             tk_bytes following = found.value.second;
@@ -4957,7 +4955,7 @@ TK_INLINE tk_option_pair_u8_bytes tk_accepted_field_u8(tk_bytes rest, uint8_t se
     }
     uint8_t value = found.value.first;
     size_t count = found.value.second;
-    tk_option_bytes following_found = tk_after_field(tk_bytes_from(rest, count), separator, trims);
+    tk_option_bytes following_found = tk_after_field(tk_bytes_from(rest, count), separator, is_lines);
     if (!following_found.is_some) {
         return tk_none_pair_u8_bytes();
     }
@@ -4965,11 +4963,11 @@ TK_INLINE tk_option_pair_u8_bytes tk_accepted_field_u8(tk_bytes rest, uint8_t se
     return tk_some_pair_u8_bytes(tk_new_pair_u8_bytes(value, following));
 }
 
-/* atoi_column/src/fields.rt:307 */
-TK_COLD tk_pair_result_u8_field_error_bytes tk_read_field_u8(tk_bytes rest, uint8_t separator, bool trims, size_t index,
-                                                             size_t place)
+/* atoi_column/src/fields.rt:313 */
+TK_COLD tk_pair_result_u8_field_error_bytes tk_read_field_u8(tk_bytes rest, uint8_t separator, bool is_lines,
+                                                             size_t index, size_t place)
 {
-    tk_pair_bytes_bytes found = tk_first_field(rest, separator, trims);
+    tk_pair_bytes_bytes found = tk_first_field(rest, separator, is_lines);
     tk_bytes text = found.first;
     tk_bytes following = found.second;
     tk_result_u8 found_2 = tk_parse_u8(true, true, text);
@@ -4991,7 +4989,7 @@ TK_INLINE tk_option_result_u8_field_error tk_fields_next_u8(tk_fields *self)
         return tk_none_result_u8_field_error();
     }
     self->index = index + 1;
-    tk_option_pair_u8_bytes found = tk_accepted_field_u8(rest, self->separator, self->trims, tk_no_guess);
+    tk_option_pair_u8_bytes found = tk_accepted_field_u8(rest, self->separator, self->is_lines, tk_no_guess);
     if (found.is_some) {
         uint8_t value = found.value.first;
         tk_bytes following = found.value.second;
@@ -4999,15 +4997,15 @@ TK_INLINE tk_option_result_u8_field_error tk_fields_next_u8(tk_fields *self)
         return tk_some_result_u8_field_error(tk_ok_u8_field_error(value));
     }
     size_t place = self->end - rest.len;
-    tk_pair_result_u8_field_error_bytes found_2 = tk_read_field_u8(rest, self->separator, self->trims, index, place);
+    tk_pair_result_u8_field_error_bytes found_2 = tk_read_field_u8(rest, self->separator, self->is_lines, index, place);
     tk_result_u8_field_error item = found_2.first;
     tk_bytes following = found_2.second;
     self->rest = following;
     return tk_some_result_u8_field_error(item);
 }
 
-/* atoi_column/src/fields.rt:273 */
-TK_INLINE tk_option_pair_i16_bytes tk_short_field_i16(tk_bytes rest, uint8_t separator)
+/* atoi_column/src/fields.rt:279 */
+TK_INLINE tk_option_pair_i16_bytes tk_one_digit_field_i16(tk_bytes rest, uint8_t separator)
 {
     if (rest.len >= 2 && (rest.at[1] == separator && tk_is_digit(rest.at[0]))) {
         tk_bytes following = tk_bytes_from(rest, 2);
@@ -5027,7 +5025,7 @@ TK_INLINE tk_result_pair_i16_size tk_parse_prefix_pos_i16(bool skip_zeroes, tk_b
     return tk_atoi_simd_parse_prefix_pos_i16(s, skip_zeroes);
 }
 
-/* atoi_column/src/fields.rt:257 */
+/* atoi_column/src/fields.rt:263 */
 TK_INLINE tk_result_pair_i16_size tk_first_number_i16(tk_bytes rest, bool have_minus)
 {
     if (rest.len >= 1 && '0' <= rest.at[0] && rest.at[0] <= '9' && !have_minus) {
@@ -5036,11 +5034,12 @@ TK_INLINE tk_result_pair_i16_size tk_first_number_i16(tk_bytes rest, bool have_m
     return tk_parse_prefix_i16(true, false, rest);
 }
 
-/* atoi_column/src/fields.rt:230 */
-TK_INLINE tk_option_pair_i16_bytes tk_accepted_field_i16(tk_bytes rest, uint8_t separator, bool trims, tk_guess guess)
+/* atoi_column/src/fields.rt:236 */
+TK_INLINE tk_option_pair_i16_bytes tk_accepted_field_i16(tk_bytes rest, uint8_t separator, bool is_lines,
+                                                         tk_guess guess)
 {
-    if (guess.are_short) {
-        tk_option_pair_i16_bytes found = tk_short_field_i16(rest, separator);
+    if (guess.mostly_one_digit) {
+        tk_option_pair_i16_bytes found = tk_one_digit_field_i16(rest, separator);
         if (found.is_some) {
             int16_t value = found.value.first;
             tk_bytes following = found.value.second;
@@ -5053,7 +5052,7 @@ TK_INLINE tk_option_pair_i16_bytes tk_accepted_field_i16(tk_bytes rest, uint8_t 
     }
     int16_t value = found.value.first;
     size_t count = found.value.second;
-    tk_option_bytes following_found = tk_after_field(tk_bytes_from(rest, count), separator, trims);
+    tk_option_bytes following_found = tk_after_field(tk_bytes_from(rest, count), separator, is_lines);
     if (!following_found.is_some) {
         return tk_none_pair_i16_bytes();
     }
@@ -5061,11 +5060,11 @@ TK_INLINE tk_option_pair_i16_bytes tk_accepted_field_i16(tk_bytes rest, uint8_t 
     return tk_some_pair_i16_bytes(tk_new_pair_i16_bytes(value, following));
 }
 
-/* atoi_column/src/fields.rt:307 */
-TK_COLD tk_pair_result_i16_field_error_bytes tk_read_field_i16(tk_bytes rest, uint8_t separator, bool trims,
+/* atoi_column/src/fields.rt:313 */
+TK_COLD tk_pair_result_i16_field_error_bytes tk_read_field_i16(tk_bytes rest, uint8_t separator, bool is_lines,
                                                                size_t index, size_t place)
 {
-    tk_pair_bytes_bytes found = tk_first_field(rest, separator, trims);
+    tk_pair_bytes_bytes found = tk_first_field(rest, separator, is_lines);
     tk_bytes text = found.first;
     tk_bytes following = found.second;
     tk_result_i16 found_2 = tk_parse_i16(true, true, text);
@@ -5087,7 +5086,7 @@ TK_INLINE tk_option_result_i16_field_error tk_fields_next_i16(tk_fields *self)
         return tk_none_result_i16_field_error();
     }
     self->index = index + 1;
-    tk_option_pair_i16_bytes found = tk_accepted_field_i16(rest, self->separator, self->trims, tk_no_guess);
+    tk_option_pair_i16_bytes found = tk_accepted_field_i16(rest, self->separator, self->is_lines, tk_no_guess);
     if (found.is_some) {
         int16_t value = found.value.first;
         tk_bytes following = found.value.second;
@@ -5095,15 +5094,16 @@ TK_INLINE tk_option_result_i16_field_error tk_fields_next_i16(tk_fields *self)
         return tk_some_result_i16_field_error(tk_ok_i16_field_error(value));
     }
     size_t place = self->end - rest.len;
-    tk_pair_result_i16_field_error_bytes found_2 = tk_read_field_i16(rest, self->separator, self->trims, index, place);
+    tk_pair_result_i16_field_error_bytes found_2 = tk_read_field_i16(rest, self->separator, self->is_lines, index,
+                                                                     place);
     tk_result_i16_field_error item = found_2.first;
     tk_bytes following = found_2.second;
     self->rest = following;
     return tk_some_result_i16_field_error(item);
 }
 
-/* atoi_column/src/fields.rt:273 */
-TK_INLINE tk_option_pair_u16_bytes tk_short_field_u16(tk_bytes rest, uint8_t separator)
+/* atoi_column/src/fields.rt:279 */
+TK_INLINE tk_option_pair_u16_bytes tk_one_digit_field_u16(tk_bytes rest, uint8_t separator)
 {
     if (rest.len >= 2 && (rest.at[1] == separator && tk_is_digit(rest.at[0]))) {
         tk_bytes following = tk_bytes_from(rest, 2);
@@ -5123,18 +5123,19 @@ TK_INLINE tk_result_pair_u16_size tk_parse_prefix_pos_u16(bool skip_zeroes, tk_b
     return tk_atoi_simd_parse_prefix_pos_u16(s, skip_zeroes);
 }
 
-/* atoi_column/src/fields.rt:257 */
+/* atoi_column/src/fields.rt:263 */
 TK_INLINE tk_result_pair_u16_size tk_first_number_u16(tk_bytes rest, bool have_minus)
 {
     (void)have_minus;
     return tk_parse_prefix_pos_u16(true, rest);
 }
 
-/* atoi_column/src/fields.rt:230 */
-TK_INLINE tk_option_pair_u16_bytes tk_accepted_field_u16(tk_bytes rest, uint8_t separator, bool trims, tk_guess guess)
+/* atoi_column/src/fields.rt:236 */
+TK_INLINE tk_option_pair_u16_bytes tk_accepted_field_u16(tk_bytes rest, uint8_t separator, bool is_lines,
+                                                         tk_guess guess)
 {
-    if (guess.are_short) {
-        tk_option_pair_u16_bytes found = tk_short_field_u16(rest, separator);
+    if (guess.mostly_one_digit) {
+        tk_option_pair_u16_bytes found = tk_one_digit_field_u16(rest, separator);
         if (found.is_some) {
             uint16_t value = found.value.first;
             tk_bytes following = found.value.second;
@@ -5147,7 +5148,7 @@ TK_INLINE tk_option_pair_u16_bytes tk_accepted_field_u16(tk_bytes rest, uint8_t 
     }
     uint16_t value = found.value.first;
     size_t count = found.value.second;
-    tk_option_bytes following_found = tk_after_field(tk_bytes_from(rest, count), separator, trims);
+    tk_option_bytes following_found = tk_after_field(tk_bytes_from(rest, count), separator, is_lines);
     if (!following_found.is_some) {
         return tk_none_pair_u16_bytes();
     }
@@ -5155,11 +5156,11 @@ TK_INLINE tk_option_pair_u16_bytes tk_accepted_field_u16(tk_bytes rest, uint8_t 
     return tk_some_pair_u16_bytes(tk_new_pair_u16_bytes(value, following));
 }
 
-/* atoi_column/src/fields.rt:307 */
-TK_COLD tk_pair_result_u16_field_error_bytes tk_read_field_u16(tk_bytes rest, uint8_t separator, bool trims,
+/* atoi_column/src/fields.rt:313 */
+TK_COLD tk_pair_result_u16_field_error_bytes tk_read_field_u16(tk_bytes rest, uint8_t separator, bool is_lines,
                                                                size_t index, size_t place)
 {
-    tk_pair_bytes_bytes found = tk_first_field(rest, separator, trims);
+    tk_pair_bytes_bytes found = tk_first_field(rest, separator, is_lines);
     tk_bytes text = found.first;
     tk_bytes following = found.second;
     tk_result_u16 found_2 = tk_parse_u16(true, true, text);
@@ -5181,7 +5182,7 @@ TK_INLINE tk_option_result_u16_field_error tk_fields_next_u16(tk_fields *self)
         return tk_none_result_u16_field_error();
     }
     self->index = index + 1;
-    tk_option_pair_u16_bytes found = tk_accepted_field_u16(rest, self->separator, self->trims, tk_no_guess);
+    tk_option_pair_u16_bytes found = tk_accepted_field_u16(rest, self->separator, self->is_lines, tk_no_guess);
     if (found.is_some) {
         uint16_t value = found.value.first;
         tk_bytes following = found.value.second;
@@ -5189,15 +5190,16 @@ TK_INLINE tk_option_result_u16_field_error tk_fields_next_u16(tk_fields *self)
         return tk_some_result_u16_field_error(tk_ok_u16_field_error(value));
     }
     size_t place = self->end - rest.len;
-    tk_pair_result_u16_field_error_bytes found_2 = tk_read_field_u16(rest, self->separator, self->trims, index, place);
+    tk_pair_result_u16_field_error_bytes found_2 = tk_read_field_u16(rest, self->separator, self->is_lines, index,
+                                                                     place);
     tk_result_u16_field_error item = found_2.first;
     tk_bytes following = found_2.second;
     self->rest = following;
     return tk_some_result_u16_field_error(item);
 }
 
-/* atoi_column/src/fields.rt:273 */
-TK_INLINE tk_option_pair_i32_bytes tk_short_field_i32(tk_bytes rest, uint8_t separator)
+/* atoi_column/src/fields.rt:279 */
+TK_INLINE tk_option_pair_i32_bytes tk_one_digit_field_i32(tk_bytes rest, uint8_t separator)
 {
     if (rest.len >= 2 && (rest.at[1] == separator && tk_is_digit(rest.at[0]))) {
         tk_bytes following = tk_bytes_from(rest, 2);
@@ -5217,7 +5219,7 @@ TK_INLINE tk_result_pair_i32_size tk_parse_prefix_pos_i32(bool skip_zeroes, tk_b
     return tk_atoi_simd_parse_prefix_pos_i32(s, skip_zeroes);
 }
 
-/* atoi_column/src/fields.rt:257 */
+/* atoi_column/src/fields.rt:263 */
 TK_INLINE tk_result_pair_i32_size tk_first_number_i32(tk_bytes rest, bool have_minus)
 {
     if (rest.len >= 1 && '0' <= rest.at[0] && rest.at[0] <= '9' && !have_minus) {
@@ -5226,11 +5228,12 @@ TK_INLINE tk_result_pair_i32_size tk_first_number_i32(tk_bytes rest, bool have_m
     return tk_parse_prefix_i32(true, false, rest);
 }
 
-/* atoi_column/src/fields.rt:230 */
-TK_INLINE tk_option_pair_i32_bytes tk_accepted_field_i32(tk_bytes rest, uint8_t separator, bool trims, tk_guess guess)
+/* atoi_column/src/fields.rt:236 */
+TK_INLINE tk_option_pair_i32_bytes tk_accepted_field_i32(tk_bytes rest, uint8_t separator, bool is_lines,
+                                                         tk_guess guess)
 {
-    if (guess.are_short) {
-        tk_option_pair_i32_bytes found = tk_short_field_i32(rest, separator);
+    if (guess.mostly_one_digit) {
+        tk_option_pair_i32_bytes found = tk_one_digit_field_i32(rest, separator);
         if (found.is_some) {
             int32_t value = found.value.first;
             tk_bytes following = found.value.second;
@@ -5243,7 +5246,7 @@ TK_INLINE tk_option_pair_i32_bytes tk_accepted_field_i32(tk_bytes rest, uint8_t 
     }
     int32_t value = found.value.first;
     size_t count = found.value.second;
-    tk_option_bytes following_found = tk_after_field(tk_bytes_from(rest, count), separator, trims);
+    tk_option_bytes following_found = tk_after_field(tk_bytes_from(rest, count), separator, is_lines);
     if (!following_found.is_some) {
         return tk_none_pair_i32_bytes();
     }
@@ -5251,11 +5254,11 @@ TK_INLINE tk_option_pair_i32_bytes tk_accepted_field_i32(tk_bytes rest, uint8_t 
     return tk_some_pair_i32_bytes(tk_new_pair_i32_bytes(value, following));
 }
 
-/* atoi_column/src/fields.rt:307 */
-TK_COLD tk_pair_result_i32_field_error_bytes tk_read_field_i32(tk_bytes rest, uint8_t separator, bool trims,
+/* atoi_column/src/fields.rt:313 */
+TK_COLD tk_pair_result_i32_field_error_bytes tk_read_field_i32(tk_bytes rest, uint8_t separator, bool is_lines,
                                                                size_t index, size_t place)
 {
-    tk_pair_bytes_bytes found = tk_first_field(rest, separator, trims);
+    tk_pair_bytes_bytes found = tk_first_field(rest, separator, is_lines);
     tk_bytes text = found.first;
     tk_bytes following = found.second;
     tk_result_i32 found_2 = tk_parse_i32(true, true, text);
@@ -5277,7 +5280,7 @@ TK_INLINE tk_option_result_i32_field_error tk_fields_next_i32(tk_fields *self)
         return tk_none_result_i32_field_error();
     }
     self->index = index + 1;
-    tk_option_pair_i32_bytes found = tk_accepted_field_i32(rest, self->separator, self->trims, tk_no_guess);
+    tk_option_pair_i32_bytes found = tk_accepted_field_i32(rest, self->separator, self->is_lines, tk_no_guess);
     if (found.is_some) {
         int32_t value = found.value.first;
         tk_bytes following = found.value.second;
@@ -5285,15 +5288,16 @@ TK_INLINE tk_option_result_i32_field_error tk_fields_next_i32(tk_fields *self)
         return tk_some_result_i32_field_error(tk_ok_i32_field_error(value));
     }
     size_t place = self->end - rest.len;
-    tk_pair_result_i32_field_error_bytes found_2 = tk_read_field_i32(rest, self->separator, self->trims, index, place);
+    tk_pair_result_i32_field_error_bytes found_2 = tk_read_field_i32(rest, self->separator, self->is_lines, index,
+                                                                     place);
     tk_result_i32_field_error item = found_2.first;
     tk_bytes following = found_2.second;
     self->rest = following;
     return tk_some_result_i32_field_error(item);
 }
 
-/* atoi_column/src/fields.rt:273 */
-TK_INLINE tk_option_pair_u32_bytes tk_short_field_u32(tk_bytes rest, uint8_t separator)
+/* atoi_column/src/fields.rt:279 */
+TK_INLINE tk_option_pair_u32_bytes tk_one_digit_field_u32(tk_bytes rest, uint8_t separator)
 {
     if (rest.len >= 2 && (rest.at[1] == separator && tk_is_digit(rest.at[0]))) {
         tk_bytes following = tk_bytes_from(rest, 2);
@@ -5313,18 +5317,19 @@ TK_INLINE tk_result_pair_u32_size tk_parse_prefix_pos_u32(bool skip_zeroes, tk_b
     return tk_atoi_simd_parse_prefix_pos_u32(s, skip_zeroes);
 }
 
-/* atoi_column/src/fields.rt:257 */
+/* atoi_column/src/fields.rt:263 */
 TK_INLINE tk_result_pair_u32_size tk_first_number_u32(tk_bytes rest, bool have_minus)
 {
     (void)have_minus;
     return tk_parse_prefix_pos_u32(true, rest);
 }
 
-/* atoi_column/src/fields.rt:230 */
-TK_INLINE tk_option_pair_u32_bytes tk_accepted_field_u32(tk_bytes rest, uint8_t separator, bool trims, tk_guess guess)
+/* atoi_column/src/fields.rt:236 */
+TK_INLINE tk_option_pair_u32_bytes tk_accepted_field_u32(tk_bytes rest, uint8_t separator, bool is_lines,
+                                                         tk_guess guess)
 {
-    if (guess.are_short) {
-        tk_option_pair_u32_bytes found = tk_short_field_u32(rest, separator);
+    if (guess.mostly_one_digit) {
+        tk_option_pair_u32_bytes found = tk_one_digit_field_u32(rest, separator);
         if (found.is_some) {
             uint32_t value = found.value.first;
             tk_bytes following = found.value.second;
@@ -5337,7 +5342,7 @@ TK_INLINE tk_option_pair_u32_bytes tk_accepted_field_u32(tk_bytes rest, uint8_t 
     }
     uint32_t value = found.value.first;
     size_t count = found.value.second;
-    tk_option_bytes following_found = tk_after_field(tk_bytes_from(rest, count), separator, trims);
+    tk_option_bytes following_found = tk_after_field(tk_bytes_from(rest, count), separator, is_lines);
     if (!following_found.is_some) {
         return tk_none_pair_u32_bytes();
     }
@@ -5345,11 +5350,11 @@ TK_INLINE tk_option_pair_u32_bytes tk_accepted_field_u32(tk_bytes rest, uint8_t 
     return tk_some_pair_u32_bytes(tk_new_pair_u32_bytes(value, following));
 }
 
-/* atoi_column/src/fields.rt:307 */
-TK_COLD tk_pair_result_u32_field_error_bytes tk_read_field_u32(tk_bytes rest, uint8_t separator, bool trims,
+/* atoi_column/src/fields.rt:313 */
+TK_COLD tk_pair_result_u32_field_error_bytes tk_read_field_u32(tk_bytes rest, uint8_t separator, bool is_lines,
                                                                size_t index, size_t place)
 {
-    tk_pair_bytes_bytes found = tk_first_field(rest, separator, trims);
+    tk_pair_bytes_bytes found = tk_first_field(rest, separator, is_lines);
     tk_bytes text = found.first;
     tk_bytes following = found.second;
     tk_result_u32 found_2 = tk_parse_u32(true, true, text);
@@ -5371,7 +5376,7 @@ TK_INLINE tk_option_result_u32_field_error tk_fields_next_u32(tk_fields *self)
         return tk_none_result_u32_field_error();
     }
     self->index = index + 1;
-    tk_option_pair_u32_bytes found = tk_accepted_field_u32(rest, self->separator, self->trims, tk_no_guess);
+    tk_option_pair_u32_bytes found = tk_accepted_field_u32(rest, self->separator, self->is_lines, tk_no_guess);
     if (found.is_some) {
         uint32_t value = found.value.first;
         tk_bytes following = found.value.second;
@@ -5379,15 +5384,16 @@ TK_INLINE tk_option_result_u32_field_error tk_fields_next_u32(tk_fields *self)
         return tk_some_result_u32_field_error(tk_ok_u32_field_error(value));
     }
     size_t place = self->end - rest.len;
-    tk_pair_result_u32_field_error_bytes found_2 = tk_read_field_u32(rest, self->separator, self->trims, index, place);
+    tk_pair_result_u32_field_error_bytes found_2 = tk_read_field_u32(rest, self->separator, self->is_lines, index,
+                                                                     place);
     tk_result_u32_field_error item = found_2.first;
     tk_bytes following = found_2.second;
     self->rest = following;
     return tk_some_result_u32_field_error(item);
 }
 
-/* atoi_column/src/fields.rt:273 */
-TK_INLINE tk_option_pair_i64_bytes tk_short_field_i64(tk_bytes rest, uint8_t separator)
+/* atoi_column/src/fields.rt:279 */
+TK_INLINE tk_option_pair_i64_bytes tk_one_digit_field_i64(tk_bytes rest, uint8_t separator)
 {
     if (rest.len >= 2 && (rest.at[1] == separator && tk_is_digit(rest.at[0]))) {
         tk_bytes following = tk_bytes_from(rest, 2);
@@ -5407,7 +5413,7 @@ TK_INLINE tk_result_pair_i64_size tk_parse_prefix_pos_i64(bool skip_zeroes, tk_b
     return tk_atoi_simd_parse_prefix_pos_i64(s, skip_zeroes);
 }
 
-/* atoi_column/src/fields.rt:257 */
+/* atoi_column/src/fields.rt:263 */
 TK_INLINE tk_result_pair_i64_size tk_first_number_i64(tk_bytes rest, bool have_minus)
 {
     if (rest.len >= 1 && '0' <= rest.at[0] && rest.at[0] <= '9' && !have_minus) {
@@ -5416,11 +5422,12 @@ TK_INLINE tk_result_pair_i64_size tk_first_number_i64(tk_bytes rest, bool have_m
     return tk_parse_prefix_i64(true, false, rest);
 }
 
-/* atoi_column/src/fields.rt:230 */
-TK_INLINE tk_option_pair_i64_bytes tk_accepted_field_i64(tk_bytes rest, uint8_t separator, bool trims, tk_guess guess)
+/* atoi_column/src/fields.rt:236 */
+TK_INLINE tk_option_pair_i64_bytes tk_accepted_field_i64(tk_bytes rest, uint8_t separator, bool is_lines,
+                                                         tk_guess guess)
 {
-    if (guess.are_short) {
-        tk_option_pair_i64_bytes found = tk_short_field_i64(rest, separator);
+    if (guess.mostly_one_digit) {
+        tk_option_pair_i64_bytes found = tk_one_digit_field_i64(rest, separator);
         if (found.is_some) {
             int64_t value = found.value.first;
             tk_bytes following = found.value.second;
@@ -5433,7 +5440,7 @@ TK_INLINE tk_option_pair_i64_bytes tk_accepted_field_i64(tk_bytes rest, uint8_t 
     }
     int64_t value = found.value.first;
     size_t count = found.value.second;
-    tk_option_bytes following_found = tk_after_field(tk_bytes_from(rest, count), separator, trims);
+    tk_option_bytes following_found = tk_after_field(tk_bytes_from(rest, count), separator, is_lines);
     if (!following_found.is_some) {
         return tk_none_pair_i64_bytes();
     }
@@ -5441,11 +5448,11 @@ TK_INLINE tk_option_pair_i64_bytes tk_accepted_field_i64(tk_bytes rest, uint8_t 
     return tk_some_pair_i64_bytes(tk_new_pair_i64_bytes(value, following));
 }
 
-/* atoi_column/src/fields.rt:307 */
-TK_COLD tk_pair_result_i64_field_error_bytes tk_read_field_i64(tk_bytes rest, uint8_t separator, bool trims,
+/* atoi_column/src/fields.rt:313 */
+TK_COLD tk_pair_result_i64_field_error_bytes tk_read_field_i64(tk_bytes rest, uint8_t separator, bool is_lines,
                                                                size_t index, size_t place)
 {
-    tk_pair_bytes_bytes found = tk_first_field(rest, separator, trims);
+    tk_pair_bytes_bytes found = tk_first_field(rest, separator, is_lines);
     tk_bytes text = found.first;
     tk_bytes following = found.second;
     tk_result_i64 found_2 = tk_parse_i64(true, true, text);
@@ -5467,7 +5474,7 @@ TK_INLINE tk_option_result_i64_field_error tk_fields_next_i64(tk_fields *self)
         return tk_none_result_i64_field_error();
     }
     self->index = index + 1;
-    tk_option_pair_i64_bytes found = tk_accepted_field_i64(rest, self->separator, self->trims, tk_no_guess);
+    tk_option_pair_i64_bytes found = tk_accepted_field_i64(rest, self->separator, self->is_lines, tk_no_guess);
     if (found.is_some) {
         int64_t value = found.value.first;
         tk_bytes following = found.value.second;
@@ -5475,15 +5482,16 @@ TK_INLINE tk_option_result_i64_field_error tk_fields_next_i64(tk_fields *self)
         return tk_some_result_i64_field_error(tk_ok_i64_field_error(value));
     }
     size_t place = self->end - rest.len;
-    tk_pair_result_i64_field_error_bytes found_2 = tk_read_field_i64(rest, self->separator, self->trims, index, place);
+    tk_pair_result_i64_field_error_bytes found_2 = tk_read_field_i64(rest, self->separator, self->is_lines, index,
+                                                                     place);
     tk_result_i64_field_error item = found_2.first;
     tk_bytes following = found_2.second;
     self->rest = following;
     return tk_some_result_i64_field_error(item);
 }
 
-/* atoi_column/src/fields.rt:273 */
-TK_INLINE tk_option_pair_u64_bytes tk_short_field_u64(tk_bytes rest, uint8_t separator)
+/* atoi_column/src/fields.rt:279 */
+TK_INLINE tk_option_pair_u64_bytes tk_one_digit_field_u64(tk_bytes rest, uint8_t separator)
 {
     if (rest.len >= 2 && (rest.at[1] == separator && tk_is_digit(rest.at[0]))) {
         tk_bytes following = tk_bytes_from(rest, 2);
@@ -5503,18 +5511,19 @@ TK_INLINE tk_result_pair_u64_size tk_parse_prefix_pos_u64(bool skip_zeroes, tk_b
     return tk_atoi_simd_parse_prefix_pos_u64(s, skip_zeroes);
 }
 
-/* atoi_column/src/fields.rt:257 */
+/* atoi_column/src/fields.rt:263 */
 TK_INLINE tk_result_pair_u64_size tk_first_number_u64(tk_bytes rest, bool have_minus)
 {
     (void)have_minus;
     return tk_parse_prefix_pos_u64(true, rest);
 }
 
-/* atoi_column/src/fields.rt:230 */
-TK_INLINE tk_option_pair_u64_bytes tk_accepted_field_u64(tk_bytes rest, uint8_t separator, bool trims, tk_guess guess)
+/* atoi_column/src/fields.rt:236 */
+TK_INLINE tk_option_pair_u64_bytes tk_accepted_field_u64(tk_bytes rest, uint8_t separator, bool is_lines,
+                                                         tk_guess guess)
 {
-    if (guess.are_short) {
-        tk_option_pair_u64_bytes found = tk_short_field_u64(rest, separator);
+    if (guess.mostly_one_digit) {
+        tk_option_pair_u64_bytes found = tk_one_digit_field_u64(rest, separator);
         if (found.is_some) {
             uint64_t value = found.value.first;
             tk_bytes following = found.value.second;
@@ -5527,7 +5536,7 @@ TK_INLINE tk_option_pair_u64_bytes tk_accepted_field_u64(tk_bytes rest, uint8_t 
     }
     uint64_t value = found.value.first;
     size_t count = found.value.second;
-    tk_option_bytes following_found = tk_after_field(tk_bytes_from(rest, count), separator, trims);
+    tk_option_bytes following_found = tk_after_field(tk_bytes_from(rest, count), separator, is_lines);
     if (!following_found.is_some) {
         return tk_none_pair_u64_bytes();
     }
@@ -5535,11 +5544,11 @@ TK_INLINE tk_option_pair_u64_bytes tk_accepted_field_u64(tk_bytes rest, uint8_t 
     return tk_some_pair_u64_bytes(tk_new_pair_u64_bytes(value, following));
 }
 
-/* atoi_column/src/fields.rt:307 */
-TK_COLD tk_pair_result_u64_field_error_bytes tk_read_field_u64(tk_bytes rest, uint8_t separator, bool trims,
+/* atoi_column/src/fields.rt:313 */
+TK_COLD tk_pair_result_u64_field_error_bytes tk_read_field_u64(tk_bytes rest, uint8_t separator, bool is_lines,
                                                                size_t index, size_t place)
 {
-    tk_pair_bytes_bytes found = tk_first_field(rest, separator, trims);
+    tk_pair_bytes_bytes found = tk_first_field(rest, separator, is_lines);
     tk_bytes text = found.first;
     tk_bytes following = found.second;
     tk_result_u64 found_2 = tk_parse_u64(true, true, text);
@@ -5561,7 +5570,7 @@ TK_INLINE tk_option_result_u64_field_error tk_fields_next_u64(tk_fields *self)
         return tk_none_result_u64_field_error();
     }
     self->index = index + 1;
-    tk_option_pair_u64_bytes found = tk_accepted_field_u64(rest, self->separator, self->trims, tk_no_guess);
+    tk_option_pair_u64_bytes found = tk_accepted_field_u64(rest, self->separator, self->is_lines, tk_no_guess);
     if (found.is_some) {
         uint64_t value = found.value.first;
         tk_bytes following = found.value.second;
@@ -5569,15 +5578,16 @@ TK_INLINE tk_option_result_u64_field_error tk_fields_next_u64(tk_fields *self)
         return tk_some_result_u64_field_error(tk_ok_u64_field_error(value));
     }
     size_t place = self->end - rest.len;
-    tk_pair_result_u64_field_error_bytes found_2 = tk_read_field_u64(rest, self->separator, self->trims, index, place);
+    tk_pair_result_u64_field_error_bytes found_2 = tk_read_field_u64(rest, self->separator, self->is_lines, index,
+                                                                     place);
     tk_result_u64_field_error item = found_2.first;
     tk_bytes following = found_2.second;
     self->rest = following;
     return tk_some_result_u64_field_error(item);
 }
 
-/* atoi_column/src/fields.rt:273 */
-TK_INLINE tk_option_pair_i128_bytes tk_short_field_i128(tk_bytes rest, uint8_t separator)
+/* atoi_column/src/fields.rt:279 */
+TK_INLINE tk_option_pair_i128_bytes tk_one_digit_field_i128(tk_bytes rest, uint8_t separator)
 {
     if (rest.len >= 2 && (rest.at[1] == separator && tk_is_digit(rest.at[0]))) {
         tk_bytes following = tk_bytes_from(rest, 2);
@@ -5597,7 +5607,7 @@ TK_INLINE tk_result_pair_i128_size tk_parse_prefix_pos_i128(bool skip_zeroes, tk
     return tk_atoi_simd_parse_prefix_pos_i128(s, skip_zeroes);
 }
 
-/* atoi_column/src/fields.rt:257 */
+/* atoi_column/src/fields.rt:263 */
 TK_INLINE tk_result_pair_i128_size tk_first_number_i128(tk_bytes rest, bool have_minus)
 {
     if (rest.len >= 1 && '0' <= rest.at[0] && rest.at[0] <= '9' && !have_minus) {
@@ -5606,11 +5616,12 @@ TK_INLINE tk_result_pair_i128_size tk_first_number_i128(tk_bytes rest, bool have
     return tk_parse_prefix_i128(true, false, rest);
 }
 
-/* atoi_column/src/fields.rt:230 */
-TK_INLINE tk_option_pair_i128_bytes tk_accepted_field_i128(tk_bytes rest, uint8_t separator, bool trims, tk_guess guess)
+/* atoi_column/src/fields.rt:236 */
+TK_INLINE tk_option_pair_i128_bytes tk_accepted_field_i128(tk_bytes rest, uint8_t separator, bool is_lines,
+                                                           tk_guess guess)
 {
-    if (guess.are_short) {
-        tk_option_pair_i128_bytes found = tk_short_field_i128(rest, separator);
+    if (guess.mostly_one_digit) {
+        tk_option_pair_i128_bytes found = tk_one_digit_field_i128(rest, separator);
         if (found.is_some) {
             tk_i128 value = found.value.first;
             tk_bytes following = found.value.second;
@@ -5623,7 +5634,7 @@ TK_INLINE tk_option_pair_i128_bytes tk_accepted_field_i128(tk_bytes rest, uint8_
     }
     tk_i128 value = found.value.first;
     size_t count = found.value.second;
-    tk_option_bytes following_found = tk_after_field(tk_bytes_from(rest, count), separator, trims);
+    tk_option_bytes following_found = tk_after_field(tk_bytes_from(rest, count), separator, is_lines);
     if (!following_found.is_some) {
         return tk_none_pair_i128_bytes();
     }
@@ -5631,11 +5642,11 @@ TK_INLINE tk_option_pair_i128_bytes tk_accepted_field_i128(tk_bytes rest, uint8_
     return tk_some_pair_i128_bytes(tk_new_pair_i128_bytes(value, following));
 }
 
-/* atoi_column/src/fields.rt:307 */
-TK_COLD tk_pair_result_i128_field_error_bytes tk_read_field_i128(tk_bytes rest, uint8_t separator, bool trims,
+/* atoi_column/src/fields.rt:313 */
+TK_COLD tk_pair_result_i128_field_error_bytes tk_read_field_i128(tk_bytes rest, uint8_t separator, bool is_lines,
                                                                  size_t index, size_t place)
 {
-    tk_pair_bytes_bytes found = tk_first_field(rest, separator, trims);
+    tk_pair_bytes_bytes found = tk_first_field(rest, separator, is_lines);
     tk_bytes text = found.first;
     tk_bytes following = found.second;
     tk_result_i128 found_2 = tk_parse_i128(true, true, text);
@@ -5657,7 +5668,7 @@ TK_INLINE tk_option_result_i128_field_error tk_fields_next_i128(tk_fields *self)
         return tk_none_result_i128_field_error();
     }
     self->index = index + 1;
-    tk_option_pair_i128_bytes found = tk_accepted_field_i128(rest, self->separator, self->trims, tk_no_guess);
+    tk_option_pair_i128_bytes found = tk_accepted_field_i128(rest, self->separator, self->is_lines, tk_no_guess);
     if (found.is_some) {
         tk_i128 value = found.value.first;
         tk_bytes following = found.value.second;
@@ -5665,7 +5676,7 @@ TK_INLINE tk_option_result_i128_field_error tk_fields_next_i128(tk_fields *self)
         return tk_some_result_i128_field_error(tk_ok_i128_field_error(value));
     }
     size_t place = self->end - rest.len;
-    tk_pair_result_i128_field_error_bytes found_2 = tk_read_field_i128(rest, self->separator, self->trims, index,
+    tk_pair_result_i128_field_error_bytes found_2 = tk_read_field_i128(rest, self->separator, self->is_lines, index,
                                                                        place);
     tk_result_i128_field_error item = found_2.first;
     tk_bytes following = found_2.second;
@@ -5673,8 +5684,8 @@ TK_INLINE tk_option_result_i128_field_error tk_fields_next_i128(tk_fields *self)
     return tk_some_result_i128_field_error(item);
 }
 
-/* atoi_column/src/fields.rt:273 */
-TK_INLINE tk_option_pair_u128_bytes tk_short_field_u128(tk_bytes rest, uint8_t separator)
+/* atoi_column/src/fields.rt:279 */
+TK_INLINE tk_option_pair_u128_bytes tk_one_digit_field_u128(tk_bytes rest, uint8_t separator)
 {
     if (rest.len >= 2 && (rest.at[1] == separator && tk_is_digit(rest.at[0]))) {
         tk_bytes following = tk_bytes_from(rest, 2);
@@ -5694,18 +5705,19 @@ TK_INLINE tk_result_pair_u128_size tk_parse_prefix_pos_u128(bool skip_zeroes, tk
     return tk_atoi_simd_parse_prefix_pos_u128(s, skip_zeroes);
 }
 
-/* atoi_column/src/fields.rt:257 */
+/* atoi_column/src/fields.rt:263 */
 TK_INLINE tk_result_pair_u128_size tk_first_number_u128(tk_bytes rest, bool have_minus)
 {
     (void)have_minus;
     return tk_parse_prefix_pos_u128(true, rest);
 }
 
-/* atoi_column/src/fields.rt:230 */
-TK_INLINE tk_option_pair_u128_bytes tk_accepted_field_u128(tk_bytes rest, uint8_t separator, bool trims, tk_guess guess)
+/* atoi_column/src/fields.rt:236 */
+TK_INLINE tk_option_pair_u128_bytes tk_accepted_field_u128(tk_bytes rest, uint8_t separator, bool is_lines,
+                                                           tk_guess guess)
 {
-    if (guess.are_short) {
-        tk_option_pair_u128_bytes found = tk_short_field_u128(rest, separator);
+    if (guess.mostly_one_digit) {
+        tk_option_pair_u128_bytes found = tk_one_digit_field_u128(rest, separator);
         if (found.is_some) {
             tk_u128 value = found.value.first;
             tk_bytes following = found.value.second;
@@ -5718,7 +5730,7 @@ TK_INLINE tk_option_pair_u128_bytes tk_accepted_field_u128(tk_bytes rest, uint8_
     }
     tk_u128 value = found.value.first;
     size_t count = found.value.second;
-    tk_option_bytes following_found = tk_after_field(tk_bytes_from(rest, count), separator, trims);
+    tk_option_bytes following_found = tk_after_field(tk_bytes_from(rest, count), separator, is_lines);
     if (!following_found.is_some) {
         return tk_none_pair_u128_bytes();
     }
@@ -5726,11 +5738,11 @@ TK_INLINE tk_option_pair_u128_bytes tk_accepted_field_u128(tk_bytes rest, uint8_
     return tk_some_pair_u128_bytes(tk_new_pair_u128_bytes(value, following));
 }
 
-/* atoi_column/src/fields.rt:307 */
-TK_COLD tk_pair_result_u128_field_error_bytes tk_read_field_u128(tk_bytes rest, uint8_t separator, bool trims,
+/* atoi_column/src/fields.rt:313 */
+TK_COLD tk_pair_result_u128_field_error_bytes tk_read_field_u128(tk_bytes rest, uint8_t separator, bool is_lines,
                                                                  size_t index, size_t place)
 {
-    tk_pair_bytes_bytes found = tk_first_field(rest, separator, trims);
+    tk_pair_bytes_bytes found = tk_first_field(rest, separator, is_lines);
     tk_bytes text = found.first;
     tk_bytes following = found.second;
     tk_result_u128 found_2 = tk_parse_u128(true, true, text);
@@ -5752,7 +5764,7 @@ TK_INLINE tk_option_result_u128_field_error tk_fields_next_u128(tk_fields *self)
         return tk_none_result_u128_field_error();
     }
     self->index = index + 1;
-    tk_option_pair_u128_bytes found = tk_accepted_field_u128(rest, self->separator, self->trims, tk_no_guess);
+    tk_option_pair_u128_bytes found = tk_accepted_field_u128(rest, self->separator, self->is_lines, tk_no_guess);
     if (found.is_some) {
         tk_u128 value = found.value.first;
         tk_bytes following = found.value.second;
@@ -5760,7 +5772,7 @@ TK_INLINE tk_option_result_u128_field_error tk_fields_next_u128(tk_fields *self)
         return tk_some_result_u128_field_error(tk_ok_u128_field_error(value));
     }
     size_t place = self->end - rest.len;
-    tk_pair_result_u128_field_error_bytes found_2 = tk_read_field_u128(rest, self->separator, self->trims, index,
+    tk_pair_result_u128_field_error_bytes found_2 = tk_read_field_u128(rest, self->separator, self->is_lines, index,
                                                                        place);
     tk_result_u128_field_error item = found_2.first;
     tk_bytes following = found_2.second;
@@ -5769,24 +5781,24 @@ TK_INLINE tk_option_result_u128_field_error tk_fields_next_u128(tk_fields *self)
 }
 
 /* Returns the word of the bytes that end a field, and how many they are. */
-/* atoi_column/src/guesses.rt:65 */
-TK_INLINE tk_pair_u64_size tk_end_of(uint8_t separator, bool trims, bool has_return)
+/* atoi_column/src/guesses.rt:70 */
+TK_INLINE tk_pair_u64_size tk_end_of(uint8_t separator, bool is_lines, bool has_return)
 {
-    if (has_return && trims && separator != '\r') {
+    if (has_return && is_lines && separator != '\r') {
         return tk_new_pair_u64_size(256 * TK_CAST(uint64_t, separator) + TK_CAST(uint64_t, '\r'), 2);
     }
     return tk_new_pair_u64_size(TK_CAST(uint64_t, separator), 1);
 }
 
 /* Whether a word has room for the digits and what ends the field. */
-/* atoi_column/src/guesses.rt:57 */
-TK_INLINE bool tk_is_short(tk_guess guess)
+/* atoi_column/src/guesses.rt:62 */
+TK_INLINE bool tk_fits_word(tk_guess guess)
 {
     return guess.width < 8 - TK_CAST(size_t, guess.has_return);
 }
 
 /* Returns how many bytes of a minus a field begins with. */
-/* atoi_column/src/guesses.rt:148 */
+/* atoi_column/src/guesses.rt:156 */
 TK_INLINE size_t tk_sign_len(bool is_signed, tk_bytes rest)
 {
     if (rest.len >= 1 && rest.at[0] == '-' && is_signed) {
@@ -5817,9 +5829,9 @@ TK_HINTED uint64_t tk_sum_of_shifted(uint64_t digits, uint32_t shift)
     return ((hundreds >> 16) & 0xFFFF) * 10000 + (hundreds >> 48);
 }
 
-/* `number_of_width` for at most eight bytes, if the `count` bytes after the number are those of `ends`. */
+/* `number_of_width` for at most eight bytes, if the `end_len` bytes after the number are those of `end_word`. */
 /* atoi_column/src/words.rt:33 */
-TK_INLINE tk_option_u64 tk_number_before(tk_bytes s, size_t width, uint64_t ends, size_t count)
+TK_INLINE tk_option_u64 tk_number_before(tk_bytes s, size_t width, uint64_t end_word, size_t end_len)
 {
     tk_option_u64 word_found = tk_first_word(s);
     if (!word_found.is_some) {
@@ -5828,18 +5840,18 @@ TK_INLINE tk_option_u64 tk_number_before(tk_bytes s, size_t width, uint64_t ends
     uint64_t word = word_found.value;
     uint32_t shift = 64 - 8 * TK_CAST(uint32_t, width);
     /* In two steps, since no shift is by 64 bits. */
-    uint64_t ends_2 = (ends << (56 - shift)) << 8;
-    uint64_t others = (((UINT64_C(1) << (8 * TK_CAST(uint32_t, count))) - 1) << (56 - shift)) << 8;
-    uint64_t digits = word - ends_2 - (TK_ZEROS >> shift);
+    uint64_t end = (end_word << (56 - shift)) << 8;
+    uint64_t end_mask = (((UINT64_C(1) << (8 * TK_CAST(uint32_t, end_len))) - 1) << (56 - shift)) << 8;
+    uint64_t digits = word - end - (TK_ZEROS >> shift);
     uint64_t above = (digits + (UINT64_C(8536140394893047414) >> shift)) | digits;
-    if ((above & ((UINT64_C(9259542123273814144) >> shift) | others)) != 0) {
+    if ((above & ((UINT64_C(9259542123273814144) >> shift) | end_mask)) != 0) {
         return tk_none_u64();
     }
     return tk_some_u64(tk_sum_of_shifted(digits, shift));
 }
 
 /* Returns the value of this sign and magnitude, if it fits the type. */
-/* atoi_column/src/guesses.rt:124 */
+/* atoi_column/src/guesses.rt:132 */
 TK_INLINE tk_option_i8 tk_signed_i8(bool minus, uint64_t magnitude)
 {
     tk_u128 magnitude_2 = tk_u128_of(magnitude);
@@ -5849,15 +5861,15 @@ TK_INLINE tk_option_i8 tk_signed_i8(bool minus, uint64_t magnitude)
     return tk_some_i8(tk_from_parts_i8(minus, magnitude_2));
 }
 
-/* `number_of_digits`, if the `tail` bytes after the number are those of `ends`. */
-/* atoi_column/src/guesses.rt:82 */
-TK_INLINE tk_option_pair_i8_size tk_number_with_end_i8(tk_bytes rest, size_t width, uint64_t ends, size_t tail)
+/* `number_of_digits`, if the `end_len` bytes after the number are those of `end_word`. */
+/* atoi_column/src/guesses.rt:87 */
+TK_INLINE tk_option_pair_i8_size tk_number_with_end_i8(tk_bytes rest, size_t width, uint64_t end_word, size_t end_len)
 {
     if (width == 0 || rest.len <= 8) {
         return tk_none_pair_i8_size();
     }
     size_t sign = tk_sign_len(true, rest);
-    tk_option_u64 found = tk_number_before(tk_bytes_from(rest, sign), width, ends, tail);
+    tk_option_u64 found = tk_number_before(tk_bytes_from(rest, sign), width, end_word, end_len);
     if (!found.is_some) {
         return tk_none_pair_i8_size();
     }
@@ -5870,7 +5882,7 @@ TK_INLINE tk_option_pair_i8_size tk_number_with_end_i8(tk_bytes rest, size_t wid
 }
 
 /* `number_of_digits` for any width. */
-/* atoi_column/src/guesses.rt:137 */
+/* atoi_column/src/guesses.rt:145 */
 TK_HINTED tk_option_pair_i8_size tk_number_of_any_width_i8(tk_bytes rest, size_t width)
 {
     size_t at = tk_size_saturating_add(width, tk_sign_len(true, rest));
@@ -5913,7 +5925,7 @@ TK_INLINE tk_option_u64 tk_number_of_width(tk_bytes s, size_t width)
  * Returns the number that `rest` begins with, and its length, if it has `width` digits, perhaps after a
  * minus.
  */
-/* atoi_column/src/guesses.rt:106 */
+/* atoi_column/src/guesses.rt:114 */
 TK_INLINE tk_option_pair_i8_size tk_number_of_digits_i8(tk_bytes rest, size_t width)
 {
     if (width == 0 || width > 16) {
@@ -5937,7 +5949,7 @@ TK_INLINE tk_option_pair_i8_size tk_number_of_digits_i8(tk_bytes rest, size_t wi
 
 /* Whether `s` has two bytes or more, and begins with the `count` bytes of the word `bytes`. */
 /* atoi_column/src/words.rt:57 */
-TK_INLINE bool tk_begins_with(tk_bytes s, uint64_t bytes, size_t count)
+TK_INLINE bool tk_starts_with(tk_bytes s, uint64_t bytes, size_t count)
 {
     if (s.len >= 2) {
         const uint8_t *two = s.at;
@@ -5947,20 +5959,20 @@ TK_INLINE bool tk_begins_with(tk_bytes s, uint64_t bytes, size_t count)
 }
 
 /* `accepted_field`, if the field looks as guessed. */
-/* atoi_column/src/fields/read.rt:225 */
-TK_INLINE tk_option_pair_i8_bytes tk_guessed_field_i8(tk_bytes rest, uint8_t separator, bool trims, tk_guess guess)
+/* atoi_column/src/fields/read.rt:231 */
+TK_INLINE tk_option_pair_i8_bytes tk_guessed_field_i8(tk_bytes rest, uint8_t separator, bool is_lines, tk_guess guess)
 {
-    tk_pair_u64_size found = tk_end_of(separator, trims, guess.has_return);
-    uint64_t ends = found.first;
-    size_t tail = found.second;
-    if (tk_is_short(guess)) {
-        tk_option_pair_i8_size found_2 = tk_number_with_end_i8(rest, guess.width, ends, tail);
+    tk_pair_u64_size found = tk_end_of(separator, is_lines, guess.has_return);
+    uint64_t end_word = found.first;
+    size_t end_len = found.second;
+    if (tk_fits_word(guess)) {
+        tk_option_pair_i8_size found_2 = tk_number_with_end_i8(rest, guess.width, end_word, end_len);
         if (!found_2.is_some) {
             return tk_none_pair_i8_bytes();
         }
         int8_t value = found_2.value.first;
         size_t count = found_2.value.second;
-        return tk_some_pair_i8_bytes(tk_new_pair_i8_bytes(value, tk_bytes_from(rest, count + tail)));
+        return tk_some_pair_i8_bytes(tk_new_pair_i8_bytes(value, tk_bytes_from(rest, count + end_len)));
     }
     tk_option_pair_i8_size found_2 = tk_number_of_digits_i8(rest, guess.width);
     if (!found_2.is_some) {
@@ -5968,10 +5980,10 @@ TK_INLINE tk_option_pair_i8_bytes tk_guessed_field_i8(tk_bytes rest, uint8_t sep
     }
     int8_t value = found_2.value.first;
     size_t count = found_2.value.second;
-    if (!tk_begins_with(tk_bytes_from(rest, count), ends, tail)) {
+    if (!tk_starts_with(tk_bytes_from(rest, count), end_word, end_len)) {
         return tk_none_pair_i8_bytes();
     }
-    return tk_some_pair_i8_bytes(tk_new_pair_i8_bytes(value, tk_bytes_from(rest, count + tail)));
+    return tk_some_pair_i8_bytes(tk_new_pair_i8_bytes(value, tk_bytes_from(rest, count + end_len)));
 }
 
 /* `next_number`, if the field looks as guessed. */
@@ -5980,7 +5992,7 @@ TK_INLINE tk_option_i8 tk_fields_guessed_number_i8(tk_fields *self, tk_guess gue
 {
     tk_bytes rest = self->rest;
     size_t index = self->index;
-    tk_option_pair_i8_bytes found = tk_guessed_field_i8(rest, self->separator, self->trims, guess);
+    tk_option_pair_i8_bytes found = tk_guessed_field_i8(rest, self->separator, self->is_lines, guess);
     if (!found.is_some) {
         return tk_none_i8();
     }
@@ -6000,7 +6012,7 @@ TK_INLINE tk_option_i8 tk_fields_next_number_i8(tk_fields *self, tk_guess guess)
     if (rest.len == 0) {
         return tk_none_i8();
     }
-    tk_option_pair_i8_bytes found = tk_accepted_field_i8(rest, self->separator, self->trims, guess);
+    tk_option_pair_i8_bytes found = tk_accepted_field_i8(rest, self->separator, self->is_lines, guess);
     if (found.is_some) {
         int8_t value = found.value.first;
         tk_bytes following = found.value.second;
@@ -6009,7 +6021,7 @@ TK_INLINE tk_option_i8 tk_fields_next_number_i8(tk_fields *self, tk_guess guess)
         return tk_some_i8(value);
     }
     size_t place = self->end - rest.len;
-    tk_pair_result_i8_field_error_bytes found_2 = tk_read_field_i8(rest, self->separator, self->trims, index, place);
+    tk_pair_result_i8_field_error_bytes found_2 = tk_read_field_i8(rest, self->separator, self->is_lines, index, place);
     tk_result_i8_field_error item = found_2.first;
     tk_bytes following = found_2.second;
     if (!item.is_ok) {
@@ -6026,10 +6038,10 @@ TK_INLINE tk_option_i8 tk_fields_next_number_i8(tk_fields *self, tk_guess guess)
 TK_INLINE size_t tk_fields_read_part_i8(bool guesses, tk_fields *self, tk_room_i8 values, size_t from, size_t most,
                                         tk_guess guess)
 {
-    /* The compiler knows that this is an end within `values`. */
+    /* The smaller one of both, so that rustc 1.95 tests no index below it. */
     size_t end = tk_size_min(values.len, from + most);
     /* While numbers are written to memory, these fields stay in registers. */
-    tk_fields fields = tk_new_fields(self->rest, self->separator, self->trims, self->index, self->end);
+    tk_fields fields = tk_new_fields(self->rest, self->separator, self->is_lines, self->index, self->end);
     size_t at = from;
     while (at < end) {
         tk_option_i8 next = guesses ? tk_fields_guessed_number_i8(&fields, guess)
@@ -6050,8 +6062,8 @@ TK_INLINE size_t tk_fields_read_part_i8(bool guesses, tk_fields *self, tk_room_i
 /* atoi_column/src/fields/read.rt:96 */
 TK_INLINE size_t tk_fields_read_plain_i8(tk_fields *self, tk_room_i8 values, size_t from, size_t most, tk_guess guess)
 {
-    /* The compiler makes a loop for each case. */
-    if (guess.are_short) {
+    /* Each case has a loop of its own, since `read_part` is inlined. */
+    if (guess.mostly_one_digit) {
         return tk_fields_read_part_i8(false, self, values, from, most, tk_no_guess);
     }
     if (guess.have_minus) {
@@ -6071,7 +6083,7 @@ TK_HINTED tk_pair_bool_u128 tk_parts_i8(int8_t self)
  * If a field has less than 2.75 bytes on average, most have one digit.
  */
 /* atoi_column/src/guesses.rt:36 */
-TK_NOINLINE tk_guess tk_guess_after_i8(tk_slice_i8 numbers, size_t used, tk_bytes rest, bool trims)
+TK_NOINLINE tk_guess tk_guess_after_i8(tk_slice_i8 numbers, size_t used, tk_bytes rest, bool is_lines)
 {
     size_t count = tk_size_max(numbers.len, 1);
     size_t count_2 = 0;
@@ -6088,7 +6100,7 @@ TK_NOINLINE tk_guess tk_guess_after_i8(tk_slice_i8 numbers, size_t used, tk_byte
     size_t digits_and_ends = tk_size_saturating_sub(used, minuses);
     size_t each = digits_and_ends / count;
     size_t at_2 = tk_size_saturating_add(tk_sign_len(true, rest), tk_size_saturating_sub(each, 2));
-    bool has_return = trims
+    bool has_return = is_lines
         && (at_2 <= rest.len && tk_bytes_from(rest, at_2).len >= 1 && tk_bytes_from(rest, at_2).at[0] == '\r');
     size_t found = digits_and_ends % count;
     size_t width = found == 0 ? tk_size_saturating_sub(each, 1 + TK_CAST(size_t, has_return)) : 0;
@@ -6103,12 +6115,12 @@ TK_NOINLINE tk_guess tk_guess_after_i8(tk_slice_i8 numbers, size_t used, tk_byte
 TK_NOINLINE size_t tk_fields_read_guessed_i8(tk_fields *self, tk_room_i8 values, size_t from, tk_guess guess)
 {
     size_t room = values.len - from;
-    tk_guess plain = tk_new_guess(guess.width, false, guess.are_short, guess.have_minus);
-    /* The compiler makes a loop for each case. */
+    tk_guess plain = tk_new_guess(guess.width, false, guess.mostly_one_digit, guess.have_minus);
+    /* Each case has a loop of its own, since `read_part` is inlined. */
     if (guess.width <= 1) {
         return 0;
     }
-    if (tk_is_short(guess)) {
+    if (tk_fits_word(guess)) {
         return tk_fields_read_part_i8(true, self, values, from, room, guess);
     }
     if (2 <= guess.width && guess.width <= 16 && guess.has_return) {
@@ -6145,7 +6157,7 @@ TK_HINTED size_t tk_fields_read_i8(tk_fields *self, tk_room_i8 values)
         }
         size_t used = tk_size_saturating_sub(before, self->rest.len);
         guess = tk_guess_after_i8(tk_slice_i8_shared(tk_room_i8_between(values, from, read)), used, self->rest,
-                                  self->trims);
+                                  self->is_lines);
         size_t run = tk_fields_read_guessed_i8(self, values, read, guess);
         read += run;
         part = run < TK_PART ? tk_size_min(16 * part, TK_LONG_PART) : TK_PART;
@@ -6153,7 +6165,7 @@ TK_HINTED size_t tk_fields_read_i8(tk_fields *self, tk_room_i8 values)
     return read;
 }
 
-/* atoi_column/src/guesses.rt:124 */
+/* atoi_column/src/guesses.rt:132 */
 TK_INLINE tk_option_u8 tk_signed_u8(bool minus, uint64_t magnitude)
 {
     tk_u128 magnitude_2 = tk_u128_of(magnitude);
@@ -6163,14 +6175,14 @@ TK_INLINE tk_option_u8 tk_signed_u8(bool minus, uint64_t magnitude)
     return tk_some_u8(tk_from_parts_u8(minus, magnitude_2));
 }
 
-/* atoi_column/src/guesses.rt:82 */
-TK_INLINE tk_option_pair_u8_size tk_number_with_end_u8(tk_bytes rest, size_t width, uint64_t ends, size_t tail)
+/* atoi_column/src/guesses.rt:87 */
+TK_INLINE tk_option_pair_u8_size tk_number_with_end_u8(tk_bytes rest, size_t width, uint64_t end_word, size_t end_len)
 {
     if (width == 0 || rest.len <= 8) {
         return tk_none_pair_u8_size();
     }
     size_t sign = tk_sign_len(false, rest);
-    tk_option_u64 found = tk_number_before(tk_bytes_from(rest, sign), width, ends, tail);
+    tk_option_u64 found = tk_number_before(tk_bytes_from(rest, sign), width, end_word, end_len);
     if (!found.is_some) {
         return tk_none_pair_u8_size();
     }
@@ -6182,7 +6194,7 @@ TK_INLINE tk_option_pair_u8_size tk_number_with_end_u8(tk_bytes rest, size_t wid
     return tk_some_pair_u8_size(tk_new_pair_u8_size(value, sign + width));
 }
 
-/* atoi_column/src/guesses.rt:137 */
+/* atoi_column/src/guesses.rt:145 */
 TK_HINTED tk_option_pair_u8_size tk_number_of_any_width_u8(tk_bytes rest, size_t width)
 {
     size_t at = tk_size_saturating_add(width, tk_sign_len(false, rest));
@@ -6197,7 +6209,7 @@ TK_HINTED tk_option_pair_u8_size tk_number_of_any_width_u8(tk_bytes rest, size_t
     return tk_some_pair_u8_size(tk_new_pair_u8_size(found.value, text.len));
 }
 
-/* atoi_column/src/guesses.rt:106 */
+/* atoi_column/src/guesses.rt:114 */
 TK_INLINE tk_option_pair_u8_size tk_number_of_digits_u8(tk_bytes rest, size_t width)
 {
     if (width == 0 || width > 16) {
@@ -6219,20 +6231,20 @@ TK_INLINE tk_option_pair_u8_size tk_number_of_digits_u8(tk_bytes rest, size_t wi
     return tk_some_pair_u8_size(tk_new_pair_u8_size(value, sign + width));
 }
 
-/* atoi_column/src/fields/read.rt:225 */
-TK_INLINE tk_option_pair_u8_bytes tk_guessed_field_u8(tk_bytes rest, uint8_t separator, bool trims, tk_guess guess)
+/* atoi_column/src/fields/read.rt:231 */
+TK_INLINE tk_option_pair_u8_bytes tk_guessed_field_u8(tk_bytes rest, uint8_t separator, bool is_lines, tk_guess guess)
 {
-    tk_pair_u64_size found = tk_end_of(separator, trims, guess.has_return);
-    uint64_t ends = found.first;
-    size_t tail = found.second;
-    if (tk_is_short(guess)) {
-        tk_option_pair_u8_size found_2 = tk_number_with_end_u8(rest, guess.width, ends, tail);
+    tk_pair_u64_size found = tk_end_of(separator, is_lines, guess.has_return);
+    uint64_t end_word = found.first;
+    size_t end_len = found.second;
+    if (tk_fits_word(guess)) {
+        tk_option_pair_u8_size found_2 = tk_number_with_end_u8(rest, guess.width, end_word, end_len);
         if (!found_2.is_some) {
             return tk_none_pair_u8_bytes();
         }
         uint8_t value = found_2.value.first;
         size_t count = found_2.value.second;
-        return tk_some_pair_u8_bytes(tk_new_pair_u8_bytes(value, tk_bytes_from(rest, count + tail)));
+        return tk_some_pair_u8_bytes(tk_new_pair_u8_bytes(value, tk_bytes_from(rest, count + end_len)));
     }
     tk_option_pair_u8_size found_2 = tk_number_of_digits_u8(rest, guess.width);
     if (!found_2.is_some) {
@@ -6240,10 +6252,10 @@ TK_INLINE tk_option_pair_u8_bytes tk_guessed_field_u8(tk_bytes rest, uint8_t sep
     }
     uint8_t value = found_2.value.first;
     size_t count = found_2.value.second;
-    if (!tk_begins_with(tk_bytes_from(rest, count), ends, tail)) {
+    if (!tk_starts_with(tk_bytes_from(rest, count), end_word, end_len)) {
         return tk_none_pair_u8_bytes();
     }
-    return tk_some_pair_u8_bytes(tk_new_pair_u8_bytes(value, tk_bytes_from(rest, count + tail)));
+    return tk_some_pair_u8_bytes(tk_new_pair_u8_bytes(value, tk_bytes_from(rest, count + end_len)));
 }
 
 /* atoi_column/src/fields/read.rt:179 */
@@ -6251,7 +6263,7 @@ TK_INLINE tk_option_u8 tk_fields_guessed_number_u8(tk_fields *self, tk_guess gue
 {
     tk_bytes rest = self->rest;
     size_t index = self->index;
-    tk_option_pair_u8_bytes found = tk_guessed_field_u8(rest, self->separator, self->trims, guess);
+    tk_option_pair_u8_bytes found = tk_guessed_field_u8(rest, self->separator, self->is_lines, guess);
     if (!found.is_some) {
         return tk_none_u8();
     }
@@ -6270,7 +6282,7 @@ TK_INLINE tk_option_u8 tk_fields_next_number_u8(tk_fields *self, tk_guess guess)
     if (rest.len == 0) {
         return tk_none_u8();
     }
-    tk_option_pair_u8_bytes found = tk_accepted_field_u8(rest, self->separator, self->trims, guess);
+    tk_option_pair_u8_bytes found = tk_accepted_field_u8(rest, self->separator, self->is_lines, guess);
     if (found.is_some) {
         uint8_t value = found.value.first;
         tk_bytes following = found.value.second;
@@ -6279,7 +6291,7 @@ TK_INLINE tk_option_u8 tk_fields_next_number_u8(tk_fields *self, tk_guess guess)
         return tk_some_u8(value);
     }
     size_t place = self->end - rest.len;
-    tk_pair_result_u8_field_error_bytes found_2 = tk_read_field_u8(rest, self->separator, self->trims, index, place);
+    tk_pair_result_u8_field_error_bytes found_2 = tk_read_field_u8(rest, self->separator, self->is_lines, index, place);
     tk_result_u8_field_error item = found_2.first;
     tk_bytes following = found_2.second;
     if (!item.is_ok) {
@@ -6295,10 +6307,10 @@ TK_INLINE tk_option_u8 tk_fields_next_number_u8(tk_fields *self, tk_guess guess)
 TK_INLINE size_t tk_fields_read_part_u8(bool guesses, tk_fields *self, tk_room_u8 values, size_t from, size_t most,
                                         tk_guess guess)
 {
-    /* The compiler knows that this is an end within `values`. */
+    /* The smaller one of both, so that rustc 1.95 tests no index below it. */
     size_t end = tk_size_min(values.len, from + most);
     /* While numbers are written to memory, these fields stay in registers. */
-    tk_fields fields = tk_new_fields(self->rest, self->separator, self->trims, self->index, self->end);
+    tk_fields fields = tk_new_fields(self->rest, self->separator, self->is_lines, self->index, self->end);
     size_t at = from;
     while (at < end) {
         tk_option_u8 next = guesses ? tk_fields_guessed_number_u8(&fields, guess)
@@ -6318,8 +6330,8 @@ TK_INLINE size_t tk_fields_read_part_u8(bool guesses, tk_fields *self, tk_room_u
 /* atoi_column/src/fields/read.rt:96 */
 TK_INLINE size_t tk_fields_read_plain_u8(tk_fields *self, tk_room_u8 values, size_t from, size_t most, tk_guess guess)
 {
-    /* The compiler makes a loop for each case. */
-    if (guess.are_short) {
+    /* Each case has a loop of its own, since `read_part` is inlined. */
+    if (guess.mostly_one_digit) {
         return tk_fields_read_part_u8(false, self, values, from, most, tk_no_guess);
     }
     return tk_fields_read_part_u8(false, self, values, from, most, tk_long);
@@ -6332,7 +6344,7 @@ TK_HINTED tk_pair_bool_u128 tk_parts_u8(uint8_t self)
 }
 
 /* atoi_column/src/guesses.rt:36 */
-TK_NOINLINE tk_guess tk_guess_after_u8(tk_bytes numbers, size_t used, tk_bytes rest, bool trims)
+TK_NOINLINE tk_guess tk_guess_after_u8(tk_bytes numbers, size_t used, tk_bytes rest, bool is_lines)
 {
     size_t count = tk_size_max(numbers.len, 1);
     size_t count_2 = 0;
@@ -6349,7 +6361,7 @@ TK_NOINLINE tk_guess tk_guess_after_u8(tk_bytes numbers, size_t used, tk_bytes r
     size_t digits_and_ends = tk_size_saturating_sub(used, minuses);
     size_t each = digits_and_ends / count;
     size_t at_2 = tk_size_saturating_add(tk_sign_len(false, rest), tk_size_saturating_sub(each, 2));
-    bool has_return = trims
+    bool has_return = is_lines
         && (at_2 <= rest.len && tk_bytes_from(rest, at_2).len >= 1 && tk_bytes_from(rest, at_2).at[0] == '\r');
     size_t found = digits_and_ends % count;
     size_t width = found == 0 ? tk_size_saturating_sub(each, 1 + TK_CAST(size_t, has_return)) : 0;
@@ -6360,12 +6372,12 @@ TK_NOINLINE tk_guess tk_guess_after_u8(tk_bytes numbers, size_t used, tk_bytes r
 TK_NOINLINE size_t tk_fields_read_guessed_u8(tk_fields *self, tk_room_u8 values, size_t from, tk_guess guess)
 {
     size_t room = values.len - from;
-    tk_guess plain = tk_new_guess(guess.width, false, guess.are_short, guess.have_minus);
-    /* The compiler makes a loop for each case. */
+    tk_guess plain = tk_new_guess(guess.width, false, guess.mostly_one_digit, guess.have_minus);
+    /* Each case has a loop of its own, since `read_part` is inlined. */
     if (guess.width <= 1) {
         return 0;
     }
-    if (tk_is_short(guess)) {
+    if (tk_fits_word(guess)) {
         return tk_fields_read_part_u8(true, self, values, from, room, guess);
     }
     if (2 <= guess.width && guess.width <= 16 && guess.has_return) {
@@ -6397,7 +6409,7 @@ TK_HINTED size_t tk_fields_read_u8(tk_fields *self, tk_room_u8 values)
         }
         size_t used = tk_size_saturating_sub(before, self->rest.len);
         guess = tk_guess_after_u8(tk_bytes_shared(tk_room_u8_between(values, from, read)), used, self->rest,
-                                  self->trims);
+                                  self->is_lines);
         size_t run = tk_fields_read_guessed_u8(self, values, read, guess);
         read += run;
         part = run < TK_PART ? tk_size_min(16 * part, TK_LONG_PART) : TK_PART;
@@ -6405,7 +6417,7 @@ TK_HINTED size_t tk_fields_read_u8(tk_fields *self, tk_room_u8 values)
     return read;
 }
 
-/* atoi_column/src/guesses.rt:124 */
+/* atoi_column/src/guesses.rt:132 */
 TK_INLINE tk_option_i16 tk_signed_i16(bool minus, uint64_t magnitude)
 {
     tk_u128 magnitude_2 = tk_u128_of(magnitude);
@@ -6415,14 +6427,14 @@ TK_INLINE tk_option_i16 tk_signed_i16(bool minus, uint64_t magnitude)
     return tk_some_i16(tk_from_parts_i16(minus, magnitude_2));
 }
 
-/* atoi_column/src/guesses.rt:82 */
-TK_INLINE tk_option_pair_i16_size tk_number_with_end_i16(tk_bytes rest, size_t width, uint64_t ends, size_t tail)
+/* atoi_column/src/guesses.rt:87 */
+TK_INLINE tk_option_pair_i16_size tk_number_with_end_i16(tk_bytes rest, size_t width, uint64_t end_word, size_t end_len)
 {
     if (width == 0 || rest.len <= 8) {
         return tk_none_pair_i16_size();
     }
     size_t sign = tk_sign_len(true, rest);
-    tk_option_u64 found = tk_number_before(tk_bytes_from(rest, sign), width, ends, tail);
+    tk_option_u64 found = tk_number_before(tk_bytes_from(rest, sign), width, end_word, end_len);
     if (!found.is_some) {
         return tk_none_pair_i16_size();
     }
@@ -6434,7 +6446,7 @@ TK_INLINE tk_option_pair_i16_size tk_number_with_end_i16(tk_bytes rest, size_t w
     return tk_some_pair_i16_size(tk_new_pair_i16_size(value, sign + width));
 }
 
-/* atoi_column/src/guesses.rt:137 */
+/* atoi_column/src/guesses.rt:145 */
 TK_HINTED tk_option_pair_i16_size tk_number_of_any_width_i16(tk_bytes rest, size_t width)
 {
     size_t at = tk_size_saturating_add(width, tk_sign_len(true, rest));
@@ -6449,7 +6461,7 @@ TK_HINTED tk_option_pair_i16_size tk_number_of_any_width_i16(tk_bytes rest, size
     return tk_some_pair_i16_size(tk_new_pair_i16_size(found.value, text.len));
 }
 
-/* atoi_column/src/guesses.rt:106 */
+/* atoi_column/src/guesses.rt:114 */
 TK_INLINE tk_option_pair_i16_size tk_number_of_digits_i16(tk_bytes rest, size_t width)
 {
     if (width == 0 || width > 16) {
@@ -6471,20 +6483,20 @@ TK_INLINE tk_option_pair_i16_size tk_number_of_digits_i16(tk_bytes rest, size_t 
     return tk_some_pair_i16_size(tk_new_pair_i16_size(value, sign + width));
 }
 
-/* atoi_column/src/fields/read.rt:225 */
-TK_INLINE tk_option_pair_i16_bytes tk_guessed_field_i16(tk_bytes rest, uint8_t separator, bool trims, tk_guess guess)
+/* atoi_column/src/fields/read.rt:231 */
+TK_INLINE tk_option_pair_i16_bytes tk_guessed_field_i16(tk_bytes rest, uint8_t separator, bool is_lines, tk_guess guess)
 {
-    tk_pair_u64_size found = tk_end_of(separator, trims, guess.has_return);
-    uint64_t ends = found.first;
-    size_t tail = found.second;
-    if (tk_is_short(guess)) {
-        tk_option_pair_i16_size found_2 = tk_number_with_end_i16(rest, guess.width, ends, tail);
+    tk_pair_u64_size found = tk_end_of(separator, is_lines, guess.has_return);
+    uint64_t end_word = found.first;
+    size_t end_len = found.second;
+    if (tk_fits_word(guess)) {
+        tk_option_pair_i16_size found_2 = tk_number_with_end_i16(rest, guess.width, end_word, end_len);
         if (!found_2.is_some) {
             return tk_none_pair_i16_bytes();
         }
         int16_t value = found_2.value.first;
         size_t count = found_2.value.second;
-        return tk_some_pair_i16_bytes(tk_new_pair_i16_bytes(value, tk_bytes_from(rest, count + tail)));
+        return tk_some_pair_i16_bytes(tk_new_pair_i16_bytes(value, tk_bytes_from(rest, count + end_len)));
     }
     tk_option_pair_i16_size found_2 = tk_number_of_digits_i16(rest, guess.width);
     if (!found_2.is_some) {
@@ -6492,10 +6504,10 @@ TK_INLINE tk_option_pair_i16_bytes tk_guessed_field_i16(tk_bytes rest, uint8_t s
     }
     int16_t value = found_2.value.first;
     size_t count = found_2.value.second;
-    if (!tk_begins_with(tk_bytes_from(rest, count), ends, tail)) {
+    if (!tk_starts_with(tk_bytes_from(rest, count), end_word, end_len)) {
         return tk_none_pair_i16_bytes();
     }
-    return tk_some_pair_i16_bytes(tk_new_pair_i16_bytes(value, tk_bytes_from(rest, count + tail)));
+    return tk_some_pair_i16_bytes(tk_new_pair_i16_bytes(value, tk_bytes_from(rest, count + end_len)));
 }
 
 /* atoi_column/src/fields/read.rt:179 */
@@ -6503,7 +6515,7 @@ TK_INLINE tk_option_i16 tk_fields_guessed_number_i16(tk_fields *self, tk_guess g
 {
     tk_bytes rest = self->rest;
     size_t index = self->index;
-    tk_option_pair_i16_bytes found = tk_guessed_field_i16(rest, self->separator, self->trims, guess);
+    tk_option_pair_i16_bytes found = tk_guessed_field_i16(rest, self->separator, self->is_lines, guess);
     if (!found.is_some) {
         return tk_none_i16();
     }
@@ -6522,7 +6534,7 @@ TK_INLINE tk_option_i16 tk_fields_next_number_i16(tk_fields *self, tk_guess gues
     if (rest.len == 0) {
         return tk_none_i16();
     }
-    tk_option_pair_i16_bytes found = tk_accepted_field_i16(rest, self->separator, self->trims, guess);
+    tk_option_pair_i16_bytes found = tk_accepted_field_i16(rest, self->separator, self->is_lines, guess);
     if (found.is_some) {
         int16_t value = found.value.first;
         tk_bytes following = found.value.second;
@@ -6531,7 +6543,8 @@ TK_INLINE tk_option_i16 tk_fields_next_number_i16(tk_fields *self, tk_guess gues
         return tk_some_i16(value);
     }
     size_t place = self->end - rest.len;
-    tk_pair_result_i16_field_error_bytes found_2 = tk_read_field_i16(rest, self->separator, self->trims, index, place);
+    tk_pair_result_i16_field_error_bytes found_2 = tk_read_field_i16(rest, self->separator, self->is_lines, index,
+                                                                     place);
     tk_result_i16_field_error item = found_2.first;
     tk_bytes following = found_2.second;
     if (!item.is_ok) {
@@ -6547,10 +6560,10 @@ TK_INLINE tk_option_i16 tk_fields_next_number_i16(tk_fields *self, tk_guess gues
 TK_INLINE size_t tk_fields_read_part_i16(bool guesses, tk_fields *self, tk_room_i16 values, size_t from, size_t most,
                                          tk_guess guess)
 {
-    /* The compiler knows that this is an end within `values`. */
+    /* The smaller one of both, so that rustc 1.95 tests no index below it. */
     size_t end = tk_size_min(values.len, from + most);
     /* While numbers are written to memory, these fields stay in registers. */
-    tk_fields fields = tk_new_fields(self->rest, self->separator, self->trims, self->index, self->end);
+    tk_fields fields = tk_new_fields(self->rest, self->separator, self->is_lines, self->index, self->end);
     size_t at = from;
     while (at < end) {
         tk_option_i16 next = guesses ? tk_fields_guessed_number_i16(&fields, guess)
@@ -6570,8 +6583,8 @@ TK_INLINE size_t tk_fields_read_part_i16(bool guesses, tk_fields *self, tk_room_
 /* atoi_column/src/fields/read.rt:96 */
 TK_INLINE size_t tk_fields_read_plain_i16(tk_fields *self, tk_room_i16 values, size_t from, size_t most, tk_guess guess)
 {
-    /* The compiler makes a loop for each case. */
-    if (guess.are_short) {
+    /* Each case has a loop of its own, since `read_part` is inlined. */
+    if (guess.mostly_one_digit) {
         return tk_fields_read_part_i16(false, self, values, from, most, tk_no_guess);
     }
     if (guess.have_minus) {
@@ -6587,7 +6600,7 @@ TK_HINTED tk_pair_bool_u128 tk_parts_i16(int16_t self)
 }
 
 /* atoi_column/src/guesses.rt:36 */
-TK_NOINLINE tk_guess tk_guess_after_i16(tk_slice_i16 numbers, size_t used, tk_bytes rest, bool trims)
+TK_NOINLINE tk_guess tk_guess_after_i16(tk_slice_i16 numbers, size_t used, tk_bytes rest, bool is_lines)
 {
     size_t count = tk_size_max(numbers.len, 1);
     size_t count_2 = 0;
@@ -6604,7 +6617,7 @@ TK_NOINLINE tk_guess tk_guess_after_i16(tk_slice_i16 numbers, size_t used, tk_by
     size_t digits_and_ends = tk_size_saturating_sub(used, minuses);
     size_t each = digits_and_ends / count;
     size_t at_2 = tk_size_saturating_add(tk_sign_len(true, rest), tk_size_saturating_sub(each, 2));
-    bool has_return = trims
+    bool has_return = is_lines
         && (at_2 <= rest.len && tk_bytes_from(rest, at_2).len >= 1 && tk_bytes_from(rest, at_2).at[0] == '\r');
     size_t found = digits_and_ends % count;
     size_t width = found == 0 ? tk_size_saturating_sub(each, 1 + TK_CAST(size_t, has_return)) : 0;
@@ -6615,12 +6628,12 @@ TK_NOINLINE tk_guess tk_guess_after_i16(tk_slice_i16 numbers, size_t used, tk_by
 TK_NOINLINE size_t tk_fields_read_guessed_i16(tk_fields *self, tk_room_i16 values, size_t from, tk_guess guess)
 {
     size_t room = values.len - from;
-    tk_guess plain = tk_new_guess(guess.width, false, guess.are_short, guess.have_minus);
-    /* The compiler makes a loop for each case. */
+    tk_guess plain = tk_new_guess(guess.width, false, guess.mostly_one_digit, guess.have_minus);
+    /* Each case has a loop of its own, since `read_part` is inlined. */
     if (guess.width <= 1) {
         return 0;
     }
-    if (tk_is_short(guess)) {
+    if (tk_fits_word(guess)) {
         return tk_fields_read_part_i16(true, self, values, from, room, guess);
     }
     if (2 <= guess.width && guess.width <= 16 && guess.has_return) {
@@ -6652,7 +6665,7 @@ TK_HINTED size_t tk_fields_read_i16(tk_fields *self, tk_room_i16 values)
         }
         size_t used = tk_size_saturating_sub(before, self->rest.len);
         guess = tk_guess_after_i16(tk_slice_i16_shared(tk_room_i16_between(values, from, read)), used, self->rest,
-                                   self->trims);
+                                   self->is_lines);
         size_t run = tk_fields_read_guessed_i16(self, values, read, guess);
         read += run;
         part = run < TK_PART ? tk_size_min(16 * part, TK_LONG_PART) : TK_PART;
@@ -6660,7 +6673,7 @@ TK_HINTED size_t tk_fields_read_i16(tk_fields *self, tk_room_i16 values)
     return read;
 }
 
-/* atoi_column/src/guesses.rt:124 */
+/* atoi_column/src/guesses.rt:132 */
 TK_INLINE tk_option_u16 tk_signed_u16(bool minus, uint64_t magnitude)
 {
     tk_u128 magnitude_2 = tk_u128_of(magnitude);
@@ -6670,14 +6683,14 @@ TK_INLINE tk_option_u16 tk_signed_u16(bool minus, uint64_t magnitude)
     return tk_some_u16(tk_from_parts_u16(minus, magnitude_2));
 }
 
-/* atoi_column/src/guesses.rt:82 */
-TK_INLINE tk_option_pair_u16_size tk_number_with_end_u16(tk_bytes rest, size_t width, uint64_t ends, size_t tail)
+/* atoi_column/src/guesses.rt:87 */
+TK_INLINE tk_option_pair_u16_size tk_number_with_end_u16(tk_bytes rest, size_t width, uint64_t end_word, size_t end_len)
 {
     if (width == 0 || rest.len <= 8) {
         return tk_none_pair_u16_size();
     }
     size_t sign = tk_sign_len(false, rest);
-    tk_option_u64 found = tk_number_before(tk_bytes_from(rest, sign), width, ends, tail);
+    tk_option_u64 found = tk_number_before(tk_bytes_from(rest, sign), width, end_word, end_len);
     if (!found.is_some) {
         return tk_none_pair_u16_size();
     }
@@ -6689,7 +6702,7 @@ TK_INLINE tk_option_pair_u16_size tk_number_with_end_u16(tk_bytes rest, size_t w
     return tk_some_pair_u16_size(tk_new_pair_u16_size(value, sign + width));
 }
 
-/* atoi_column/src/guesses.rt:137 */
+/* atoi_column/src/guesses.rt:145 */
 TK_HINTED tk_option_pair_u16_size tk_number_of_any_width_u16(tk_bytes rest, size_t width)
 {
     size_t at = tk_size_saturating_add(width, tk_sign_len(false, rest));
@@ -6704,7 +6717,7 @@ TK_HINTED tk_option_pair_u16_size tk_number_of_any_width_u16(tk_bytes rest, size
     return tk_some_pair_u16_size(tk_new_pair_u16_size(found.value, text.len));
 }
 
-/* atoi_column/src/guesses.rt:106 */
+/* atoi_column/src/guesses.rt:114 */
 TK_INLINE tk_option_pair_u16_size tk_number_of_digits_u16(tk_bytes rest, size_t width)
 {
     if (width == 0 || width > 16) {
@@ -6726,20 +6739,20 @@ TK_INLINE tk_option_pair_u16_size tk_number_of_digits_u16(tk_bytes rest, size_t 
     return tk_some_pair_u16_size(tk_new_pair_u16_size(value, sign + width));
 }
 
-/* atoi_column/src/fields/read.rt:225 */
-TK_INLINE tk_option_pair_u16_bytes tk_guessed_field_u16(tk_bytes rest, uint8_t separator, bool trims, tk_guess guess)
+/* atoi_column/src/fields/read.rt:231 */
+TK_INLINE tk_option_pair_u16_bytes tk_guessed_field_u16(tk_bytes rest, uint8_t separator, bool is_lines, tk_guess guess)
 {
-    tk_pair_u64_size found = tk_end_of(separator, trims, guess.has_return);
-    uint64_t ends = found.first;
-    size_t tail = found.second;
-    if (tk_is_short(guess)) {
-        tk_option_pair_u16_size found_2 = tk_number_with_end_u16(rest, guess.width, ends, tail);
+    tk_pair_u64_size found = tk_end_of(separator, is_lines, guess.has_return);
+    uint64_t end_word = found.first;
+    size_t end_len = found.second;
+    if (tk_fits_word(guess)) {
+        tk_option_pair_u16_size found_2 = tk_number_with_end_u16(rest, guess.width, end_word, end_len);
         if (!found_2.is_some) {
             return tk_none_pair_u16_bytes();
         }
         uint16_t value = found_2.value.first;
         size_t count = found_2.value.second;
-        return tk_some_pair_u16_bytes(tk_new_pair_u16_bytes(value, tk_bytes_from(rest, count + tail)));
+        return tk_some_pair_u16_bytes(tk_new_pair_u16_bytes(value, tk_bytes_from(rest, count + end_len)));
     }
     tk_option_pair_u16_size found_2 = tk_number_of_digits_u16(rest, guess.width);
     if (!found_2.is_some) {
@@ -6747,10 +6760,10 @@ TK_INLINE tk_option_pair_u16_bytes tk_guessed_field_u16(tk_bytes rest, uint8_t s
     }
     uint16_t value = found_2.value.first;
     size_t count = found_2.value.second;
-    if (!tk_begins_with(tk_bytes_from(rest, count), ends, tail)) {
+    if (!tk_starts_with(tk_bytes_from(rest, count), end_word, end_len)) {
         return tk_none_pair_u16_bytes();
     }
-    return tk_some_pair_u16_bytes(tk_new_pair_u16_bytes(value, tk_bytes_from(rest, count + tail)));
+    return tk_some_pair_u16_bytes(tk_new_pair_u16_bytes(value, tk_bytes_from(rest, count + end_len)));
 }
 
 /* atoi_column/src/fields/read.rt:179 */
@@ -6758,7 +6771,7 @@ TK_INLINE tk_option_u16 tk_fields_guessed_number_u16(tk_fields *self, tk_guess g
 {
     tk_bytes rest = self->rest;
     size_t index = self->index;
-    tk_option_pair_u16_bytes found = tk_guessed_field_u16(rest, self->separator, self->trims, guess);
+    tk_option_pair_u16_bytes found = tk_guessed_field_u16(rest, self->separator, self->is_lines, guess);
     if (!found.is_some) {
         return tk_none_u16();
     }
@@ -6777,7 +6790,7 @@ TK_INLINE tk_option_u16 tk_fields_next_number_u16(tk_fields *self, tk_guess gues
     if (rest.len == 0) {
         return tk_none_u16();
     }
-    tk_option_pair_u16_bytes found = tk_accepted_field_u16(rest, self->separator, self->trims, guess);
+    tk_option_pair_u16_bytes found = tk_accepted_field_u16(rest, self->separator, self->is_lines, guess);
     if (found.is_some) {
         uint16_t value = found.value.first;
         tk_bytes following = found.value.second;
@@ -6786,7 +6799,8 @@ TK_INLINE tk_option_u16 tk_fields_next_number_u16(tk_fields *self, tk_guess gues
         return tk_some_u16(value);
     }
     size_t place = self->end - rest.len;
-    tk_pair_result_u16_field_error_bytes found_2 = tk_read_field_u16(rest, self->separator, self->trims, index, place);
+    tk_pair_result_u16_field_error_bytes found_2 = tk_read_field_u16(rest, self->separator, self->is_lines, index,
+                                                                     place);
     tk_result_u16_field_error item = found_2.first;
     tk_bytes following = found_2.second;
     if (!item.is_ok) {
@@ -6802,10 +6816,10 @@ TK_INLINE tk_option_u16 tk_fields_next_number_u16(tk_fields *self, tk_guess gues
 TK_INLINE size_t tk_fields_read_part_u16(bool guesses, tk_fields *self, tk_room_u16 values, size_t from, size_t most,
                                          tk_guess guess)
 {
-    /* The compiler knows that this is an end within `values`. */
+    /* The smaller one of both, so that rustc 1.95 tests no index below it. */
     size_t end = tk_size_min(values.len, from + most);
     /* While numbers are written to memory, these fields stay in registers. */
-    tk_fields fields = tk_new_fields(self->rest, self->separator, self->trims, self->index, self->end);
+    tk_fields fields = tk_new_fields(self->rest, self->separator, self->is_lines, self->index, self->end);
     size_t at = from;
     while (at < end) {
         tk_option_u16 next = guesses ? tk_fields_guessed_number_u16(&fields, guess)
@@ -6825,8 +6839,8 @@ TK_INLINE size_t tk_fields_read_part_u16(bool guesses, tk_fields *self, tk_room_
 /* atoi_column/src/fields/read.rt:96 */
 TK_INLINE size_t tk_fields_read_plain_u16(tk_fields *self, tk_room_u16 values, size_t from, size_t most, tk_guess guess)
 {
-    /* The compiler makes a loop for each case. */
-    if (guess.are_short) {
+    /* Each case has a loop of its own, since `read_part` is inlined. */
+    if (guess.mostly_one_digit) {
         return tk_fields_read_part_u16(false, self, values, from, most, tk_no_guess);
     }
     return tk_fields_read_part_u16(false, self, values, from, most, tk_long);
@@ -6839,7 +6853,7 @@ TK_HINTED tk_pair_bool_u128 tk_parts_u16(uint16_t self)
 }
 
 /* atoi_column/src/guesses.rt:36 */
-TK_NOINLINE tk_guess tk_guess_after_u16(tk_slice_u16 numbers, size_t used, tk_bytes rest, bool trims)
+TK_NOINLINE tk_guess tk_guess_after_u16(tk_slice_u16 numbers, size_t used, tk_bytes rest, bool is_lines)
 {
     size_t count = tk_size_max(numbers.len, 1);
     size_t count_2 = 0;
@@ -6856,7 +6870,7 @@ TK_NOINLINE tk_guess tk_guess_after_u16(tk_slice_u16 numbers, size_t used, tk_by
     size_t digits_and_ends = tk_size_saturating_sub(used, minuses);
     size_t each = digits_and_ends / count;
     size_t at_2 = tk_size_saturating_add(tk_sign_len(false, rest), tk_size_saturating_sub(each, 2));
-    bool has_return = trims
+    bool has_return = is_lines
         && (at_2 <= rest.len && tk_bytes_from(rest, at_2).len >= 1 && tk_bytes_from(rest, at_2).at[0] == '\r');
     size_t found = digits_and_ends % count;
     size_t width = found == 0 ? tk_size_saturating_sub(each, 1 + TK_CAST(size_t, has_return)) : 0;
@@ -6867,12 +6881,12 @@ TK_NOINLINE tk_guess tk_guess_after_u16(tk_slice_u16 numbers, size_t used, tk_by
 TK_NOINLINE size_t tk_fields_read_guessed_u16(tk_fields *self, tk_room_u16 values, size_t from, tk_guess guess)
 {
     size_t room = values.len - from;
-    tk_guess plain = tk_new_guess(guess.width, false, guess.are_short, guess.have_minus);
-    /* The compiler makes a loop for each case. */
+    tk_guess plain = tk_new_guess(guess.width, false, guess.mostly_one_digit, guess.have_minus);
+    /* Each case has a loop of its own, since `read_part` is inlined. */
     if (guess.width <= 1) {
         return 0;
     }
-    if (tk_is_short(guess)) {
+    if (tk_fits_word(guess)) {
         return tk_fields_read_part_u16(true, self, values, from, room, guess);
     }
     if (2 <= guess.width && guess.width <= 16 && guess.has_return) {
@@ -6904,7 +6918,7 @@ TK_HINTED size_t tk_fields_read_u16(tk_fields *self, tk_room_u16 values)
         }
         size_t used = tk_size_saturating_sub(before, self->rest.len);
         guess = tk_guess_after_u16(tk_slice_u16_shared(tk_room_u16_between(values, from, read)), used, self->rest,
-                                   self->trims);
+                                   self->is_lines);
         size_t run = tk_fields_read_guessed_u16(self, values, read, guess);
         read += run;
         part = run < TK_PART ? tk_size_min(16 * part, TK_LONG_PART) : TK_PART;
@@ -6912,7 +6926,7 @@ TK_HINTED size_t tk_fields_read_u16(tk_fields *self, tk_room_u16 values)
     return read;
 }
 
-/* atoi_column/src/guesses.rt:124 */
+/* atoi_column/src/guesses.rt:132 */
 TK_INLINE tk_option_i32 tk_signed_i32(bool minus, uint64_t magnitude)
 {
     tk_u128 magnitude_2 = tk_u128_of(magnitude);
@@ -6922,14 +6936,14 @@ TK_INLINE tk_option_i32 tk_signed_i32(bool minus, uint64_t magnitude)
     return tk_some_i32(tk_from_parts_i32(minus, magnitude_2));
 }
 
-/* atoi_column/src/guesses.rt:82 */
-TK_INLINE tk_option_pair_i32_size tk_number_with_end_i32(tk_bytes rest, size_t width, uint64_t ends, size_t tail)
+/* atoi_column/src/guesses.rt:87 */
+TK_INLINE tk_option_pair_i32_size tk_number_with_end_i32(tk_bytes rest, size_t width, uint64_t end_word, size_t end_len)
 {
     if (width == 0 || rest.len <= 8) {
         return tk_none_pair_i32_size();
     }
     size_t sign = tk_sign_len(true, rest);
-    tk_option_u64 found = tk_number_before(tk_bytes_from(rest, sign), width, ends, tail);
+    tk_option_u64 found = tk_number_before(tk_bytes_from(rest, sign), width, end_word, end_len);
     if (!found.is_some) {
         return tk_none_pair_i32_size();
     }
@@ -6941,7 +6955,7 @@ TK_INLINE tk_option_pair_i32_size tk_number_with_end_i32(tk_bytes rest, size_t w
     return tk_some_pair_i32_size(tk_new_pair_i32_size(value, sign + width));
 }
 
-/* atoi_column/src/guesses.rt:137 */
+/* atoi_column/src/guesses.rt:145 */
 TK_HINTED tk_option_pair_i32_size tk_number_of_any_width_i32(tk_bytes rest, size_t width)
 {
     size_t at = tk_size_saturating_add(width, tk_sign_len(true, rest));
@@ -6956,7 +6970,7 @@ TK_HINTED tk_option_pair_i32_size tk_number_of_any_width_i32(tk_bytes rest, size
     return tk_some_pair_i32_size(tk_new_pair_i32_size(found.value, text.len));
 }
 
-/* atoi_column/src/guesses.rt:106 */
+/* atoi_column/src/guesses.rt:114 */
 TK_INLINE tk_option_pair_i32_size tk_number_of_digits_i32(tk_bytes rest, size_t width)
 {
     if (width == 0 || width > 16) {
@@ -6978,20 +6992,20 @@ TK_INLINE tk_option_pair_i32_size tk_number_of_digits_i32(tk_bytes rest, size_t 
     return tk_some_pair_i32_size(tk_new_pair_i32_size(value, sign + width));
 }
 
-/* atoi_column/src/fields/read.rt:225 */
-TK_INLINE tk_option_pair_i32_bytes tk_guessed_field_i32(tk_bytes rest, uint8_t separator, bool trims, tk_guess guess)
+/* atoi_column/src/fields/read.rt:231 */
+TK_INLINE tk_option_pair_i32_bytes tk_guessed_field_i32(tk_bytes rest, uint8_t separator, bool is_lines, tk_guess guess)
 {
-    tk_pair_u64_size found = tk_end_of(separator, trims, guess.has_return);
-    uint64_t ends = found.first;
-    size_t tail = found.second;
-    if (tk_is_short(guess)) {
-        tk_option_pair_i32_size found_2 = tk_number_with_end_i32(rest, guess.width, ends, tail);
+    tk_pair_u64_size found = tk_end_of(separator, is_lines, guess.has_return);
+    uint64_t end_word = found.first;
+    size_t end_len = found.second;
+    if (tk_fits_word(guess)) {
+        tk_option_pair_i32_size found_2 = tk_number_with_end_i32(rest, guess.width, end_word, end_len);
         if (!found_2.is_some) {
             return tk_none_pair_i32_bytes();
         }
         int32_t value = found_2.value.first;
         size_t count = found_2.value.second;
-        return tk_some_pair_i32_bytes(tk_new_pair_i32_bytes(value, tk_bytes_from(rest, count + tail)));
+        return tk_some_pair_i32_bytes(tk_new_pair_i32_bytes(value, tk_bytes_from(rest, count + end_len)));
     }
     tk_option_pair_i32_size found_2 = tk_number_of_digits_i32(rest, guess.width);
     if (!found_2.is_some) {
@@ -6999,10 +7013,10 @@ TK_INLINE tk_option_pair_i32_bytes tk_guessed_field_i32(tk_bytes rest, uint8_t s
     }
     int32_t value = found_2.value.first;
     size_t count = found_2.value.second;
-    if (!tk_begins_with(tk_bytes_from(rest, count), ends, tail)) {
+    if (!tk_starts_with(tk_bytes_from(rest, count), end_word, end_len)) {
         return tk_none_pair_i32_bytes();
     }
-    return tk_some_pair_i32_bytes(tk_new_pair_i32_bytes(value, tk_bytes_from(rest, count + tail)));
+    return tk_some_pair_i32_bytes(tk_new_pair_i32_bytes(value, tk_bytes_from(rest, count + end_len)));
 }
 
 /* atoi_column/src/fields/read.rt:179 */
@@ -7010,7 +7024,7 @@ TK_INLINE tk_option_i32 tk_fields_guessed_number_i32(tk_fields *self, tk_guess g
 {
     tk_bytes rest = self->rest;
     size_t index = self->index;
-    tk_option_pair_i32_bytes found = tk_guessed_field_i32(rest, self->separator, self->trims, guess);
+    tk_option_pair_i32_bytes found = tk_guessed_field_i32(rest, self->separator, self->is_lines, guess);
     if (!found.is_some) {
         return tk_none_i32();
     }
@@ -7029,7 +7043,7 @@ TK_INLINE tk_option_i32 tk_fields_next_number_i32(tk_fields *self, tk_guess gues
     if (rest.len == 0) {
         return tk_none_i32();
     }
-    tk_option_pair_i32_bytes found = tk_accepted_field_i32(rest, self->separator, self->trims, guess);
+    tk_option_pair_i32_bytes found = tk_accepted_field_i32(rest, self->separator, self->is_lines, guess);
     if (found.is_some) {
         int32_t value = found.value.first;
         tk_bytes following = found.value.second;
@@ -7038,7 +7052,8 @@ TK_INLINE tk_option_i32 tk_fields_next_number_i32(tk_fields *self, tk_guess gues
         return tk_some_i32(value);
     }
     size_t place = self->end - rest.len;
-    tk_pair_result_i32_field_error_bytes found_2 = tk_read_field_i32(rest, self->separator, self->trims, index, place);
+    tk_pair_result_i32_field_error_bytes found_2 = tk_read_field_i32(rest, self->separator, self->is_lines, index,
+                                                                     place);
     tk_result_i32_field_error item = found_2.first;
     tk_bytes following = found_2.second;
     if (!item.is_ok) {
@@ -7054,10 +7069,10 @@ TK_INLINE tk_option_i32 tk_fields_next_number_i32(tk_fields *self, tk_guess gues
 TK_INLINE size_t tk_fields_read_part_i32(bool guesses, tk_fields *self, tk_room_i32 values, size_t from, size_t most,
                                          tk_guess guess)
 {
-    /* The compiler knows that this is an end within `values`. */
+    /* The smaller one of both, so that rustc 1.95 tests no index below it. */
     size_t end = tk_size_min(values.len, from + most);
     /* While numbers are written to memory, these fields stay in registers. */
-    tk_fields fields = tk_new_fields(self->rest, self->separator, self->trims, self->index, self->end);
+    tk_fields fields = tk_new_fields(self->rest, self->separator, self->is_lines, self->index, self->end);
     size_t at = from;
     while (at < end) {
         tk_option_i32 next = guesses ? tk_fields_guessed_number_i32(&fields, guess)
@@ -7077,8 +7092,8 @@ TK_INLINE size_t tk_fields_read_part_i32(bool guesses, tk_fields *self, tk_room_
 /* atoi_column/src/fields/read.rt:96 */
 TK_INLINE size_t tk_fields_read_plain_i32(tk_fields *self, tk_room_i32 values, size_t from, size_t most, tk_guess guess)
 {
-    /* The compiler makes a loop for each case. */
-    if (guess.are_short) {
+    /* Each case has a loop of its own, since `read_part` is inlined. */
+    if (guess.mostly_one_digit) {
         return tk_fields_read_part_i32(false, self, values, from, most, tk_no_guess);
     }
     if (guess.have_minus) {
@@ -7094,7 +7109,7 @@ TK_HINTED tk_pair_bool_u128 tk_parts_i32(int32_t self)
 }
 
 /* atoi_column/src/guesses.rt:36 */
-TK_NOINLINE tk_guess tk_guess_after_i32(tk_slice_i32 numbers, size_t used, tk_bytes rest, bool trims)
+TK_NOINLINE tk_guess tk_guess_after_i32(tk_slice_i32 numbers, size_t used, tk_bytes rest, bool is_lines)
 {
     size_t count = tk_size_max(numbers.len, 1);
     size_t count_2 = 0;
@@ -7111,7 +7126,7 @@ TK_NOINLINE tk_guess tk_guess_after_i32(tk_slice_i32 numbers, size_t used, tk_by
     size_t digits_and_ends = tk_size_saturating_sub(used, minuses);
     size_t each = digits_and_ends / count;
     size_t at_2 = tk_size_saturating_add(tk_sign_len(true, rest), tk_size_saturating_sub(each, 2));
-    bool has_return = trims
+    bool has_return = is_lines
         && (at_2 <= rest.len && tk_bytes_from(rest, at_2).len >= 1 && tk_bytes_from(rest, at_2).at[0] == '\r');
     size_t found = digits_and_ends % count;
     size_t width = found == 0 ? tk_size_saturating_sub(each, 1 + TK_CAST(size_t, has_return)) : 0;
@@ -7122,12 +7137,12 @@ TK_NOINLINE tk_guess tk_guess_after_i32(tk_slice_i32 numbers, size_t used, tk_by
 TK_NOINLINE size_t tk_fields_read_guessed_i32(tk_fields *self, tk_room_i32 values, size_t from, tk_guess guess)
 {
     size_t room = values.len - from;
-    tk_guess plain = tk_new_guess(guess.width, false, guess.are_short, guess.have_minus);
-    /* The compiler makes a loop for each case. */
+    tk_guess plain = tk_new_guess(guess.width, false, guess.mostly_one_digit, guess.have_minus);
+    /* Each case has a loop of its own, since `read_part` is inlined. */
     if (guess.width <= 1) {
         return 0;
     }
-    if (tk_is_short(guess)) {
+    if (tk_fits_word(guess)) {
         return tk_fields_read_part_i32(true, self, values, from, room, guess);
     }
     if (2 <= guess.width && guess.width <= 16 && guess.has_return) {
@@ -7159,7 +7174,7 @@ TK_HINTED size_t tk_fields_read_i32(tk_fields *self, tk_room_i32 values)
         }
         size_t used = tk_size_saturating_sub(before, self->rest.len);
         guess = tk_guess_after_i32(tk_slice_i32_shared(tk_room_i32_between(values, from, read)), used, self->rest,
-                                   self->trims);
+                                   self->is_lines);
         size_t run = tk_fields_read_guessed_i32(self, values, read, guess);
         read += run;
         part = run < TK_PART ? tk_size_min(16 * part, TK_LONG_PART) : TK_PART;
@@ -7167,7 +7182,7 @@ TK_HINTED size_t tk_fields_read_i32(tk_fields *self, tk_room_i32 values)
     return read;
 }
 
-/* atoi_column/src/guesses.rt:124 */
+/* atoi_column/src/guesses.rt:132 */
 TK_INLINE tk_option_u32 tk_signed_u32(bool minus, uint64_t magnitude)
 {
     tk_u128 magnitude_2 = tk_u128_of(magnitude);
@@ -7177,14 +7192,14 @@ TK_INLINE tk_option_u32 tk_signed_u32(bool minus, uint64_t magnitude)
     return tk_some_u32(tk_from_parts_u32(minus, magnitude_2));
 }
 
-/* atoi_column/src/guesses.rt:82 */
-TK_INLINE tk_option_pair_u32_size tk_number_with_end_u32(tk_bytes rest, size_t width, uint64_t ends, size_t tail)
+/* atoi_column/src/guesses.rt:87 */
+TK_INLINE tk_option_pair_u32_size tk_number_with_end_u32(tk_bytes rest, size_t width, uint64_t end_word, size_t end_len)
 {
     if (width == 0 || rest.len <= 8) {
         return tk_none_pair_u32_size();
     }
     size_t sign = tk_sign_len(false, rest);
-    tk_option_u64 found = tk_number_before(tk_bytes_from(rest, sign), width, ends, tail);
+    tk_option_u64 found = tk_number_before(tk_bytes_from(rest, sign), width, end_word, end_len);
     if (!found.is_some) {
         return tk_none_pair_u32_size();
     }
@@ -7196,7 +7211,7 @@ TK_INLINE tk_option_pair_u32_size tk_number_with_end_u32(tk_bytes rest, size_t w
     return tk_some_pair_u32_size(tk_new_pair_u32_size(value, sign + width));
 }
 
-/* atoi_column/src/guesses.rt:137 */
+/* atoi_column/src/guesses.rt:145 */
 TK_HINTED tk_option_pair_u32_size tk_number_of_any_width_u32(tk_bytes rest, size_t width)
 {
     size_t at = tk_size_saturating_add(width, tk_sign_len(false, rest));
@@ -7211,7 +7226,7 @@ TK_HINTED tk_option_pair_u32_size tk_number_of_any_width_u32(tk_bytes rest, size
     return tk_some_pair_u32_size(tk_new_pair_u32_size(found.value, text.len));
 }
 
-/* atoi_column/src/guesses.rt:106 */
+/* atoi_column/src/guesses.rt:114 */
 TK_INLINE tk_option_pair_u32_size tk_number_of_digits_u32(tk_bytes rest, size_t width)
 {
     if (width == 0 || width > 16) {
@@ -7233,20 +7248,20 @@ TK_INLINE tk_option_pair_u32_size tk_number_of_digits_u32(tk_bytes rest, size_t 
     return tk_some_pair_u32_size(tk_new_pair_u32_size(value, sign + width));
 }
 
-/* atoi_column/src/fields/read.rt:225 */
-TK_INLINE tk_option_pair_u32_bytes tk_guessed_field_u32(tk_bytes rest, uint8_t separator, bool trims, tk_guess guess)
+/* atoi_column/src/fields/read.rt:231 */
+TK_INLINE tk_option_pair_u32_bytes tk_guessed_field_u32(tk_bytes rest, uint8_t separator, bool is_lines, tk_guess guess)
 {
-    tk_pair_u64_size found = tk_end_of(separator, trims, guess.has_return);
-    uint64_t ends = found.first;
-    size_t tail = found.second;
-    if (tk_is_short(guess)) {
-        tk_option_pair_u32_size found_2 = tk_number_with_end_u32(rest, guess.width, ends, tail);
+    tk_pair_u64_size found = tk_end_of(separator, is_lines, guess.has_return);
+    uint64_t end_word = found.first;
+    size_t end_len = found.second;
+    if (tk_fits_word(guess)) {
+        tk_option_pair_u32_size found_2 = tk_number_with_end_u32(rest, guess.width, end_word, end_len);
         if (!found_2.is_some) {
             return tk_none_pair_u32_bytes();
         }
         uint32_t value = found_2.value.first;
         size_t count = found_2.value.second;
-        return tk_some_pair_u32_bytes(tk_new_pair_u32_bytes(value, tk_bytes_from(rest, count + tail)));
+        return tk_some_pair_u32_bytes(tk_new_pair_u32_bytes(value, tk_bytes_from(rest, count + end_len)));
     }
     tk_option_pair_u32_size found_2 = tk_number_of_digits_u32(rest, guess.width);
     if (!found_2.is_some) {
@@ -7254,10 +7269,10 @@ TK_INLINE tk_option_pair_u32_bytes tk_guessed_field_u32(tk_bytes rest, uint8_t s
     }
     uint32_t value = found_2.value.first;
     size_t count = found_2.value.second;
-    if (!tk_begins_with(tk_bytes_from(rest, count), ends, tail)) {
+    if (!tk_starts_with(tk_bytes_from(rest, count), end_word, end_len)) {
         return tk_none_pair_u32_bytes();
     }
-    return tk_some_pair_u32_bytes(tk_new_pair_u32_bytes(value, tk_bytes_from(rest, count + tail)));
+    return tk_some_pair_u32_bytes(tk_new_pair_u32_bytes(value, tk_bytes_from(rest, count + end_len)));
 }
 
 /* atoi_column/src/fields/read.rt:179 */
@@ -7265,7 +7280,7 @@ TK_INLINE tk_option_u32 tk_fields_guessed_number_u32(tk_fields *self, tk_guess g
 {
     tk_bytes rest = self->rest;
     size_t index = self->index;
-    tk_option_pair_u32_bytes found = tk_guessed_field_u32(rest, self->separator, self->trims, guess);
+    tk_option_pair_u32_bytes found = tk_guessed_field_u32(rest, self->separator, self->is_lines, guess);
     if (!found.is_some) {
         return tk_none_u32();
     }
@@ -7284,7 +7299,7 @@ TK_INLINE tk_option_u32 tk_fields_next_number_u32(tk_fields *self, tk_guess gues
     if (rest.len == 0) {
         return tk_none_u32();
     }
-    tk_option_pair_u32_bytes found = tk_accepted_field_u32(rest, self->separator, self->trims, guess);
+    tk_option_pair_u32_bytes found = tk_accepted_field_u32(rest, self->separator, self->is_lines, guess);
     if (found.is_some) {
         uint32_t value = found.value.first;
         tk_bytes following = found.value.second;
@@ -7293,7 +7308,8 @@ TK_INLINE tk_option_u32 tk_fields_next_number_u32(tk_fields *self, tk_guess gues
         return tk_some_u32(value);
     }
     size_t place = self->end - rest.len;
-    tk_pair_result_u32_field_error_bytes found_2 = tk_read_field_u32(rest, self->separator, self->trims, index, place);
+    tk_pair_result_u32_field_error_bytes found_2 = tk_read_field_u32(rest, self->separator, self->is_lines, index,
+                                                                     place);
     tk_result_u32_field_error item = found_2.first;
     tk_bytes following = found_2.second;
     if (!item.is_ok) {
@@ -7309,10 +7325,10 @@ TK_INLINE tk_option_u32 tk_fields_next_number_u32(tk_fields *self, tk_guess gues
 TK_INLINE size_t tk_fields_read_part_u32(bool guesses, tk_fields *self, tk_room_u32 values, size_t from, size_t most,
                                          tk_guess guess)
 {
-    /* The compiler knows that this is an end within `values`. */
+    /* The smaller one of both, so that rustc 1.95 tests no index below it. */
     size_t end = tk_size_min(values.len, from + most);
     /* While numbers are written to memory, these fields stay in registers. */
-    tk_fields fields = tk_new_fields(self->rest, self->separator, self->trims, self->index, self->end);
+    tk_fields fields = tk_new_fields(self->rest, self->separator, self->is_lines, self->index, self->end);
     size_t at = from;
     while (at < end) {
         tk_option_u32 next = guesses ? tk_fields_guessed_number_u32(&fields, guess)
@@ -7332,8 +7348,8 @@ TK_INLINE size_t tk_fields_read_part_u32(bool guesses, tk_fields *self, tk_room_
 /* atoi_column/src/fields/read.rt:96 */
 TK_INLINE size_t tk_fields_read_plain_u32(tk_fields *self, tk_room_u32 values, size_t from, size_t most, tk_guess guess)
 {
-    /* The compiler makes a loop for each case. */
-    if (guess.are_short) {
+    /* Each case has a loop of its own, since `read_part` is inlined. */
+    if (guess.mostly_one_digit) {
         return tk_fields_read_part_u32(false, self, values, from, most, tk_no_guess);
     }
     return tk_fields_read_part_u32(false, self, values, from, most, tk_long);
@@ -7346,7 +7362,7 @@ TK_HINTED tk_pair_bool_u128 tk_parts_u32(uint32_t self)
 }
 
 /* atoi_column/src/guesses.rt:36 */
-TK_NOINLINE tk_guess tk_guess_after_u32(tk_slice_u32 numbers, size_t used, tk_bytes rest, bool trims)
+TK_NOINLINE tk_guess tk_guess_after_u32(tk_slice_u32 numbers, size_t used, tk_bytes rest, bool is_lines)
 {
     size_t count = tk_size_max(numbers.len, 1);
     size_t count_2 = 0;
@@ -7363,7 +7379,7 @@ TK_NOINLINE tk_guess tk_guess_after_u32(tk_slice_u32 numbers, size_t used, tk_by
     size_t digits_and_ends = tk_size_saturating_sub(used, minuses);
     size_t each = digits_and_ends / count;
     size_t at_2 = tk_size_saturating_add(tk_sign_len(false, rest), tk_size_saturating_sub(each, 2));
-    bool has_return = trims
+    bool has_return = is_lines
         && (at_2 <= rest.len && tk_bytes_from(rest, at_2).len >= 1 && tk_bytes_from(rest, at_2).at[0] == '\r');
     size_t found = digits_and_ends % count;
     size_t width = found == 0 ? tk_size_saturating_sub(each, 1 + TK_CAST(size_t, has_return)) : 0;
@@ -7374,12 +7390,12 @@ TK_NOINLINE tk_guess tk_guess_after_u32(tk_slice_u32 numbers, size_t used, tk_by
 TK_NOINLINE size_t tk_fields_read_guessed_u32(tk_fields *self, tk_room_u32 values, size_t from, tk_guess guess)
 {
     size_t room = values.len - from;
-    tk_guess plain = tk_new_guess(guess.width, false, guess.are_short, guess.have_minus);
-    /* The compiler makes a loop for each case. */
+    tk_guess plain = tk_new_guess(guess.width, false, guess.mostly_one_digit, guess.have_minus);
+    /* Each case has a loop of its own, since `read_part` is inlined. */
     if (guess.width <= 1) {
         return 0;
     }
-    if (tk_is_short(guess)) {
+    if (tk_fits_word(guess)) {
         return tk_fields_read_part_u32(true, self, values, from, room, guess);
     }
     if (2 <= guess.width && guess.width <= 16 && guess.has_return) {
@@ -7411,7 +7427,7 @@ TK_HINTED size_t tk_fields_read_u32(tk_fields *self, tk_room_u32 values)
         }
         size_t used = tk_size_saturating_sub(before, self->rest.len);
         guess = tk_guess_after_u32(tk_slice_u32_shared(tk_room_u32_between(values, from, read)), used, self->rest,
-                                   self->trims);
+                                   self->is_lines);
         size_t run = tk_fields_read_guessed_u32(self, values, read, guess);
         read += run;
         part = run < TK_PART ? tk_size_min(16 * part, TK_LONG_PART) : TK_PART;
@@ -7419,7 +7435,7 @@ TK_HINTED size_t tk_fields_read_u32(tk_fields *self, tk_room_u32 values)
     return read;
 }
 
-/* atoi_column/src/guesses.rt:124 */
+/* atoi_column/src/guesses.rt:132 */
 TK_INLINE tk_option_i64 tk_signed_i64(bool minus, uint64_t magnitude)
 {
     tk_u128 magnitude_2 = tk_u128_of(magnitude);
@@ -7430,14 +7446,14 @@ TK_INLINE tk_option_i64 tk_signed_i64(bool minus, uint64_t magnitude)
     return tk_some_i64(tk_from_parts_i64(minus, magnitude_2));
 }
 
-/* atoi_column/src/guesses.rt:82 */
-TK_INLINE tk_option_pair_i64_size tk_number_with_end_i64(tk_bytes rest, size_t width, uint64_t ends, size_t tail)
+/* atoi_column/src/guesses.rt:87 */
+TK_INLINE tk_option_pair_i64_size tk_number_with_end_i64(tk_bytes rest, size_t width, uint64_t end_word, size_t end_len)
 {
     if (width == 0 || rest.len <= 8) {
         return tk_none_pair_i64_size();
     }
     size_t sign = tk_sign_len(true, rest);
-    tk_option_u64 found = tk_number_before(tk_bytes_from(rest, sign), width, ends, tail);
+    tk_option_u64 found = tk_number_before(tk_bytes_from(rest, sign), width, end_word, end_len);
     if (!found.is_some) {
         return tk_none_pair_i64_size();
     }
@@ -7449,7 +7465,7 @@ TK_INLINE tk_option_pair_i64_size tk_number_with_end_i64(tk_bytes rest, size_t w
     return tk_some_pair_i64_size(tk_new_pair_i64_size(value, sign + width));
 }
 
-/* atoi_column/src/guesses.rt:137 */
+/* atoi_column/src/guesses.rt:145 */
 TK_HINTED tk_option_pair_i64_size tk_number_of_any_width_i64(tk_bytes rest, size_t width)
 {
     size_t at = tk_size_saturating_add(width, tk_sign_len(true, rest));
@@ -7464,7 +7480,7 @@ TK_HINTED tk_option_pair_i64_size tk_number_of_any_width_i64(tk_bytes rest, size
     return tk_some_pair_i64_size(tk_new_pair_i64_size(found.value, text.len));
 }
 
-/* atoi_column/src/guesses.rt:106 */
+/* atoi_column/src/guesses.rt:114 */
 TK_INLINE tk_option_pair_i64_size tk_number_of_digits_i64(tk_bytes rest, size_t width)
 {
     if (width == 0 || width > 16) {
@@ -7486,20 +7502,20 @@ TK_INLINE tk_option_pair_i64_size tk_number_of_digits_i64(tk_bytes rest, size_t 
     return tk_some_pair_i64_size(tk_new_pair_i64_size(value, sign + width));
 }
 
-/* atoi_column/src/fields/read.rt:225 */
-TK_INLINE tk_option_pair_i64_bytes tk_guessed_field_i64(tk_bytes rest, uint8_t separator, bool trims, tk_guess guess)
+/* atoi_column/src/fields/read.rt:231 */
+TK_INLINE tk_option_pair_i64_bytes tk_guessed_field_i64(tk_bytes rest, uint8_t separator, bool is_lines, tk_guess guess)
 {
-    tk_pair_u64_size found = tk_end_of(separator, trims, guess.has_return);
-    uint64_t ends = found.first;
-    size_t tail = found.second;
-    if (tk_is_short(guess)) {
-        tk_option_pair_i64_size found_2 = tk_number_with_end_i64(rest, guess.width, ends, tail);
+    tk_pair_u64_size found = tk_end_of(separator, is_lines, guess.has_return);
+    uint64_t end_word = found.first;
+    size_t end_len = found.second;
+    if (tk_fits_word(guess)) {
+        tk_option_pair_i64_size found_2 = tk_number_with_end_i64(rest, guess.width, end_word, end_len);
         if (!found_2.is_some) {
             return tk_none_pair_i64_bytes();
         }
         int64_t value = found_2.value.first;
         size_t count = found_2.value.second;
-        return tk_some_pair_i64_bytes(tk_new_pair_i64_bytes(value, tk_bytes_from(rest, count + tail)));
+        return tk_some_pair_i64_bytes(tk_new_pair_i64_bytes(value, tk_bytes_from(rest, count + end_len)));
     }
     tk_option_pair_i64_size found_2 = tk_number_of_digits_i64(rest, guess.width);
     if (!found_2.is_some) {
@@ -7507,10 +7523,10 @@ TK_INLINE tk_option_pair_i64_bytes tk_guessed_field_i64(tk_bytes rest, uint8_t s
     }
     int64_t value = found_2.value.first;
     size_t count = found_2.value.second;
-    if (!tk_begins_with(tk_bytes_from(rest, count), ends, tail)) {
+    if (!tk_starts_with(tk_bytes_from(rest, count), end_word, end_len)) {
         return tk_none_pair_i64_bytes();
     }
-    return tk_some_pair_i64_bytes(tk_new_pair_i64_bytes(value, tk_bytes_from(rest, count + tail)));
+    return tk_some_pair_i64_bytes(tk_new_pair_i64_bytes(value, tk_bytes_from(rest, count + end_len)));
 }
 
 /* atoi_column/src/fields/read.rt:179 */
@@ -7518,7 +7534,7 @@ TK_INLINE tk_option_i64 tk_fields_guessed_number_i64(tk_fields *self, tk_guess g
 {
     tk_bytes rest = self->rest;
     size_t index = self->index;
-    tk_option_pair_i64_bytes found = tk_guessed_field_i64(rest, self->separator, self->trims, guess);
+    tk_option_pair_i64_bytes found = tk_guessed_field_i64(rest, self->separator, self->is_lines, guess);
     if (!found.is_some) {
         return tk_none_i64();
     }
@@ -7537,7 +7553,7 @@ TK_INLINE tk_option_i64 tk_fields_next_number_i64(tk_fields *self, tk_guess gues
     if (rest.len == 0) {
         return tk_none_i64();
     }
-    tk_option_pair_i64_bytes found = tk_accepted_field_i64(rest, self->separator, self->trims, guess);
+    tk_option_pair_i64_bytes found = tk_accepted_field_i64(rest, self->separator, self->is_lines, guess);
     if (found.is_some) {
         int64_t value = found.value.first;
         tk_bytes following = found.value.second;
@@ -7546,7 +7562,8 @@ TK_INLINE tk_option_i64 tk_fields_next_number_i64(tk_fields *self, tk_guess gues
         return tk_some_i64(value);
     }
     size_t place = self->end - rest.len;
-    tk_pair_result_i64_field_error_bytes found_2 = tk_read_field_i64(rest, self->separator, self->trims, index, place);
+    tk_pair_result_i64_field_error_bytes found_2 = tk_read_field_i64(rest, self->separator, self->is_lines, index,
+                                                                     place);
     tk_result_i64_field_error item = found_2.first;
     tk_bytes following = found_2.second;
     if (!item.is_ok) {
@@ -7562,10 +7579,10 @@ TK_INLINE tk_option_i64 tk_fields_next_number_i64(tk_fields *self, tk_guess gues
 TK_INLINE size_t tk_fields_read_part_i64(bool guesses, tk_fields *self, tk_room_i64 values, size_t from, size_t most,
                                          tk_guess guess)
 {
-    /* The compiler knows that this is an end within `values`. */
+    /* The smaller one of both, so that rustc 1.95 tests no index below it. */
     size_t end = tk_size_min(values.len, from + most);
     /* While numbers are written to memory, these fields stay in registers. */
-    tk_fields fields = tk_new_fields(self->rest, self->separator, self->trims, self->index, self->end);
+    tk_fields fields = tk_new_fields(self->rest, self->separator, self->is_lines, self->index, self->end);
     size_t at = from;
     while (at < end) {
         tk_option_i64 next = guesses ? tk_fields_guessed_number_i64(&fields, guess)
@@ -7585,8 +7602,8 @@ TK_INLINE size_t tk_fields_read_part_i64(bool guesses, tk_fields *self, tk_room_
 /* atoi_column/src/fields/read.rt:96 */
 TK_INLINE size_t tk_fields_read_plain_i64(tk_fields *self, tk_room_i64 values, size_t from, size_t most, tk_guess guess)
 {
-    /* The compiler makes a loop for each case. */
-    if (guess.are_short) {
+    /* Each case has a loop of its own, since `read_part` is inlined. */
+    if (guess.mostly_one_digit) {
         return tk_fields_read_part_i64(false, self, values, from, most, tk_no_guess);
     }
     if (guess.have_minus) {
@@ -7602,7 +7619,7 @@ TK_HINTED tk_pair_bool_u128 tk_parts_i64(int64_t self)
 }
 
 /* atoi_column/src/guesses.rt:36 */
-TK_NOINLINE tk_guess tk_guess_after_i64(tk_slice_i64 numbers, size_t used, tk_bytes rest, bool trims)
+TK_NOINLINE tk_guess tk_guess_after_i64(tk_slice_i64 numbers, size_t used, tk_bytes rest, bool is_lines)
 {
     size_t count = tk_size_max(numbers.len, 1);
     size_t count_2 = 0;
@@ -7619,7 +7636,7 @@ TK_NOINLINE tk_guess tk_guess_after_i64(tk_slice_i64 numbers, size_t used, tk_by
     size_t digits_and_ends = tk_size_saturating_sub(used, minuses);
     size_t each = digits_and_ends / count;
     size_t at_2 = tk_size_saturating_add(tk_sign_len(true, rest), tk_size_saturating_sub(each, 2));
-    bool has_return = trims
+    bool has_return = is_lines
         && (at_2 <= rest.len && tk_bytes_from(rest, at_2).len >= 1 && tk_bytes_from(rest, at_2).at[0] == '\r');
     size_t found = digits_and_ends % count;
     size_t width = found == 0 ? tk_size_saturating_sub(each, 1 + TK_CAST(size_t, has_return)) : 0;
@@ -7630,12 +7647,12 @@ TK_NOINLINE tk_guess tk_guess_after_i64(tk_slice_i64 numbers, size_t used, tk_by
 TK_NOINLINE size_t tk_fields_read_guessed_i64(tk_fields *self, tk_room_i64 values, size_t from, tk_guess guess)
 {
     size_t room = values.len - from;
-    tk_guess plain = tk_new_guess(guess.width, false, guess.are_short, guess.have_minus);
-    /* The compiler makes a loop for each case. */
+    tk_guess plain = tk_new_guess(guess.width, false, guess.mostly_one_digit, guess.have_minus);
+    /* Each case has a loop of its own, since `read_part` is inlined. */
     if (guess.width <= 1) {
         return 0;
     }
-    if (tk_is_short(guess)) {
+    if (tk_fits_word(guess)) {
         return tk_fields_read_part_i64(true, self, values, from, room, guess);
     }
     if (2 <= guess.width && guess.width <= 16 && guess.has_return) {
@@ -7667,7 +7684,7 @@ TK_HINTED size_t tk_fields_read_i64(tk_fields *self, tk_room_i64 values)
         }
         size_t used = tk_size_saturating_sub(before, self->rest.len);
         guess = tk_guess_after_i64(tk_slice_i64_shared(tk_room_i64_between(values, from, read)), used, self->rest,
-                                   self->trims);
+                                   self->is_lines);
         size_t run = tk_fields_read_guessed_i64(self, values, read, guess);
         read += run;
         part = run < TK_PART ? tk_size_min(16 * part, TK_LONG_PART) : TK_PART;
@@ -7675,7 +7692,7 @@ TK_HINTED size_t tk_fields_read_i64(tk_fields *self, tk_room_i64 values)
     return read;
 }
 
-/* atoi_column/src/guesses.rt:124 */
+/* atoi_column/src/guesses.rt:132 */
 TK_INLINE tk_option_u64 tk_signed_u64(bool minus, uint64_t magnitude)
 {
     tk_u128 magnitude_2 = tk_u128_of(magnitude);
@@ -7686,14 +7703,14 @@ TK_INLINE tk_option_u64 tk_signed_u64(bool minus, uint64_t magnitude)
     return tk_some_u64(tk_from_parts_u64(minus, magnitude_2));
 }
 
-/* atoi_column/src/guesses.rt:82 */
-TK_INLINE tk_option_pair_u64_size tk_number_with_end_u64(tk_bytes rest, size_t width, uint64_t ends, size_t tail)
+/* atoi_column/src/guesses.rt:87 */
+TK_INLINE tk_option_pair_u64_size tk_number_with_end_u64(tk_bytes rest, size_t width, uint64_t end_word, size_t end_len)
 {
     if (width == 0 || rest.len <= 8) {
         return tk_none_pair_u64_size();
     }
     size_t sign = tk_sign_len(false, rest);
-    tk_option_u64 found = tk_number_before(tk_bytes_from(rest, sign), width, ends, tail);
+    tk_option_u64 found = tk_number_before(tk_bytes_from(rest, sign), width, end_word, end_len);
     if (!found.is_some) {
         return tk_none_pair_u64_size();
     }
@@ -7705,7 +7722,7 @@ TK_INLINE tk_option_pair_u64_size tk_number_with_end_u64(tk_bytes rest, size_t w
     return tk_some_pair_u64_size(tk_new_pair_u64_size(value, sign + width));
 }
 
-/* atoi_column/src/guesses.rt:137 */
+/* atoi_column/src/guesses.rt:145 */
 TK_HINTED tk_option_pair_u64_size tk_number_of_any_width_u64(tk_bytes rest, size_t width)
 {
     size_t at = tk_size_saturating_add(width, tk_sign_len(false, rest));
@@ -7720,7 +7737,7 @@ TK_HINTED tk_option_pair_u64_size tk_number_of_any_width_u64(tk_bytes rest, size
     return tk_some_pair_u64_size(tk_new_pair_u64_size(found.value, text.len));
 }
 
-/* atoi_column/src/guesses.rt:106 */
+/* atoi_column/src/guesses.rt:114 */
 TK_INLINE tk_option_pair_u64_size tk_number_of_digits_u64(tk_bytes rest, size_t width)
 {
     if (width == 0 || width > 16) {
@@ -7742,20 +7759,20 @@ TK_INLINE tk_option_pair_u64_size tk_number_of_digits_u64(tk_bytes rest, size_t 
     return tk_some_pair_u64_size(tk_new_pair_u64_size(value, sign + width));
 }
 
-/* atoi_column/src/fields/read.rt:225 */
-TK_INLINE tk_option_pair_u64_bytes tk_guessed_field_u64(tk_bytes rest, uint8_t separator, bool trims, tk_guess guess)
+/* atoi_column/src/fields/read.rt:231 */
+TK_INLINE tk_option_pair_u64_bytes tk_guessed_field_u64(tk_bytes rest, uint8_t separator, bool is_lines, tk_guess guess)
 {
-    tk_pair_u64_size found = tk_end_of(separator, trims, guess.has_return);
-    uint64_t ends = found.first;
-    size_t tail = found.second;
-    if (tk_is_short(guess)) {
-        tk_option_pair_u64_size found_2 = tk_number_with_end_u64(rest, guess.width, ends, tail);
+    tk_pair_u64_size found = tk_end_of(separator, is_lines, guess.has_return);
+    uint64_t end_word = found.first;
+    size_t end_len = found.second;
+    if (tk_fits_word(guess)) {
+        tk_option_pair_u64_size found_2 = tk_number_with_end_u64(rest, guess.width, end_word, end_len);
         if (!found_2.is_some) {
             return tk_none_pair_u64_bytes();
         }
         uint64_t value = found_2.value.first;
         size_t count = found_2.value.second;
-        return tk_some_pair_u64_bytes(tk_new_pair_u64_bytes(value, tk_bytes_from(rest, count + tail)));
+        return tk_some_pair_u64_bytes(tk_new_pair_u64_bytes(value, tk_bytes_from(rest, count + end_len)));
     }
     tk_option_pair_u64_size found_2 = tk_number_of_digits_u64(rest, guess.width);
     if (!found_2.is_some) {
@@ -7763,10 +7780,10 @@ TK_INLINE tk_option_pair_u64_bytes tk_guessed_field_u64(tk_bytes rest, uint8_t s
     }
     uint64_t value = found_2.value.first;
     size_t count = found_2.value.second;
-    if (!tk_begins_with(tk_bytes_from(rest, count), ends, tail)) {
+    if (!tk_starts_with(tk_bytes_from(rest, count), end_word, end_len)) {
         return tk_none_pair_u64_bytes();
     }
-    return tk_some_pair_u64_bytes(tk_new_pair_u64_bytes(value, tk_bytes_from(rest, count + tail)));
+    return tk_some_pair_u64_bytes(tk_new_pair_u64_bytes(value, tk_bytes_from(rest, count + end_len)));
 }
 
 /* atoi_column/src/fields/read.rt:179 */
@@ -7774,7 +7791,7 @@ TK_INLINE tk_option_u64 tk_fields_guessed_number_u64(tk_fields *self, tk_guess g
 {
     tk_bytes rest = self->rest;
     size_t index = self->index;
-    tk_option_pair_u64_bytes found = tk_guessed_field_u64(rest, self->separator, self->trims, guess);
+    tk_option_pair_u64_bytes found = tk_guessed_field_u64(rest, self->separator, self->is_lines, guess);
     if (!found.is_some) {
         return tk_none_u64();
     }
@@ -7793,7 +7810,7 @@ TK_INLINE tk_option_u64 tk_fields_next_number_u64(tk_fields *self, tk_guess gues
     if (rest.len == 0) {
         return tk_none_u64();
     }
-    tk_option_pair_u64_bytes found = tk_accepted_field_u64(rest, self->separator, self->trims, guess);
+    tk_option_pair_u64_bytes found = tk_accepted_field_u64(rest, self->separator, self->is_lines, guess);
     if (found.is_some) {
         uint64_t value = found.value.first;
         tk_bytes following = found.value.second;
@@ -7802,7 +7819,8 @@ TK_INLINE tk_option_u64 tk_fields_next_number_u64(tk_fields *self, tk_guess gues
         return tk_some_u64(value);
     }
     size_t place = self->end - rest.len;
-    tk_pair_result_u64_field_error_bytes found_2 = tk_read_field_u64(rest, self->separator, self->trims, index, place);
+    tk_pair_result_u64_field_error_bytes found_2 = tk_read_field_u64(rest, self->separator, self->is_lines, index,
+                                                                     place);
     tk_result_u64_field_error item = found_2.first;
     tk_bytes following = found_2.second;
     if (!item.is_ok) {
@@ -7818,10 +7836,10 @@ TK_INLINE tk_option_u64 tk_fields_next_number_u64(tk_fields *self, tk_guess gues
 TK_INLINE size_t tk_fields_read_part_u64(bool guesses, tk_fields *self, tk_room_u64 values, size_t from, size_t most,
                                          tk_guess guess)
 {
-    /* The compiler knows that this is an end within `values`. */
+    /* The smaller one of both, so that rustc 1.95 tests no index below it. */
     size_t end = tk_size_min(values.len, from + most);
     /* While numbers are written to memory, these fields stay in registers. */
-    tk_fields fields = tk_new_fields(self->rest, self->separator, self->trims, self->index, self->end);
+    tk_fields fields = tk_new_fields(self->rest, self->separator, self->is_lines, self->index, self->end);
     size_t at = from;
     while (at < end) {
         tk_option_u64 next = guesses ? tk_fields_guessed_number_u64(&fields, guess)
@@ -7841,8 +7859,8 @@ TK_INLINE size_t tk_fields_read_part_u64(bool guesses, tk_fields *self, tk_room_
 /* atoi_column/src/fields/read.rt:96 */
 TK_INLINE size_t tk_fields_read_plain_u64(tk_fields *self, tk_room_u64 values, size_t from, size_t most, tk_guess guess)
 {
-    /* The compiler makes a loop for each case. */
-    if (guess.are_short) {
+    /* Each case has a loop of its own, since `read_part` is inlined. */
+    if (guess.mostly_one_digit) {
         return tk_fields_read_part_u64(false, self, values, from, most, tk_no_guess);
     }
     return tk_fields_read_part_u64(false, self, values, from, most, tk_long);
@@ -7855,7 +7873,7 @@ TK_HINTED tk_pair_bool_u128 tk_parts_u64(uint64_t self)
 }
 
 /* atoi_column/src/guesses.rt:36 */
-TK_NOINLINE tk_guess tk_guess_after_u64(tk_slice_u64 numbers, size_t used, tk_bytes rest, bool trims)
+TK_NOINLINE tk_guess tk_guess_after_u64(tk_slice_u64 numbers, size_t used, tk_bytes rest, bool is_lines)
 {
     size_t count = tk_size_max(numbers.len, 1);
     size_t count_2 = 0;
@@ -7872,7 +7890,7 @@ TK_NOINLINE tk_guess tk_guess_after_u64(tk_slice_u64 numbers, size_t used, tk_by
     size_t digits_and_ends = tk_size_saturating_sub(used, minuses);
     size_t each = digits_and_ends / count;
     size_t at_2 = tk_size_saturating_add(tk_sign_len(false, rest), tk_size_saturating_sub(each, 2));
-    bool has_return = trims
+    bool has_return = is_lines
         && (at_2 <= rest.len && tk_bytes_from(rest, at_2).len >= 1 && tk_bytes_from(rest, at_2).at[0] == '\r');
     size_t found = digits_and_ends % count;
     size_t width = found == 0 ? tk_size_saturating_sub(each, 1 + TK_CAST(size_t, has_return)) : 0;
@@ -7883,12 +7901,12 @@ TK_NOINLINE tk_guess tk_guess_after_u64(tk_slice_u64 numbers, size_t used, tk_by
 TK_NOINLINE size_t tk_fields_read_guessed_u64(tk_fields *self, tk_room_u64 values, size_t from, tk_guess guess)
 {
     size_t room = values.len - from;
-    tk_guess plain = tk_new_guess(guess.width, false, guess.are_short, guess.have_minus);
-    /* The compiler makes a loop for each case. */
+    tk_guess plain = tk_new_guess(guess.width, false, guess.mostly_one_digit, guess.have_minus);
+    /* Each case has a loop of its own, since `read_part` is inlined. */
     if (guess.width <= 1) {
         return 0;
     }
-    if (tk_is_short(guess)) {
+    if (tk_fits_word(guess)) {
         return tk_fields_read_part_u64(true, self, values, from, room, guess);
     }
     if (2 <= guess.width && guess.width <= 16 && guess.has_return) {
@@ -7920,7 +7938,7 @@ TK_HINTED size_t tk_fields_read_u64(tk_fields *self, tk_room_u64 values)
         }
         size_t used = tk_size_saturating_sub(before, self->rest.len);
         guess = tk_guess_after_u64(tk_slice_u64_shared(tk_room_u64_between(values, from, read)), used, self->rest,
-                                   self->trims);
+                                   self->is_lines);
         size_t run = tk_fields_read_guessed_u64(self, values, read, guess);
         read += run;
         part = run < TK_PART ? tk_size_min(16 * part, TK_LONG_PART) : TK_PART;
@@ -7928,7 +7946,7 @@ TK_HINTED size_t tk_fields_read_u64(tk_fields *self, tk_room_u64 values)
     return read;
 }
 
-/* atoi_column/src/guesses.rt:124 */
+/* atoi_column/src/guesses.rt:132 */
 TK_INLINE tk_option_i128 tk_signed_i128(bool minus, uint64_t magnitude)
 {
     tk_u128 magnitude_2 = tk_u128_of(magnitude);
@@ -7939,14 +7957,15 @@ TK_INLINE tk_option_i128 tk_signed_i128(bool minus, uint64_t magnitude)
     return tk_some_i128(tk_from_parts_i128(minus, magnitude_2));
 }
 
-/* atoi_column/src/guesses.rt:82 */
-TK_INLINE tk_option_pair_i128_size tk_number_with_end_i128(tk_bytes rest, size_t width, uint64_t ends, size_t tail)
+/* atoi_column/src/guesses.rt:87 */
+TK_INLINE tk_option_pair_i128_size tk_number_with_end_i128(tk_bytes rest, size_t width, uint64_t end_word,
+                                                           size_t end_len)
 {
     if (width == 0 || rest.len <= 8) {
         return tk_none_pair_i128_size();
     }
     size_t sign = tk_sign_len(true, rest);
-    tk_option_u64 found = tk_number_before(tk_bytes_from(rest, sign), width, ends, tail);
+    tk_option_u64 found = tk_number_before(tk_bytes_from(rest, sign), width, end_word, end_len);
     if (!found.is_some) {
         return tk_none_pair_i128_size();
     }
@@ -7958,7 +7977,7 @@ TK_INLINE tk_option_pair_i128_size tk_number_with_end_i128(tk_bytes rest, size_t
     return tk_some_pair_i128_size(tk_new_pair_i128_size(value, sign + width));
 }
 
-/* atoi_column/src/guesses.rt:137 */
+/* atoi_column/src/guesses.rt:145 */
 TK_HINTED tk_option_pair_i128_size tk_number_of_any_width_i128(tk_bytes rest, size_t width)
 {
     size_t at = tk_size_saturating_add(width, tk_sign_len(true, rest));
@@ -7973,7 +7992,7 @@ TK_HINTED tk_option_pair_i128_size tk_number_of_any_width_i128(tk_bytes rest, si
     return tk_some_pair_i128_size(tk_new_pair_i128_size(found.value, text.len));
 }
 
-/* atoi_column/src/guesses.rt:106 */
+/* atoi_column/src/guesses.rt:114 */
 TK_INLINE tk_option_pair_i128_size tk_number_of_digits_i128(tk_bytes rest, size_t width)
 {
     if (width == 0 || width > 16) {
@@ -7995,20 +8014,21 @@ TK_INLINE tk_option_pair_i128_size tk_number_of_digits_i128(tk_bytes rest, size_
     return tk_some_pair_i128_size(tk_new_pair_i128_size(value, sign + width));
 }
 
-/* atoi_column/src/fields/read.rt:225 */
-TK_INLINE tk_option_pair_i128_bytes tk_guessed_field_i128(tk_bytes rest, uint8_t separator, bool trims, tk_guess guess)
+/* atoi_column/src/fields/read.rt:231 */
+TK_INLINE tk_option_pair_i128_bytes tk_guessed_field_i128(tk_bytes rest, uint8_t separator, bool is_lines,
+                                                          tk_guess guess)
 {
-    tk_pair_u64_size found = tk_end_of(separator, trims, guess.has_return);
-    uint64_t ends = found.first;
-    size_t tail = found.second;
-    if (tk_is_short(guess)) {
-        tk_option_pair_i128_size found_2 = tk_number_with_end_i128(rest, guess.width, ends, tail);
+    tk_pair_u64_size found = tk_end_of(separator, is_lines, guess.has_return);
+    uint64_t end_word = found.first;
+    size_t end_len = found.second;
+    if (tk_fits_word(guess)) {
+        tk_option_pair_i128_size found_2 = tk_number_with_end_i128(rest, guess.width, end_word, end_len);
         if (!found_2.is_some) {
             return tk_none_pair_i128_bytes();
         }
         tk_i128 value = found_2.value.first;
         size_t count = found_2.value.second;
-        return tk_some_pair_i128_bytes(tk_new_pair_i128_bytes(value, tk_bytes_from(rest, count + tail)));
+        return tk_some_pair_i128_bytes(tk_new_pair_i128_bytes(value, tk_bytes_from(rest, count + end_len)));
     }
     tk_option_pair_i128_size found_2 = tk_number_of_digits_i128(rest, guess.width);
     if (!found_2.is_some) {
@@ -8016,10 +8036,10 @@ TK_INLINE tk_option_pair_i128_bytes tk_guessed_field_i128(tk_bytes rest, uint8_t
     }
     tk_i128 value = found_2.value.first;
     size_t count = found_2.value.second;
-    if (!tk_begins_with(tk_bytes_from(rest, count), ends, tail)) {
+    if (!tk_starts_with(tk_bytes_from(rest, count), end_word, end_len)) {
         return tk_none_pair_i128_bytes();
     }
-    return tk_some_pair_i128_bytes(tk_new_pair_i128_bytes(value, tk_bytes_from(rest, count + tail)));
+    return tk_some_pair_i128_bytes(tk_new_pair_i128_bytes(value, tk_bytes_from(rest, count + end_len)));
 }
 
 /* atoi_column/src/fields/read.rt:179 */
@@ -8027,7 +8047,7 @@ TK_INLINE tk_option_i128 tk_fields_guessed_number_i128(tk_fields *self, tk_guess
 {
     tk_bytes rest = self->rest;
     size_t index = self->index;
-    tk_option_pair_i128_bytes found = tk_guessed_field_i128(rest, self->separator, self->trims, guess);
+    tk_option_pair_i128_bytes found = tk_guessed_field_i128(rest, self->separator, self->is_lines, guess);
     if (!found.is_some) {
         return tk_none_i128();
     }
@@ -8046,7 +8066,7 @@ TK_INLINE tk_option_i128 tk_fields_next_number_i128(tk_fields *self, tk_guess gu
     if (rest.len == 0) {
         return tk_none_i128();
     }
-    tk_option_pair_i128_bytes found = tk_accepted_field_i128(rest, self->separator, self->trims, guess);
+    tk_option_pair_i128_bytes found = tk_accepted_field_i128(rest, self->separator, self->is_lines, guess);
     if (found.is_some) {
         tk_i128 value = found.value.first;
         tk_bytes following = found.value.second;
@@ -8055,7 +8075,7 @@ TK_INLINE tk_option_i128 tk_fields_next_number_i128(tk_fields *self, tk_guess gu
         return tk_some_i128(value);
     }
     size_t place = self->end - rest.len;
-    tk_pair_result_i128_field_error_bytes found_2 = tk_read_field_i128(rest, self->separator, self->trims, index,
+    tk_pair_result_i128_field_error_bytes found_2 = tk_read_field_i128(rest, self->separator, self->is_lines, index,
                                                                        place);
     tk_result_i128_field_error item = found_2.first;
     tk_bytes following = found_2.second;
@@ -8072,10 +8092,10 @@ TK_INLINE tk_option_i128 tk_fields_next_number_i128(tk_fields *self, tk_guess gu
 TK_INLINE size_t tk_fields_read_part_i128(bool guesses, tk_fields *self, tk_room_i128 values, size_t from, size_t most,
                                           tk_guess guess)
 {
-    /* The compiler knows that this is an end within `values`. */
+    /* The smaller one of both, so that rustc 1.95 tests no index below it. */
     size_t end = tk_size_min(values.len, from + most);
     /* While numbers are written to memory, these fields stay in registers. */
-    tk_fields fields = tk_new_fields(self->rest, self->separator, self->trims, self->index, self->end);
+    tk_fields fields = tk_new_fields(self->rest, self->separator, self->is_lines, self->index, self->end);
     size_t at = from;
     while (at < end) {
         tk_option_i128 next = guesses ? tk_fields_guessed_number_i128(&fields, guess)
@@ -8096,8 +8116,8 @@ TK_INLINE size_t tk_fields_read_part_i128(bool guesses, tk_fields *self, tk_room
 TK_INLINE size_t tk_fields_read_plain_i128(tk_fields *self, tk_room_i128 values, size_t from, size_t most,
                                            tk_guess guess)
 {
-    /* The compiler makes a loop for each case. */
-    if (guess.are_short) {
+    /* Each case has a loop of its own, since `read_part` is inlined. */
+    if (guess.mostly_one_digit) {
         return tk_fields_read_part_i128(false, self, values, from, most, tk_no_guess);
     }
     if (guess.have_minus) {
@@ -8113,7 +8133,7 @@ TK_HINTED tk_pair_bool_u128 tk_parts_i128(tk_i128 self)
 }
 
 /* atoi_column/src/guesses.rt:36 */
-TK_NOINLINE tk_guess tk_guess_after_i128(tk_slice_i128 numbers, size_t used, tk_bytes rest, bool trims)
+TK_NOINLINE tk_guess tk_guess_after_i128(tk_slice_i128 numbers, size_t used, tk_bytes rest, bool is_lines)
 {
     size_t count = tk_size_max(numbers.len, 1);
     size_t count_2 = 0;
@@ -8130,7 +8150,7 @@ TK_NOINLINE tk_guess tk_guess_after_i128(tk_slice_i128 numbers, size_t used, tk_
     size_t digits_and_ends = tk_size_saturating_sub(used, minuses);
     size_t each = digits_and_ends / count;
     size_t at_2 = tk_size_saturating_add(tk_sign_len(true, rest), tk_size_saturating_sub(each, 2));
-    bool has_return = trims
+    bool has_return = is_lines
         && (at_2 <= rest.len && tk_bytes_from(rest, at_2).len >= 1 && tk_bytes_from(rest, at_2).at[0] == '\r');
     size_t found = digits_and_ends % count;
     size_t width = found == 0 ? tk_size_saturating_sub(each, 1 + TK_CAST(size_t, has_return)) : 0;
@@ -8141,12 +8161,12 @@ TK_NOINLINE tk_guess tk_guess_after_i128(tk_slice_i128 numbers, size_t used, tk_
 TK_NOINLINE size_t tk_fields_read_guessed_i128(tk_fields *self, tk_room_i128 values, size_t from, tk_guess guess)
 {
     size_t room = values.len - from;
-    tk_guess plain = tk_new_guess(guess.width, false, guess.are_short, guess.have_minus);
-    /* The compiler makes a loop for each case. */
+    tk_guess plain = tk_new_guess(guess.width, false, guess.mostly_one_digit, guess.have_minus);
+    /* Each case has a loop of its own, since `read_part` is inlined. */
     if (guess.width <= 1) {
         return 0;
     }
-    if (tk_is_short(guess)) {
+    if (tk_fits_word(guess)) {
         return tk_fields_read_part_i128(true, self, values, from, room, guess);
     }
     if (2 <= guess.width && guess.width <= 16 && guess.has_return) {
@@ -8178,7 +8198,7 @@ TK_HINTED size_t tk_fields_read_i128(tk_fields *self, tk_room_i128 values)
         }
         size_t used = tk_size_saturating_sub(before, self->rest.len);
         guess = tk_guess_after_i128(tk_slice_i128_shared(tk_room_i128_between(values, from, read)), used, self->rest,
-                                    self->trims);
+                                    self->is_lines);
         size_t run = tk_fields_read_guessed_i128(self, values, read, guess);
         read += run;
         part = run < TK_PART ? tk_size_min(16 * part, TK_LONG_PART) : TK_PART;
@@ -8186,7 +8206,7 @@ TK_HINTED size_t tk_fields_read_i128(tk_fields *self, tk_room_i128 values)
     return read;
 }
 
-/* atoi_column/src/guesses.rt:124 */
+/* atoi_column/src/guesses.rt:132 */
 TK_INLINE tk_option_u128 tk_signed_u128(bool minus, uint64_t magnitude)
 {
     tk_u128 magnitude_2 = tk_u128_of(magnitude);
@@ -8197,14 +8217,15 @@ TK_INLINE tk_option_u128 tk_signed_u128(bool minus, uint64_t magnitude)
     return tk_some_u128(tk_from_parts_u128(minus, magnitude_2));
 }
 
-/* atoi_column/src/guesses.rt:82 */
-TK_INLINE tk_option_pair_u128_size tk_number_with_end_u128(tk_bytes rest, size_t width, uint64_t ends, size_t tail)
+/* atoi_column/src/guesses.rt:87 */
+TK_INLINE tk_option_pair_u128_size tk_number_with_end_u128(tk_bytes rest, size_t width, uint64_t end_word,
+                                                           size_t end_len)
 {
     if (width == 0 || rest.len <= 8) {
         return tk_none_pair_u128_size();
     }
     size_t sign = tk_sign_len(false, rest);
-    tk_option_u64 found = tk_number_before(tk_bytes_from(rest, sign), width, ends, tail);
+    tk_option_u64 found = tk_number_before(tk_bytes_from(rest, sign), width, end_word, end_len);
     if (!found.is_some) {
         return tk_none_pair_u128_size();
     }
@@ -8216,7 +8237,7 @@ TK_INLINE tk_option_pair_u128_size tk_number_with_end_u128(tk_bytes rest, size_t
     return tk_some_pair_u128_size(tk_new_pair_u128_size(value, sign + width));
 }
 
-/* atoi_column/src/guesses.rt:137 */
+/* atoi_column/src/guesses.rt:145 */
 TK_HINTED tk_option_pair_u128_size tk_number_of_any_width_u128(tk_bytes rest, size_t width)
 {
     size_t at = tk_size_saturating_add(width, tk_sign_len(false, rest));
@@ -8231,7 +8252,7 @@ TK_HINTED tk_option_pair_u128_size tk_number_of_any_width_u128(tk_bytes rest, si
     return tk_some_pair_u128_size(tk_new_pair_u128_size(found.value, text.len));
 }
 
-/* atoi_column/src/guesses.rt:106 */
+/* atoi_column/src/guesses.rt:114 */
 TK_INLINE tk_option_pair_u128_size tk_number_of_digits_u128(tk_bytes rest, size_t width)
 {
     if (width == 0 || width > 16) {
@@ -8253,20 +8274,21 @@ TK_INLINE tk_option_pair_u128_size tk_number_of_digits_u128(tk_bytes rest, size_
     return tk_some_pair_u128_size(tk_new_pair_u128_size(value, sign + width));
 }
 
-/* atoi_column/src/fields/read.rt:225 */
-TK_INLINE tk_option_pair_u128_bytes tk_guessed_field_u128(tk_bytes rest, uint8_t separator, bool trims, tk_guess guess)
+/* atoi_column/src/fields/read.rt:231 */
+TK_INLINE tk_option_pair_u128_bytes tk_guessed_field_u128(tk_bytes rest, uint8_t separator, bool is_lines,
+                                                          tk_guess guess)
 {
-    tk_pair_u64_size found = tk_end_of(separator, trims, guess.has_return);
-    uint64_t ends = found.first;
-    size_t tail = found.second;
-    if (tk_is_short(guess)) {
-        tk_option_pair_u128_size found_2 = tk_number_with_end_u128(rest, guess.width, ends, tail);
+    tk_pair_u64_size found = tk_end_of(separator, is_lines, guess.has_return);
+    uint64_t end_word = found.first;
+    size_t end_len = found.second;
+    if (tk_fits_word(guess)) {
+        tk_option_pair_u128_size found_2 = tk_number_with_end_u128(rest, guess.width, end_word, end_len);
         if (!found_2.is_some) {
             return tk_none_pair_u128_bytes();
         }
         tk_u128 value = found_2.value.first;
         size_t count = found_2.value.second;
-        return tk_some_pair_u128_bytes(tk_new_pair_u128_bytes(value, tk_bytes_from(rest, count + tail)));
+        return tk_some_pair_u128_bytes(tk_new_pair_u128_bytes(value, tk_bytes_from(rest, count + end_len)));
     }
     tk_option_pair_u128_size found_2 = tk_number_of_digits_u128(rest, guess.width);
     if (!found_2.is_some) {
@@ -8274,10 +8296,10 @@ TK_INLINE tk_option_pair_u128_bytes tk_guessed_field_u128(tk_bytes rest, uint8_t
     }
     tk_u128 value = found_2.value.first;
     size_t count = found_2.value.second;
-    if (!tk_begins_with(tk_bytes_from(rest, count), ends, tail)) {
+    if (!tk_starts_with(tk_bytes_from(rest, count), end_word, end_len)) {
         return tk_none_pair_u128_bytes();
     }
-    return tk_some_pair_u128_bytes(tk_new_pair_u128_bytes(value, tk_bytes_from(rest, count + tail)));
+    return tk_some_pair_u128_bytes(tk_new_pair_u128_bytes(value, tk_bytes_from(rest, count + end_len)));
 }
 
 /* atoi_column/src/fields/read.rt:179 */
@@ -8285,7 +8307,7 @@ TK_INLINE tk_option_u128 tk_fields_guessed_number_u128(tk_fields *self, tk_guess
 {
     tk_bytes rest = self->rest;
     size_t index = self->index;
-    tk_option_pair_u128_bytes found = tk_guessed_field_u128(rest, self->separator, self->trims, guess);
+    tk_option_pair_u128_bytes found = tk_guessed_field_u128(rest, self->separator, self->is_lines, guess);
     if (!found.is_some) {
         return tk_none_u128();
     }
@@ -8304,7 +8326,7 @@ TK_INLINE tk_option_u128 tk_fields_next_number_u128(tk_fields *self, tk_guess gu
     if (rest.len == 0) {
         return tk_none_u128();
     }
-    tk_option_pair_u128_bytes found = tk_accepted_field_u128(rest, self->separator, self->trims, guess);
+    tk_option_pair_u128_bytes found = tk_accepted_field_u128(rest, self->separator, self->is_lines, guess);
     if (found.is_some) {
         tk_u128 value = found.value.first;
         tk_bytes following = found.value.second;
@@ -8313,7 +8335,7 @@ TK_INLINE tk_option_u128 tk_fields_next_number_u128(tk_fields *self, tk_guess gu
         return tk_some_u128(value);
     }
     size_t place = self->end - rest.len;
-    tk_pair_result_u128_field_error_bytes found_2 = tk_read_field_u128(rest, self->separator, self->trims, index,
+    tk_pair_result_u128_field_error_bytes found_2 = tk_read_field_u128(rest, self->separator, self->is_lines, index,
                                                                        place);
     tk_result_u128_field_error item = found_2.first;
     tk_bytes following = found_2.second;
@@ -8330,10 +8352,10 @@ TK_INLINE tk_option_u128 tk_fields_next_number_u128(tk_fields *self, tk_guess gu
 TK_INLINE size_t tk_fields_read_part_u128(bool guesses, tk_fields *self, tk_room_u128 values, size_t from, size_t most,
                                           tk_guess guess)
 {
-    /* The compiler knows that this is an end within `values`. */
+    /* The smaller one of both, so that rustc 1.95 tests no index below it. */
     size_t end = tk_size_min(values.len, from + most);
     /* While numbers are written to memory, these fields stay in registers. */
-    tk_fields fields = tk_new_fields(self->rest, self->separator, self->trims, self->index, self->end);
+    tk_fields fields = tk_new_fields(self->rest, self->separator, self->is_lines, self->index, self->end);
     size_t at = from;
     while (at < end) {
         tk_option_u128 next = guesses ? tk_fields_guessed_number_u128(&fields, guess)
@@ -8354,8 +8376,8 @@ TK_INLINE size_t tk_fields_read_part_u128(bool guesses, tk_fields *self, tk_room
 TK_INLINE size_t tk_fields_read_plain_u128(tk_fields *self, tk_room_u128 values, size_t from, size_t most,
                                            tk_guess guess)
 {
-    /* The compiler makes a loop for each case. */
-    if (guess.are_short) {
+    /* Each case has a loop of its own, since `read_part` is inlined. */
+    if (guess.mostly_one_digit) {
         return tk_fields_read_part_u128(false, self, values, from, most, tk_no_guess);
     }
     return tk_fields_read_part_u128(false, self, values, from, most, tk_long);
@@ -8368,7 +8390,7 @@ TK_HINTED tk_pair_bool_u128 tk_parts_u128(tk_u128 self)
 }
 
 /* atoi_column/src/guesses.rt:36 */
-TK_NOINLINE tk_guess tk_guess_after_u128(tk_slice_u128 numbers, size_t used, tk_bytes rest, bool trims)
+TK_NOINLINE tk_guess tk_guess_after_u128(tk_slice_u128 numbers, size_t used, tk_bytes rest, bool is_lines)
 {
     size_t count = tk_size_max(numbers.len, 1);
     size_t count_2 = 0;
@@ -8385,7 +8407,7 @@ TK_NOINLINE tk_guess tk_guess_after_u128(tk_slice_u128 numbers, size_t used, tk_
     size_t digits_and_ends = tk_size_saturating_sub(used, minuses);
     size_t each = digits_and_ends / count;
     size_t at_2 = tk_size_saturating_add(tk_sign_len(false, rest), tk_size_saturating_sub(each, 2));
-    bool has_return = trims
+    bool has_return = is_lines
         && (at_2 <= rest.len && tk_bytes_from(rest, at_2).len >= 1 && tk_bytes_from(rest, at_2).at[0] == '\r');
     size_t found = digits_and_ends % count;
     size_t width = found == 0 ? tk_size_saturating_sub(each, 1 + TK_CAST(size_t, has_return)) : 0;
@@ -8396,12 +8418,12 @@ TK_NOINLINE tk_guess tk_guess_after_u128(tk_slice_u128 numbers, size_t used, tk_
 TK_NOINLINE size_t tk_fields_read_guessed_u128(tk_fields *self, tk_room_u128 values, size_t from, tk_guess guess)
 {
     size_t room = values.len - from;
-    tk_guess plain = tk_new_guess(guess.width, false, guess.are_short, guess.have_minus);
-    /* The compiler makes a loop for each case. */
+    tk_guess plain = tk_new_guess(guess.width, false, guess.mostly_one_digit, guess.have_minus);
+    /* Each case has a loop of its own, since `read_part` is inlined. */
     if (guess.width <= 1) {
         return 0;
     }
-    if (tk_is_short(guess)) {
+    if (tk_fits_word(guess)) {
         return tk_fields_read_part_u128(true, self, values, from, room, guess);
     }
     if (2 <= guess.width && guess.width <= 16 && guess.has_return) {
@@ -8433,7 +8455,7 @@ TK_HINTED size_t tk_fields_read_u128(tk_fields *self, tk_room_u128 values)
         }
         size_t used = tk_size_saturating_sub(before, self->rest.len);
         guess = tk_guess_after_u128(tk_slice_u128_shared(tk_room_u128_between(values, from, read)), used, self->rest,
-                                    self->trims);
+                                    self->is_lines);
         size_t run = tk_fields_read_guessed_u128(self, values, read, guess);
         read += run;
         part = run < TK_PART ? tk_size_min(16 * part, TK_LONG_PART) : TK_PART;
