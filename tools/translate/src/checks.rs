@@ -5,10 +5,7 @@ use crate::parser::is_capital;
 use crate::resolve::{Definition, Namespace, Scopes};
 use crate::source::{Fault, Source, Span};
 use crate::std_names::{self, has};
-use crate::tree::{
-    Bound, Fields, Function, GenericKind, Implementation, Import, ImportKind, Item, ItemKind, Name,
-    Path,
-};
+use crate::tree::{Field, GenericKind, GenericParameter, Import, Item, ItemKind, Name, Path};
 use crate::visit::{self, Part, Role};
 use std::collections::BTreeSet;
 
@@ -48,14 +45,13 @@ impl Members {
         for is_trait in [false, true] {
             for module in &package.modules {
                 for item in &module.tree.items {
-                    let found = match &item.kind {
-                        ItemKind::Trait(item) if is_trait => &item.members,
-                        ItemKind::Implementation(item) if !is_trait && item.of.is_none() => {
-                            &item.members
-                        }
-                        _ => continue,
-                    };
-                    found.iter().try_for_each(|it| members.add(it, is_trait, &module.source))?;
+                    let is_own = matches!(item.kind, ItemKind::Implementation { of: None, .. });
+                    if is_own && !is_trait
+                        || matches!(item.kind, ItemKind::Trait { .. }) && is_trait
+                    {
+                        let mut found = item.members().iter();
+                        found.try_for_each(|it| members.add(it, is_trait, &module.source))?;
+                    }
                 }
             }
         }
@@ -63,9 +59,10 @@ impl Members {
     }
 
     fn add(&mut self, member: &Item, is_trait: bool, source: &Source) -> Result<(), Fault> {
-        let (name, is_method) = match &member.kind {
-            ItemKind::Function(Function { name, receiver, .. }) => (name, receiver.is_some()),
-            ItemKind::Constant(constant) => (&constant.name, false),
+        let Item { name, kind, .. } = member;
+        let is_method = match kind {
+            ItemKind::Function(function) => function.is_method(),
+            ItemKind::Constant { .. } => false,
             _ => return Ok(()),
         };
         self.all.insert(name.text.clone());
@@ -91,8 +88,8 @@ impl Names<'_> {
         match part {
             Part::Item(item) => return self.item(item),
             Part::Path(path, role) if !self.is_known(path, role) => return self.refuse(path.span),
-            Part::Method(call) if !self.is_known_method(&call.name.text) => {
-                return self.refuse(call.name.span);
+            Part::Method(name) if !self.is_known_method(&name.text) => {
+                return self.refuse(name.span);
             }
             Part::Local(name) if self.hides(&name.text) => return self.refuse(name.span),
             Part::Local(name) => self.locals.last_mut().into_iter().for_each(|scope| {
@@ -107,37 +104,36 @@ impl Names<'_> {
 
     fn item(&self, item: &Item) -> Result<(), Fault> {
         match &item.kind {
-            ItemKind::Use(import) => import.imports.iter().try_for_each(|it| self.import(it)),
-            ItemKind::Module(name) => self.declare(name, false),
-            ItemKind::Constant(item) => self.declare(&item.name, true),
-            ItemKind::Function(item) => self.declare(&item.name, false),
-            ItemKind::Alias(item) => self.declare(&item.name, true),
-            ItemKind::Trait(item) => self.declare(&item.name, true),
-            ItemKind::Struct(item) => {
-                self.declare(&item.name, true)?;
-                self.declare_fields(&item.fields)
+            ItemKind::Use(imports) => imports.iter().try_for_each(|it| self.import(it)),
+            ItemKind::Implementation { of, .. } => self.implementation(of, &item.generics),
+            ItemKind::Ghost | ItemKind::GhostUse { .. } => Ok(()),
+            ItemKind::Module | ItemKind::Function(_) => self.declare(&item.name, false),
+            ItemKind::Constant { .. } | ItemKind::Alias(_) | ItemKind::Trait { .. } => {
+                self.declare(&item.name, true)
             }
-            ItemKind::Enum(item) => {
+            ItemKind::Struct { fields, .. } => {
                 self.declare(&item.name, true)?;
-                item.variants.iter().try_for_each(|variant| {
+                self.check_fields(fields)
+            }
+            ItemKind::Enum(variants) => {
+                self.declare(&item.name, true)?;
+                variants.iter().try_for_each(|variant| {
                     self.check_case(&variant.name, true)?;
-                    self.declare_fields(&variant.fields)
+                    self.check_fields(&variant.fields)
                 })
             }
-            ItemKind::Implementation(item) => self.implementation(item),
-            ItemKind::Ghost(_) => Ok(()),
         }
     }
 
     // Refuses an import that hides what is built in, or gives a function another name: its conditions are found
     // by its own.
     fn import(&self, import: &Import) -> Result<(), Fault> {
-        let last = &import.path[import.path.len() - 1];
-        match &import.kind {
-            ImportKind::Alias(name) if import.path.len() > 1 => self.refuse(name.span),
-            ImportKind::Alias(name) => self.declare(name, false),
-            ImportKind::Name if std_names::is_built_in(&last.text) => self.refuse(last.span),
-            ImportKind::Name | ImportKind::All => Ok(()),
+        let last = import.last();
+        match &import.alias {
+            Some(name) if import.path.len() > 1 => self.refuse(name.span),
+            Some(name) => self.declare(name, false),
+            None if std_names::is_built_in(&last.text) => self.refuse(last.span),
+            None => Ok(()),
         }
     }
 
@@ -172,23 +168,24 @@ impl Names<'_> {
         if is_capital(&name.text) == is_large { Ok(()) } else { self.refuse(name.span) }
     }
 
-    fn declare_fields(&self, fields: &Fields) -> Result<(), Fault> {
-        let fields = if let Fields::Named(fields) = fields { fields.as_slice() } else { &[] };
+    fn check_fields(&self, fields: &[Field]) -> Result<(), Fault> {
         fields.iter().try_for_each(|field| self.check_case(&field.name, false))
     }
 
     // Refuses an `impl` of a trait of ours for types that users can make: each parameter must have a trait of
     // ours, which no type of theirs has.
-    fn implementation(&self, item: &Implementation) -> Result<(), Fault> {
+    fn implementation(
+        &self,
+        of: &Option<Path>,
+        generics: &[GenericParameter],
+    ) -> Result<(), Fault> {
         let is_own = |path: &Path| self.is_own_trait(&path.names());
-        let is_own_bound = |bound: &Bound| matches!(bound, Bound::Trait(path) if is_own(path));
-        let mut parameters = item.generics.parameters.iter();
-        let is_open = |kind: &GenericKind| match kind {
-            GenericKind::Type(bounds) => !bounds.iter().any(is_own_bound),
-            GenericKind::Lifetime | GenericKind::Constant(_) => false,
+        let is_open = |parameter: &&GenericParameter| match &parameter.kind {
+            GenericKind::Type(bounds) => !bounds.iter().any(is_own),
+            GenericKind::Constant(_) => false,
         };
-        match parameters.find(|parameter| is_open(&parameter.kind)) {
-            Some(open) if item.of.as_ref().is_some_and(is_own) => {
+        match generics.iter().find(is_open) {
+            Some(open) if of.as_ref().is_some_and(is_own) => {
                 let reason = "an `impl` of a trait of ours for types that users can make";
                 Err(self.source.fault(open.name.span, reason))
             }
@@ -199,7 +196,7 @@ impl Names<'_> {
     fn is_own_trait(&self, names: &[&str]) -> bool {
         let found = self.scopes.resolve(self.module, Namespace::Types, names);
         let item = found.and_then(|found| self.scopes.item(&found.definition));
-        item.is_some_and(|item| matches!(item.kind, ItemKind::Trait(_)))
+        item.is_some_and(|item| matches!(item.kind, ItemKind::Trait { .. }))
     }
 
     fn is_local(&self, name: &str) -> bool {

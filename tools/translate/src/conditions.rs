@@ -2,14 +2,10 @@
 //! becomes a test at the start of its function, or is refused.
 
 use crate::modules::{Module, Package};
-use crate::parser::is_model;
 use crate::resolve::{Definition, Namespace, Scopes};
 use crate::source::{Fault, Span};
 use crate::std_names::has;
-use crate::tree::{
-    Clause, ClauseKind, Fields, Function, Ghost, GhostKind, Implementation, Item, ItemKind, Struct,
-    TypeKind, Visibility,
-};
+use crate::tree::{Block, Field, Function, Item, ItemKind, Type, TypeKind, Visibility};
 use std::collections::{BTreeMap, BTreeSet};
 
 /// The tests of a module, by the offset of the body that each goes into.
@@ -86,29 +82,25 @@ struct Finder<'a> {
 impl Finder<'_> {
     fn item(&mut self, item: &Item) -> Result<(), Fault> {
         match &item.kind {
-            ItemKind::Function(function) if self.is_callable(item, function) => {
-                self.test(function, "")
+            ItemKind::Function(function) if self.is_callable(item) => {
+                self.test(item, function, "", function.body.as_ref())
             }
             // A test in a provided method would not be in those that replace it.
-            ItemKind::Trait(found) => {
-                let path = path_of(self.module, &found.name.text);
-                functions(&found.members).try_for_each(|(_, method)| {
-                    let declared = Function { body: None, ..method.clone() };
-                    self.test(&declared, &path)
+            ItemKind::Trait { .. } => {
+                let path = path_of(self.module, &item.name.text);
+                functions(item).try_for_each(|(it, method)| self.test(it, method, &path, None))
+            }
+            ItemKind::Implementation { target, .. } if item.is_model() => self.model(item, target),
+            ItemKind::Implementation { of, target, .. } => {
+                let path = self.target(target).map(|(path, _)| path).unwrap_or_default();
+                functions(item).try_for_each(|(it, method)| {
+                    let is_private = of.is_none() && it.visibility == Visibility::Private;
+                    self.test(it, method, if is_private { &path } else { "" }, method.body.as_ref())
                 })
             }
-            ItemKind::Implementation(found) if is_model(&item.kind) => self.model(found),
-            ItemKind::Implementation(found) => {
-                let path = self.target(found).map(|(path, _)| path).unwrap_or_default();
-                functions(&found.members).try_for_each(|(member, method)| {
-                    let is_private = found.of.is_none() && member.visibility == Visibility::Private;
-                    self.test(method, if is_private { &path } else { "" })
-                })
-            }
-            ItemKind::Struct(found) if !is_sealed(found) => match found.ghosts.first() {
+            ItemKind::Struct { fields, ghosts } if !is_sealed(fields) => match ghosts.first() {
                 Some(ghost) => {
-                    let reason = "a ghost item of a struct that users can write, or change";
-                    self.refuse(ghost.span, reason)
+                    self.refuse(*ghost, "a ghost item of a struct that users can write, or change")
                 }
                 None => Ok(()),
             },
@@ -121,42 +113,48 @@ impl Finder<'_> {
     }
 
     // Whether users may call a function of the module.
-    fn is_callable(&self, item: &Item, function: &Function) -> bool {
+    fn is_callable(&self, item: &Item) -> bool {
         // All public functions of the other crates are to be exported.
         let is_exported = !has(INNER_CRATES, self.module.crate_name)
-            || self.exported.contains(&function.name.text.as_str());
+            || self.exported.contains(&item.name.text.as_str());
         item.visibility == Visibility::Public && is_exported
     }
 
-    // The path of the type of an `impl`, and the type if the module declares it.
-    fn target(&self, found: &Implementation) -> Option<(String, Option<&Struct>)> {
-        let TypeKind::Path(path) = &found.target.kind else { return None };
-        let [segment] = path.segments.as_slice() else { return None };
-        let resolved = self.scopes.resolve(self.number, Namespace::Types, &[&segment.name.text])?;
+    // The path of the type of an `impl`, and whether it is a sealed struct of the module.
+    fn target(&self, target: &Type) -> Option<(String, bool)> {
+        let TypeKind::Path(path) = &target.kind else { return None };
+        let [name] = path.names()[..] else { return None };
+        let resolved = self.scopes.resolve(self.number, Namespace::Types, &[name])?;
         let Definition::Item { module, .. } = resolved.definition else { return None };
-        let item = match &self.scopes.item(&resolved.definition)?.kind {
-            ItemKind::Struct(item) if module == self.number => Some(item),
-            _ => None,
+        let is_sealed = match &self.scopes.item(&resolved.definition)?.kind {
+            ItemKind::Struct { fields, .. } => module == self.number && is_sealed(fields),
+            _ => false,
         };
-        Some((path_of(self.scopes.module(module), &segment.name.text), item))
+        Some((path_of(self.scopes.module(module), name), is_sealed))
     }
 
     // Puts what tests the conditions of a function into its body, if it has one. The path of its owner says which
     // conditions need no test.
-    fn test(&mut self, function: &Function, owner: &str) -> Result<(), Fault> {
-        let path = format!("{owner}::{}", function.name.text);
-        for clause in requires(function) {
+    fn test(
+        &mut self,
+        item: &Item,
+        function: &Function,
+        owner: &str,
+        body: Option<&Block>,
+    ) -> Result<(), Fault> {
+        let path = format!("{owner}::{}", item.name.text);
+        for clause in function.clauses.iter().filter(|clause| clause.is_condition) {
             let text = self.module.source.at(clause.text);
             let words: Vec<&str> = text.split_whitespace().collect();
             if UNTESTED.contains(&(&path, &words.join(" "))) {
                 continue;
             }
-            let text = self.with_paths(function, text);
+            let text = self.with_paths(item, function, text);
             let known = CONDITIONS.iter().find(|known| {
                 let mut parameters = known.parameters.iter();
                 known.clause == text && parameters.all(|it| self.has_parameter(function, it))
             });
-            let (Some(known), Some(body)) = (known, &function.body) else {
+            let (Some(known), Some(body)) = (known, body) else {
                 return self.refuse(clause.span, "a condition that nothing tests in Rust");
             };
             self.tests.entry(body.span.start).or_default().push_str(known.test);
@@ -172,14 +170,12 @@ impl Finder<'_> {
     }
 
     // The clause with the path of each name that a `ghost use` imports and no parameter hides.
-    fn with_paths(&self, function: &Function, clause: &str) -> String {
-        let generics =
-            function.generics.parameters.iter().map(|parameter| parameter.name.text.as_str());
+    fn with_paths(&self, item: &Item, function: &Function, clause: &str) -> String {
+        let generics = item.generics.iter().map(|parameter| parameter.name.text.as_str());
         let parameters = function.parameters.iter().map(|parameter| parameter.name.text.as_str());
         let hidden: Vec<&str> = generics.chain(parameters).collect();
         let with_path = |word: &str| {
-            let modules = self.imports().filter(|(_, name)| name.trim_matches('◌') == word);
-            let modules: BTreeSet<&str> = modules.map(|(module, _)| module).collect();
+            let modules = self.modules_with(word);
             match modules.first() {
                 // A name that is imported from two modules is that of neither.
                 Some(module) if modules.len() == 1 && !hidden.contains(&word) => {
@@ -192,33 +188,32 @@ impl Finder<'_> {
         words.split_whitespace().map(with_path).collect::<Vec<_>>().join(" ")
     }
 
-    // The modules and names that all `ghost use` lines of the module import.
-    fn imports(&self) -> impl Iterator<Item = (&str, &str)> {
+    // The modules of which some `ghost use` line of the module imports this name.
+    fn modules_with(&self, word: &str) -> BTreeSet<&str> {
         let items = self.module.tree.items.iter();
-        let items = items.flat_map(|item| std::iter::once(item).chain(members_of(item)));
-        items.flat_map(|item| match &item.kind {
-            ItemKind::Ghost(Ghost { kind: GhostKind::Import { module, names }, .. }) => {
-                names.iter().map(|name| (module.as_str(), name.as_str())).collect()
+        let items = items.flat_map(|item| std::iter::once(item).chain(item.members()));
+        let modules = items.filter_map(|item| match &item.kind {
+            ItemKind::GhostUse { module, names } => {
+                names.iter().any(|name| name.trim_matches('◌') == word).then_some(module.as_str())
             }
-            _ => Vec::new(),
-        })
+            _ => None,
+        });
+        modules.collect()
     }
 
     // Refuses an `impl` of `Model` with other items than ghost items, and an invariant of what users can write,
     // or change.
-    fn model(&self, found: &Implementation) -> Result<(), Fault> {
-        let is_sealed = matches!(self.target(found), Some((_, Some(item))) if is_sealed(item));
-        for member in &found.members {
+    fn model(&self, item: &Item, target: &Type) -> Result<(), Fault> {
+        let is_sealed = self.target(target).is_some_and(|(_, is_sealed)| is_sealed);
+        for member in item.members() {
             match &member.kind {
-                ItemKind::Ghost(Ghost { kind: GhostKind::Defined(name), .. })
-                    if name.text == "invariant" && !is_sealed =>
-                {
-                    let target = self.module.source.at(found.target.span);
+                ItemKind::Ghost if member.name.text == "invariant" && !is_sealed => {
+                    let target = self.module.source.at(target.span);
                     let reason =
                         format!("an invariant of `{target}`, whose fields are not all private");
                     return self.refuse(member.span, reason);
                 }
-                ItemKind::Ghost(_) => {}
+                ItemKind::Ghost | ItemKind::GhostUse { .. } => {}
                 _ => return self.refuse(member.span, "an item of `Model` that is not ghost"),
             }
         }
@@ -231,31 +226,11 @@ fn path_of(module: &Module, name: &str) -> String {
     [&[module.crate_name.to_string()], &*module.path, &[name.to_string()]].concat().join("::")
 }
 
-fn members_of(item: &Item) -> &[Item] {
-    match &item.kind {
-        ItemKind::Trait(item) => &item.members,
-        ItemKind::Implementation(item) => &item.members,
-        _ => &[],
-    }
-}
-
-fn functions(members: &[Item]) -> impl Iterator<Item = (&Item, &Function)> {
-    members.iter().filter_map(|member| match &member.kind {
-        ItemKind::Function(function) => Some((member, function)),
-        _ => None,
-    })
-}
-
-fn requires(function: &Function) -> impl Iterator<Item = &Clause> {
-    function.clauses.iter().filter(|clause| clause.kind == ClauseKind::Requires)
+fn functions(item: &Item) -> impl Iterator<Item = (&Item, &Function)> {
+    item.members().iter().filter_map(|member| Some((member, member.function()?)))
 }
 
 // Whether users can neither write nor change a struct, since its fields are private.
-fn is_sealed(item: &Struct) -> bool {
-    match &item.fields {
-        Fields::Unit => false,
-        Fields::Tuple(fields) | Fields::Named(fields) => {
-            !fields.is_empty() && fields.iter().all(|field| field.visibility != Visibility::Public)
-        }
-    }
+fn is_sealed(fields: &[Field]) -> bool {
+    !fields.is_empty() && fields.iter().all(|field| field.visibility != Visibility::Public)
 }

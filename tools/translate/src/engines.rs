@@ -17,7 +17,7 @@ const WITH_LANES: &str = "vectors";
 
 /// Returns the file that stands in place of a module of a crate, if one does.
 pub fn twin(crate_name: &str, module: &[String]) -> Option<PathBuf> {
-    let is_named = texts(module) == ["default_engine"];
+    let is_named = matches!(module, [only] if only == "default_engine");
     is_named.then(|| Path::new(TWINS).join(crate_name).with_extension("rs"))
 }
 
@@ -41,15 +41,10 @@ pub fn needs_lanes(crate_name: &str, item: &Item) -> bool {
 // Whether an item declares one of these modules of its crate, or imports from them alone.
 fn is_of_modules(item: &Item, modules: &[&str]) -> bool {
     match &item.kind {
-        ItemKind::Module(name) => modules.contains(&name.text.as_str()),
-        ItemKind::Use(import) => import.imports.iter().all(|import| {
-            let mut path = import.path.iter().map(|name| name.text.as_str());
-            path.next() == Some("crate") && path.next().is_some_and(|name| modules.contains(&name))
+        ItemKind::Module => modules.contains(&item.name.text.as_str()),
+        ItemKind::Use(imports) => imports.iter().all(|import| {
+            matches!(import.names()[..], ["crate", module, ..] if modules.contains(&module))
         }),
         _ => false,
     }
-}
-
-fn texts(names: &[String]) -> Vec<&str> {
-    names.iter().map(String::as_str).collect()
 }

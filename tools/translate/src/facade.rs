@@ -9,7 +9,7 @@ use crate::resolve::{Definition, Namespace, Scopes};
 use crate::source::{Fault, Source, Span};
 use crate::std_names::has;
 use crate::token::{Kind, Token};
-use crate::tree::{Bound, Import, ImportKind, ItemKind, Name, Trait};
+use crate::tree::{Import, ItemKind, Name, Path};
 
 // The attributes that the facade may have.
 const ATTRIBUTES: &str = "allow cfg cfg_attr no_std rustfmt warn";
@@ -126,28 +126,27 @@ impl Facade<'_> {
 
     // Reads what follows `pub use`.
     fn export(&mut self, start: Span) -> Result<(), Fault> {
-        for import in self.parser.use_()?.imports {
+        for import in self.parser.imports()? {
             match exported(&import) {
                 Some(export) => self.exports.push(export),
-                None if import.path.iter().any(|name| name.text == "proved") => {
+                None if import.names().contains(&"proved") => {
                     return Err(self.source.fault(start, "this form of export is not known here"));
                 }
                 None => {}
             }
         }
-        Ok(())
+        self.parser.expect(";").map(|_| ())
     }
 }
 
 // Returns what a path of `use` exports of the proved crates, if its form is known.
 fn exported(import: &Import) -> Option<Export> {
-    let names: Vec<&str> = import.path.iter().map(|name| name.text.as_str()).collect();
-    let ["proved", owner, _] = names.strip_prefix(&["crate"]).unwrap_or(&names) else {
+    let (["proved", owner, _] | ["crate", "proved", owner, _]) = import.names()[..] else {
         return None;
     };
-    let crate_name = CRATES.into_iter().find(|known| known == owner)?;
-    let name = import.path.last().filter(|_| matches!(import.kind, ImportKind::Name))?;
-    Some(Export { crate_name, name: name.clone() })
+    let crate_name = CRATES.into_iter().find(|known| *known == owner)?;
+    let is_plain = import.alias.is_none() && !import.is_all;
+    is_plain.then(|| Export { crate_name, name: import.last().clone() })
 }
 
 /// Refuses an export that is no function, struct, `enum` or sealed trait, or not only that.
@@ -168,18 +167,17 @@ pub fn check(source: &Source, exports: &[Export], scopes: &Scopes) -> Result<(),
 
 fn is_item(definition: &Definition, exports: &[Export], scopes: &Scopes) -> bool {
     match scopes.item(definition).map(|item| &item.kind) {
-        Some(ItemKind::Function(_) | ItemKind::Struct(_) | ItemKind::Enum(_)) => true,
-        Some(ItemKind::Trait(item)) => is_sealed(definition, item, exports, scopes),
+        Some(ItemKind::Function(_) | ItemKind::Struct { .. } | ItemKind::Enum(_)) => true,
+        Some(ItemKind::Trait { bounds, .. }) => is_sealed(definition, bounds, exports, scopes),
         _ => false,
     }
 }
 
 // Whether users cannot implement a trait: it has a supertrait of ours that is not exported, so that no path of
 // theirs names it.
-fn is_sealed(definition: &Definition, item: &Trait, exports: &[Export], scopes: &Scopes) -> bool {
-    let Definition::Item { module, .. } = definition else { return false };
-    let is_hidden = |bound: &Bound| {
-        let Bound::Trait(path) = bound else { return false };
+fn is_sealed(of: &Definition, bounds: &[Path], exports: &[Export], scopes: &Scopes) -> bool {
+    let Definition::Item { module, .. } = of else { return false };
+    let is_hidden = |path: &Path| {
         let Some(found) = scopes.resolve(*module, Namespace::Types, &path.names()) else {
             return false;
         };
@@ -189,7 +187,7 @@ fn is_sealed(definition: &Definition, item: &Trait, exports: &[Export], scopes: 
         };
         scopes.item(&found.definition).is_some() && !exports.iter().any(is_exported)
     };
-    item.bounds.iter().any(is_hidden)
+    bounds.iter().any(is_hidden)
 }
 
 /// Refuses a hand-written file that is not the facade if it names the proved crates: it could export what is

@@ -69,11 +69,12 @@ impl Package {
         let mut declared = BTreeSet::new();
         for module in &self.modules {
             for item in &module.tree.items {
-                let ItemKind::Module(name) = &item.kind else { continue };
-                let Some(number) = self.below(module, &name.text) else {
-                    return Err(module.source.fault(name.span, "a module without a file"));
-                };
-                declared.insert(number);
+                if let ItemKind::Module = item.kind {
+                    let Some(number) = self.below(module, &item.name.text) else {
+                        return Err(module.source.fault(item.name.span, "a module without a file"));
+                    };
+                    declared.insert(number);
+                }
             }
         }
         for (number, module) in self.modules.iter().enumerate() {

@@ -3,7 +3,7 @@
 use crate::modules::{CRATES, Module, Package};
 use crate::source::Fault;
 use crate::std_names;
-use crate::tree::{Fields, Import, ImportKind, Item, ItemKind, Name};
+use crate::tree::{Import, Item, ItemKind, Name};
 use std::collections::BTreeMap;
 
 /// Types, traits and modules have other names than functions, constants and variants.
@@ -74,27 +74,28 @@ impl<'a> Scopes<'a> {
     }
 
     fn all_imports(&self) -> Vec<(usize, &'a Import)> {
-        let uses = self.package.modules.iter().enumerate().flat_map(|(number, module)| {
-            module.tree.items.iter().filter_map(move |item| match &item.kind {
-                ItemKind::Use(import) => Some((number, import)),
-                _ => None,
-            })
-        });
-        uses.flat_map(|(number, import)| import.imports.iter().map(move |it| (number, it)))
-            .collect()
+        let mut found = Vec::new();
+        for (number, module) in self.package.modules.iter().enumerate() {
+            for item in &module.tree.items {
+                if let ItemKind::Use(imports) = &item.kind {
+                    found.extend(imports.iter().map(|import| (number, import)));
+                }
+            }
+        }
+        found
     }
 
     // Adds what is imported to the names of a module. Returns whether it was found.
     fn add_import(&mut self, module: usize, import: &Import) -> Result<bool, Fault> {
-        let (names, last) = (import.names(), &import.path[import.path.len() - 1]);
+        let names = import.names();
         let mut found = Vec::new();
-        if let ImportKind::All = import.kind {
+        if import.is_all {
             for name in std_names::names_of(&names.join("::")) {
                 let definition = foreign(&[&*names, &[name]].concat());
                 found.push(((Namespace::Types, name.to_string()), definition));
             }
         } else {
-            let name = if let ImportKind::Alias(name) = &import.kind { name } else { last };
+            let name = import.alias.as_ref().unwrap_or(import.last());
             for namespace in [Namespace::Types, Namespace::Values] {
                 let definition = self.imported(module, namespace, &names);
                 found.extend(definition.map(|it| ((namespace, name.text.clone()), it)));
@@ -103,7 +104,7 @@ impl<'a> Scopes<'a> {
         let is_found = !found.is_empty();
         for (key, definition) in found {
             if self.modules[module].insert(key, definition).is_some() {
-                return Err(second_item(&self.package.modules[module], last));
+                return Err(second_item(&self.package.modules[module], import.last()));
             }
         }
         Ok(is_found)
@@ -193,14 +194,16 @@ impl<'a> Scopes<'a> {
 
     // The number of a variant, if the item is an `enum` that has it.
     fn variant(&self, module: usize, item: usize, name: &str) -> Option<usize> {
-        let ItemKind::Enum(item) = &self.module(module).tree.items[item].kind else { return None };
-        item.variants.iter().position(|variant| variant.name.text == name)
+        match &self.module(module).tree.items[item].kind {
+            ItemKind::Enum(variants) => variants.iter().position(|it| it.name.text == name),
+            _ => None,
+        }
     }
 }
 
 // Says that a path of a `use` leads nowhere.
 fn not_there(module: &Module, import: &Import) -> Fault {
-    let span = import.path[0].span.to(import.path[import.path.len() - 1].span);
+    let span = import.path[0].span.to(import.last().span);
     module.source.fault(span, format!("`{}` is not known here", import.names().join("::")))
 }
 
@@ -215,13 +218,12 @@ fn foreign(names: &[&str]) -> Definition {
 // Returns what the items of a module declare.
 fn own_items(package: &Package, number: usize, module: &Module) -> Result<Scope, Fault> {
     let mut scope = Scope::new();
-    for (item, kind) in module.tree.items.iter().map(|item| &item.kind).enumerate() {
-        let Some((name, namespaces)) = declared(kind) else { continue };
+    for (at, Item { name, kind, .. }) in module.tree.items.iter().enumerate() {
         let definition = match kind {
-            ItemKind::Module(name) => package.below(module, &name.text).map(Definition::Module),
-            _ => Some(Definition::Item { module: number, item }),
+            ItemKind::Module => package.below(module, &name.text).map(Definition::Module),
+            _ => Some(Definition::Item { module: number, item: at }),
         };
-        for namespace in namespaces {
+        for namespace in namespaces(kind) {
             let key = (*namespace, name.text.clone());
             if definition.clone().and_then(|definition| scope.insert(key, definition)).is_some() {
                 return Err(second_item(module, name));
@@ -231,20 +233,14 @@ fn own_items(package: &Package, number: usize, module: &Module) -> Result<Scope,
     Ok(scope)
 }
 
-/// Returns the name that an item of a module declares, and where.
-pub fn declared(kind: &ItemKind) -> Option<(&Name, &'static [Namespace])> {
+// Returns where an item of a module declares its name. That of a struct without fields is also a value.
+fn namespaces(kind: &ItemKind) -> &'static [Namespace] {
     use Namespace::{Types, Values};
     match kind {
-        ItemKind::Module(name) => Some((name, &[Types])),
-        ItemKind::Constant(constant) => Some((&constant.name, &[Values])),
-        ItemKind::Function(function) => Some((&function.name, &[Values])),
-        ItemKind::Alias(alias) => Some((&alias.name, &[Types])),
-        ItemKind::Enum(item) => Some((&item.name, &[Types])),
-        ItemKind::Trait(item) => Some((&item.name, &[Types])),
-        ItemKind::Struct(item) => match item.fields {
-            Fields::Named(_) => Some((&item.name, &[Types])),
-            Fields::Unit | Fields::Tuple(_) => Some((&item.name, &[Types, Values])),
-        },
-        ItemKind::Use(_) | ItemKind::Implementation(_) | ItemKind::Ghost(_) => None,
+        ItemKind::Struct { fields, .. } if fields.is_empty() => &[Types, Values],
+        ItemKind::Module | ItemKind::Struct { .. } | ItemKind::Enum(_) => &[Types],
+        ItemKind::Alias(_) | ItemKind::Trait { .. } => &[Types],
+        ItemKind::Constant { .. } | ItemKind::Function(_) => &[Values],
+        _ => &[],
     }
 }

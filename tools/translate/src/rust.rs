@@ -5,10 +5,10 @@
 use crate::conditions::Tests;
 use crate::engines;
 use crate::modules::{CRATES, Module};
-use crate::parser::is_model;
+use crate::parser::WRITER;
 use crate::source::{Fault, Span};
 use crate::tree::{
-    Attribute, AttributeKind, Function, GenericArgument, Inline, Item, ItemKind, Name, Path, Use,
+    Attribute, AttributeKind, Function, GenericArgument, Import, Item, ItemKind, Name, Path,
 };
 use crate::visit::{self, Part};
 
@@ -31,17 +31,13 @@ struct Printer<'a> {
 impl Printer<'_> {
     fn run(&mut self) -> Result<(), Fault> {
         let Module { tree, left_out, crate_name, path, .. } = self.module;
-        for attribute in &tree.attributes {
-            self.comment(attribute.span)?;
-        }
-        for item in left_out {
-            self.comment(item.span)?;
-        }
+        let left_out = left_out.iter().map(|item| &item.span);
+        tree.hints.iter().chain(left_out).try_for_each(|span| self.comment(*span))?;
         for item in &tree.items {
             if path.is_empty() && engines::needs_lanes(crate_name, item) {
                 self.insert(item.span.start, "#[cfg(feature = \"lanes\")] ");
             }
-            if is_model(&item.kind) {
+            if item.is_model() {
                 self.comment(item.span)?;
                 continue;
             }
@@ -49,7 +45,7 @@ impl Printer<'_> {
                 match part {
                     Part::Item(item) => self.item(item)?,
                     Part::Path(path, _) => self.path(path),
-                    Part::Method(_) | Part::Local(_) | Part::Enter | Part::Leave => {}
+                    _ => {}
                 }
             }
         }
@@ -99,7 +95,7 @@ impl Printer<'_> {
         match &attribute.kind {
             AttributeKind::Tactic => self.comment(attribute.span),
             AttributeKind::Derive(names) => self.derive(attribute.span, names),
-            AttributeKind::Inline(Inline::Always) if is_compiled_once(item) => {
+            AttributeKind::AlwaysInline if is_compiled_once(item) => {
                 let text = "#[cfg_attr(not(debug_assertions), inline(always))]";
                 self.replace(attribute.span, text);
                 Ok(())
@@ -109,9 +105,8 @@ impl Printer<'_> {
     }
 
     // Leaves `Drop` out, which Rust does not derive.
-    fn derive(&mut self, span: Span, names: &[Name]) -> Result<(), Fault> {
-        let kept: Vec<&str> = names.iter().map(|name| name.text.as_str()).collect();
-        let kept: Vec<&str> = kept.into_iter().filter(|name| *name != "Drop").collect();
+    fn derive(&mut self, span: Span, names: &[String]) -> Result<(), Fault> {
+        let kept: Vec<&str> = names.iter().map(String::as_str).filter(|it| *it != "Drop").collect();
         if kept.is_empty() {
             return self.comment(span);
         }
@@ -121,41 +116,30 @@ impl Printer<'_> {
         Ok(())
     }
 
-    fn import(&mut self, import: &Use) -> Result<(), Fault> {
-        let second = import.imports.first().and_then(|first| first.path.get(1));
-        match import.head.text.as_str() {
-            "std" if second.is_some_and(|name| name.text == "simd") => {
-                self.replace(import.head.span, "crate");
-            }
-            "std" => self.replace(import.head.span, "core"),
-            _ => self.head(&import.head),
+    fn imports(&mut self, imports: &[Import]) -> Result<(), Fault> {
+        let Some(first) = imports.first() else { return Ok(()) };
+        match first.names()[..] {
+            ["std", "simd", ..] => self.replace(first.path[0].span, "crate"),
+            ["std", ..] => self.replace(first.path[0].span, "core"),
+            _ => self.head(&first.path[0]),
         }
-        for import in &import.imports {
-            let name = import.path.last().filter(|name| name.text == "Model");
-            match (name, import.comma) {
-                (None, _) => {}
-                (Some(name), Some(comma)) => self.replace(name.span.to(comma), ""),
-                (Some(name), None) => {
-                    let reason = "`Model` is known only in `use std::marker::{Model, ..}`";
-                    return Err(self.module.source.fault(name.span, reason));
-                }
+        let source = &self.module.source;
+        for name in imports.iter().map(Import::last).filter(|name| name.text == "Model") {
+            if !source.text[name.span.end..].starts_with(',') {
+                let reason = "`Model` is known only in `use std::marker::{Model, ..}`";
+                return Err(source.fault(name.span, reason));
             }
+            self.replace(Span { end: name.span.end + 1, ..name.span }, "");
         }
         Ok(())
     }
 
     // Replaces the first name of a path by its path in the package.
     fn head(&mut self, name: &Name) {
-        match name.text.as_str() {
-            "crate" => {
-                let text = format!("crate::proved::{}", self.module.crate_name);
-                self.replace(name.span, &text);
-            }
-            text if CRATES.contains(&text) => {
-                let text = format!("crate::proved::{text}");
-                self.replace(name.span, &text);
-            }
-            _ => {}
+        let is_own = name.text == "crate";
+        let owner = if is_own { self.module.crate_name } else { &name.text };
+        if is_own || CRATES.contains(&owner) {
+            self.replace(name.span, &format!("crate::proved::{owner}"));
         }
     }
 
@@ -164,12 +148,16 @@ impl Printer<'_> {
             self.comment(clause.span)?;
         }
         // In Rattle, a formatter has its writer as a type parameter.
-        if let ("fmt", Some(span)) = (function.name.text.as_str(), function.generics.span) {
-            self.replace(span, "");
+        if item.name.text == "fmt" {
+            let start = item.name.span.end;
+            self.replace(Span { start, end: start + WRITER.len() }, "");
         }
         let Some(body) = &function.body else { return Ok(()) };
         // rustc compiles crates apart, and inlines only what has a hint across them.
-        let is_hint = |it: &Attribute| matches!(it.kind, AttributeKind::Inline(_));
+        let is_hint = |it: &Attribute| {
+            use AttributeKind::{AlwaysInline, Inline, NeverInline};
+            matches!(it.kind, Inline | AlwaysInline | NeverInline)
+        };
         if !item.notes.attributes.iter().any(is_hint) {
             self.insert(item.span.start, "#[inline] ");
         }
@@ -184,11 +172,11 @@ impl Printer<'_> {
             self.attribute(attribute, item)?;
         }
         match &item.kind {
-            ItemKind::Ghost(ghost) => self.comment(ghost.span),
-            ItemKind::Use(import) => self.import(import),
+            ItemKind::Ghost | ItemKind::GhostUse { .. } => self.comment(item.span),
+            ItemKind::Use(imports) => self.imports(imports),
             ItemKind::Function(function) => self.function(item, function),
-            ItemKind::Struct(item) => {
-                item.ghosts.iter().try_for_each(|ghost| self.comment(ghost.span))
+            ItemKind::Struct { ghosts, .. } => {
+                ghosts.iter().try_for_each(|ghost| self.comment(*ghost))
             }
             _ => Ok(()),
         }
@@ -198,9 +186,11 @@ impl Printer<'_> {
         if let [first, _, ..] = path.segments.as_slice() {
             self.head(&first.name);
         }
-        let last = path.segments.last().filter(|last| last.name.text == "Formatter");
-        if let Some([GenericArgument::Type(writer)]) = last.map(|last| last.arguments.as_slice()) {
-            self.replace(writer.span, "'_");
+        match path.last().arguments[..] {
+            [GenericArgument::Type(ref writer)] if path.last().name.text == "Formatter" => {
+                self.replace(writer.span, "'_");
+            }
+            _ => {}
         }
     }
 }
@@ -208,7 +198,7 @@ impl Printer<'_> {
 // Whether an item is a method of the ten functions. Without a hint, rustc compiles it in this package, which is
 // optimized where programs ask for that, and not in a program's debug build.
 fn is_compiled_once(item: &Item) -> bool {
-    matches!(&item.kind, ItemKind::Function(it) if it.name.text.starts_with("atoi_simd_parse"))
+    item.name.text.starts_with("atoi_simd_parse")
 }
 
 // Makes a comment of each line. All but the first are indented.

@@ -1,25 +1,22 @@
-//! The trees of a module: what its grammar takes, and nothing else. Each node has its part of the source.
+//! The trees of a module: what its grammar takes, and nothing else. Lifetimes are not in them, as nothing depends on
+//! one that Rust does not check.
 
 use crate::source::Span;
 
-/// A module.
-#[derive(Clone, Debug)]
+/// A module, and the parts of the hints to the prover for all of it.
+#[derive(Clone, Debug, Default)]
 pub struct Tree {
-    /// The lines that document the module.
-    pub docs: Vec<Span>,
-    /// The attributes of the whole module, which are hints to the prover.
-    pub attributes: Vec<Attribute>,
+    pub hints: Vec<Span>,
     pub items: Vec<Item>,
 }
 
-/// A name, without its quote if it is a lifetime.
 #[derive(Clone, Debug)]
 pub struct Name {
     pub text: String,
     pub span: Span,
 }
 
-/// What stands before an item, a field or a variant.
+/// What stands before an item.
 #[derive(Clone, Debug, Default)]
 pub struct Notes {
     pub docs: Vec<Span>,
@@ -33,31 +30,29 @@ pub struct Attribute {
     pub kind: AttributeKind,
 }
 
-#[derive(Clone, Debug)]
+#[derive(Clone, Debug, PartialEq, Eq)]
 pub enum AttributeKind {
-    Inline(Inline),
-    /// `#[cold]`.
+    Inline,
+    AlwaysInline,
+    NeverInline,
     Cold,
     /// `#[doc(hidden)]`.
     Hidden,
-    Derive(Vec<Name>),
+    /// The names of what is derived.
+    Derive(Vec<String>),
     /// A hint to the prover.
     Tactic,
 }
 
-#[derive(Clone, Copy, Debug, PartialEq, Eq)]
-pub enum Inline {
-    Plain,
-    Always,
-    Never,
-}
-
-/// An item of a module, a trait or an `impl`. Its part begins with its visibility.
+/// An item of a module, a trait or an `impl`. Its part begins with its visibility. A `use`, an `impl` and a
+/// `ghost use` have an empty name.
 #[derive(Clone, Debug)]
 pub struct Item {
     pub span: Span,
     pub notes: Notes,
     pub visibility: Visibility,
+    pub name: Name,
+    pub generics: Vec<GenericParameter>,
     pub kind: ItemKind,
 }
 
@@ -72,143 +67,74 @@ pub enum Visibility {
 /// Traits hold ghost items, constants and functions; an `impl` also holds names of types.
 #[derive(Clone, Debug)]
 pub enum ItemKind {
-    Use(Use),
+    /// `use PATHS;`, all of which begin with the same name.
+    Use(Vec<Import>),
     /// `mod NAME;`.
-    Module(Name),
-    Constant(Constant),
-    Alias(Alias),
-    Struct(Struct),
-    Enum(Enum),
-    Trait(Trait),
-    Implementation(Implementation),
+    Module,
+    /// A constant or a static. It has no value in a trait.
+    Constant {
+        annotation: Type,
+        value: Option<Expression>,
+    },
+    /// Another name of a type, or an associated type of an `impl`.
+    Alias(Type),
+    /// A struct, and the parts of its ghost items.
+    Struct {
+        fields: Vec<Field>,
+        ghosts: Vec<Span>,
+    },
+    Enum(Vec<Variant>),
+    /// A trait with its supertraits.
+    Trait {
+        bounds: Vec<Path>,
+        members: Vec<Item>,
+    },
+    /// `impl OF for TARGET`, or `impl TARGET`.
+    Implementation {
+        of: Option<Path>,
+        target: Type,
+        members: Vec<Item>,
+    },
     Function(Function),
-    Ghost(Ghost),
+    /// An item of a trait or an `impl` that only proofs read.
+    Ghost,
+    /// `ghost use MODULE.{NAMES};`.
+    GhostUse {
+        module: String,
+        names: Vec<String>,
+    },
 }
 
-/// `use HEAD::..;`. All its paths begin with `head`.
-#[derive(Clone, Debug)]
-pub struct Use {
-    pub head: Name,
-    pub imports: Vec<Import>,
-}
-
-/// One path of a `use`, of which the last name is imported.
+/// One path of a `use`, of which the last name is imported, by another name, or as all that is in it.
 #[derive(Clone, Debug)]
 pub struct Import {
     pub path: Vec<Name>,
-    pub kind: ImportKind,
-    /// The comma behind it.
-    pub comma: Option<Span>,
+    pub alias: Option<Name>,
+    pub is_all: bool,
 }
 
-impl Import {
-    /// Returns the names of its path.
-    pub fn names(&self) -> Vec<&str> {
-        self.path.iter().map(|name| name.text.as_str()).collect()
-    }
-}
-
-#[derive(Clone, Debug)]
-pub enum ImportKind {
-    Name,
-    /// By another name.
-    Alias(Name),
-    /// All names of the path.
-    All,
-}
-
-/// A constant or a static. It has no value in a trait.
-#[derive(Clone, Debug)]
-pub struct Constant {
-    pub name: Name,
-    pub is_static: bool,
-    pub annotation: Type,
-    pub value: Option<Expression>,
-}
-
-/// Another name of a type, or an associated type of an `impl`.
-#[derive(Clone, Debug)]
-pub struct Alias {
-    pub name: Name,
-    pub generics: Generics,
-    pub target: Type,
-}
-
-#[derive(Clone, Debug)]
-pub struct Struct {
-    pub name: Name,
-    pub generics: Generics,
-    pub fields: Fields,
-    pub ghosts: Vec<Ghost>,
-}
-
-#[derive(Clone, Debug)]
-pub enum Fields {
-    Unit,
-    /// Fields of a variant without names. They are called `0`, `1` and so on.
-    Tuple(Vec<Field>),
-    Named(Vec<Field>),
-}
-
+/// A field. Those of a variant without names are called `0`, `1` and so on.
 #[derive(Clone, Debug)]
 pub struct Field {
-    pub span: Span,
-    pub notes: Notes,
     pub visibility: Visibility,
     pub name: Name,
     pub annotation: Type,
 }
 
 #[derive(Clone, Debug)]
-pub struct Enum {
-    pub name: Name,
-    pub generics: Generics,
-    pub variants: Vec<Variant>,
-}
-
-#[derive(Clone, Debug)]
 pub struct Variant {
-    pub span: Span,
-    pub notes: Notes,
     pub name: Name,
-    pub fields: Fields,
-}
-
-#[derive(Clone, Debug)]
-pub struct Trait {
-    pub name: Name,
-    pub generics: Generics,
-    /// The supertraits.
-    pub bounds: Vec<Bound>,
-    pub members: Vec<Item>,
-}
-
-/// `impl TRAIT for TARGET`, or `impl TARGET`.
-#[derive(Clone, Debug)]
-pub struct Implementation {
-    pub generics: Generics,
-    pub of: Option<Path>,
-    pub target: Type,
-    pub members: Vec<Item>,
+    pub fields: Vec<Field>,
 }
 
 #[derive(Clone, Debug)]
 pub struct Function {
-    pub name: Name,
-    pub generics: Generics,
-    pub receiver: Option<Receiver>,
+    /// A receiver is a parameter `self` of the type `Self` or a reference to it.
     pub parameters: Vec<Parameter>,
     /// The type of the result, if it is not `()`.
     pub output: Option<Type>,
     pub clauses: Vec<Clause>,
     pub body: Option<Block>,
-}
-
-/// `self`, `mut self`, `&self` or `&mut self`.
-#[derive(Clone, Debug)]
-pub struct Receiver {
-    pub is_reference: bool,
-    pub is_mutable: bool,
 }
 
 #[derive(Clone, Debug)]
@@ -218,46 +144,13 @@ pub struct Parameter {
     pub annotation: Type,
 }
 
-/// A clause of a contract.
+/// A clause of a contract: all of it from its keyword on, and what is between its braces.
 #[derive(Clone, Debug)]
 pub struct Clause {
-    /// All of it, from its keyword on.
     pub span: Span,
-    pub kind: ClauseKind,
-    pub name: Option<Name>,
-    /// What is between its braces.
     pub text: Span,
-}
-
-#[derive(Clone, Copy, Debug, PartialEq, Eq)]
-pub enum ClauseKind {
-    Requires,
-    Ensures,
-}
-
-/// An item that only proofs read, with the sign that ends it.
-#[derive(Clone, Debug)]
-pub struct Ghost {
-    pub span: Span,
-    pub kind: GhostKind,
-}
-
-#[derive(Clone, Debug)]
-pub enum GhostKind {
-    /// `use MODULE.{NAMES};`.
-    Import { module: String, names: Vec<String> },
-    /// `NAME: {..}`.
-    Declared(Name),
-    /// `NAME = {..}`.
-    Defined(Name),
-}
-
-/// The parameters between `<` and `>`.
-#[derive(Clone, Debug, Default)]
-pub struct Generics {
-    /// From `<` to `>`.
-    pub span: Option<Span>,
-    pub parameters: Vec<GenericParameter>,
+    /// Whether callers must meet it.
+    pub is_condition: bool,
 }
 
 #[derive(Clone, Debug)]
@@ -268,15 +161,9 @@ pub struct GenericParameter {
 
 #[derive(Clone, Debug)]
 pub enum GenericKind {
-    Lifetime,
-    Type(Vec<Bound>),
+    /// A type, and the traits that bound it.
+    Type(Vec<Path>),
     Constant(Type),
-}
-
-#[derive(Clone, Debug)]
-pub enum Bound {
-    Lifetime(Name),
-    Trait(Path),
 }
 
 #[derive(Clone, Debug)]
@@ -288,7 +175,7 @@ pub struct Type {
 #[derive(Clone, Debug)]
 pub enum TypeKind {
     Path(Path),
-    Reference { lifetime: Option<Name>, is_mutable: bool, target: Box<Type> },
+    Reference { is_mutable: bool, target: Box<Type> },
     // `()` if it is empty.
     Tuple(Vec<Type>),
     Slice(Box<Type>),
@@ -302,13 +189,6 @@ pub struct Path {
     pub segments: Vec<Segment>,
 }
 
-impl Path {
-    /// Returns its names.
-    pub fn names(&self) -> Vec<&str> {
-        self.segments.iter().map(|segment| segment.name.text.as_str()).collect()
-    }
-}
-
 #[derive(Clone, Debug)]
 pub struct Segment {
     pub name: Name,
@@ -318,7 +198,6 @@ pub struct Segment {
 /// What is between `<` and `>`. A name alone is read as a type, and may be that of a constant.
 #[derive(Clone, Debug)]
 pub enum GenericArgument {
-    Lifetime(Name),
     Type(Type),
     Constant(Literal),
 }
@@ -354,26 +233,18 @@ pub enum PatternKind {
     Rest,
     // `NAME` or `NAME @ PATTERN`.
     Binding { name: Name, is_mutable: bool, pattern: Option<Box<Pattern>> },
-    // A literal, with a minus before it or not.
-    Literal { is_negative: bool, literal: Literal },
+    Literal(Literal),
     // `LOW..=HIGH`.
     Range { low: Literal, high: Literal },
     Reference(Box<Pattern>),
     Tuple(Vec<Pattern>),
     Slice(Vec<Pattern>),
-    // A variant or constant without fields.
-    Path(Path),
+    // A variant, or a constant without fields.
     Variant { path: Path, fields: Vec<Pattern> },
-    Struct { path: Path, fields: Vec<FieldPattern>, has_rest: bool },
+    // `PATH { NAME: PATTERN }`. With the name alone, the pattern binds it.
+    Struct { path: Path, fields: Vec<(Name, Pattern)> },
     // Patterns with `|` between them.
     Either(Vec<Pattern>),
-}
-
-/// `NAME: PATTERN`. With the name alone, the pattern binds it.
-#[derive(Clone, Debug)]
-pub struct FieldPattern {
-    pub name: Name,
-    pub pattern: Pattern,
 }
 
 #[derive(Clone, Debug)]
@@ -387,24 +258,8 @@ pub struct Block {
 
 #[derive(Clone, Debug)]
 pub struct Statement {
-    pub span: Span,
     pub comments: Vec<Span>,
-    pub kind: StatementKind,
-}
-
-#[derive(Clone, Debug)]
-pub enum StatementKind {
-    Let(Box<Let>),
-    Expression(Box<Expression>),
-}
-
-/// `let PATTERN: ANNOTATION = VALUE else OTHERWISE;`.
-#[derive(Clone, Debug)]
-pub struct Let {
-    pub pattern: Pattern,
-    pub annotation: Option<Type>,
-    pub value: Option<Expression>,
-    pub otherwise: Option<Block>,
+    pub expression: Expression,
 }
 
 #[derive(Clone, Debug)]
@@ -423,51 +278,48 @@ pub enum ExpressionKind {
     Array(Vec<Expression>),
     // `[VALUE; LENGTH]`.
     Repeat { value: Box<Expression>, length: Box<Expression> },
-    Struct(StructExpression),
+    // `PATH { NAME: VALUE, ..BASE }`. With the name alone, the value is the variable of that name.
+    Struct { path: Path, fields: Vec<(Name, Expression)>, base: Option<Box<Expression>> },
     Unary { operator: UnaryOperator, operand: Box<Expression> },
     // `&OPERAND` or `&mut OPERAND`.
     Borrow { is_mutable: bool, operand: Box<Expression> },
     Binary { operator: BinaryOperator, left: Box<Expression>, right: Box<Expression> },
     // `PLACE = VALUE`, or with an operator, such as `PLACE += VALUE`.
     Assign { operator: Option<BinaryOperator>, place: Box<Expression>, value: Box<Expression> },
-    // `VALUE as TYPE`.
+    // `VALUE as TARGET`.
     Cast { value: Box<Expression>, target: Type },
-    Range { low: Option<Box<Expression>>, high: Option<Box<Expression>>, is_inclusive: bool },
-    Call { function: Box<Expression>, arguments: Vec<Expression> },
+    Call { function: Path, arguments: Vec<Expression> },
     Method(MethodCall),
     Field { receiver: Box<Expression>, name: Name },
     Index { receiver: Box<Expression>, index: Box<Expression> },
+    // `RECEIVER[LOW..HIGH]`.
+    Part { receiver: Box<Expression>, low: Option<Box<Expression>>, high: Option<Box<Expression>> },
     // `VALUE?`.
     Try(Box<Expression>),
     Block(Block),
-    If(If),
+    // `if CONDITION THEN else OTHERWISE`, where a block or another `if` follows `else`.
+    If { condition: Box<Expression>, then: Block, otherwise: Option<Box<Expression>> },
     Match { value: Box<Expression>, arms: Vec<Arm> },
-    While { condition: Box<Condition>, body: Block },
-    Loop(Block),
+    // A loop, whose condition is `true` if it has none.
+    While { condition: Box<Expression>, body: Block },
     For { pattern: Pattern, value: Box<Expression>, body: Block },
     Closure { parameters: Vec<Pattern>, body: Box<Expression> },
-    // `matches!(VALUE, PATTERN)` or `matches!(VALUE, PATTERN if GUARD)`.
-    Matches { value: Box<Expression>, pattern: Pattern, guard: Option<Box<Expression>> },
+    // `matches!(VALUE, PATTERN)`.
+    Matches { value: Box<Expression>, pattern: Pattern },
     // `write!(WRITER, "..")`.
-    Write { writer: Box<Expression>, format: Literal },
+    Write(Box<Expression>),
     Return(Option<Box<Expression>>),
     Break,
-    Continue,
+    // A statement, or what a condition is: `let PATTERN: ANNOTATION = VALUE else OTHERWISE`.
+    Let(Box<Let>),
 }
 
-/// `PATH { FIELDS, ..BASE }`.
 #[derive(Clone, Debug)]
-pub struct StructExpression {
-    pub path: Path,
-    pub fields: Vec<FieldValue>,
-    pub base: Option<Box<Expression>>,
-}
-
-/// `NAME: VALUE`. With the name alone, the value is the variable of that name.
-#[derive(Clone, Debug)]
-pub struct FieldValue {
-    pub name: Name,
+pub struct Let {
+    pub pattern: Pattern,
+    pub annotation: Option<Type>,
     pub value: Expression,
+    pub otherwise: Option<Block>,
 }
 
 /// `RECEIVER.NAME::<GENERICS>(ARGUMENTS)`.
@@ -479,25 +331,9 @@ pub struct MethodCall {
     pub arguments: Vec<Expression>,
 }
 
-#[derive(Clone, Debug)]
-pub struct If {
-    pub condition: Box<Condition>,
-    pub then: Block,
-    /// A block, or another `if`.
-    pub otherwise: Option<Box<Expression>>,
-}
-
-#[derive(Clone, Debug)]
-pub enum Condition {
-    Test(Expression),
-    // `let PATTERN = VALUE`.
-    Let { pattern: Pattern, value: Expression },
-}
-
 /// `PATTERN if GUARD => BODY`.
 #[derive(Clone, Debug)]
 pub struct Arm {
-    pub span: Span,
     pub comments: Vec<Span>,
     pub pattern: Pattern,
     pub guard: Option<Expression>,
@@ -508,7 +344,6 @@ pub struct Arm {
 pub enum UnaryOperator {
     Not,
     Negate,
-    /// `*`.
     Dereference,
 }
 
@@ -532,4 +367,72 @@ pub enum BinaryOperator {
     Multiply,
     Divide,
     Remainder,
+}
+
+impl BinaryOperator {
+    pub fn is_comparison(self) -> bool {
+        use BinaryOperator::{Equal, Greater, GreaterOrEqual, Less, LessOrEqual, NotEqual};
+        matches!(self, Equal | NotEqual | Less | Greater | LessOrEqual | GreaterOrEqual)
+    }
+
+    /// Says whether the second operand may have another type.
+    pub fn is_shift(self) -> bool {
+        matches!(self, BinaryOperator::ShiftLeft | BinaryOperator::ShiftRight)
+    }
+}
+
+impl Item {
+    /// Returns the items in this one.
+    pub fn members(&self) -> &[Item] {
+        match &self.kind {
+            ItemKind::Trait { members, .. } | ItemKind::Implementation { members, .. } => members,
+            _ => &[],
+        }
+    }
+
+    /// Says whether this is an `impl` of `Model`, which only proofs read.
+    pub fn is_model(&self) -> bool {
+        let ItemKind::Implementation { of: Some(of), .. } = &self.kind else { return false };
+        of.names() == ["Model"]
+    }
+
+    pub fn function(&self) -> Option<&Function> {
+        if let ItemKind::Function(function) = &self.kind { Some(function) } else { None }
+    }
+}
+
+impl Import {
+    /// Returns the names of its path.
+    pub fn names(&self) -> Vec<&str> {
+        self.path.iter().map(|name| name.text.as_str()).collect()
+    }
+
+    /// Returns the name that is imported.
+    pub fn last(&self) -> &Name {
+        &self.path[self.path.len() - 1]
+    }
+}
+
+impl Function {
+    /// Says whether it is called on a value.
+    pub fn is_method(&self) -> bool {
+        self.parameters.first().is_some_and(|first| first.name.text == "self")
+    }
+}
+
+impl Path {
+    /// Returns its names.
+    pub fn names(&self) -> Vec<&str> {
+        self.segments.iter().map(|segment| segment.name.text.as_str()).collect()
+    }
+
+    /// Returns its last name and the arguments behind it.
+    pub fn last(&self) -> &Segment {
+        &self.segments[self.segments.len() - 1]
+    }
+
+    /// Returns the path of a name alone.
+    pub fn of(name: Name) -> Path {
+        Path { span: name.span, segments: vec![Segment { name, arguments: Vec::new() }] }
+    }
 }

@@ -1,9 +1,8 @@
 //! What is in an item, in the order in which Rust reads it, with the scopes of its local names.
 
 use crate::tree::{
-    Block, Bound, Condition, Expression, ExpressionKind as Kind, Fields, GenericArgument,
-    GenericKind, Generics, Item, ItemKind, MethodCall, Name, Path, Pattern, PatternKind,
-    StatementKind, Type, TypeKind,
+    Block, Expression, ExpressionKind as Kind, Field, GenericArgument, GenericKind, Item, ItemKind,
+    Name, Path, Pattern, PatternKind, Type, TypeKind,
 };
 
 /// A part of an item. It comes before its own parts.
@@ -12,7 +11,8 @@ pub enum Part<'a> {
     /// The item itself, or one of a trait or an `impl`.
     Item(&'a Item),
     Path(&'a Path, Role),
-    Method(&'a MethodCall),
+    /// A method is called.
+    Method(&'a Name),
     /// A local name is declared: a variable, or a parameter, also a generic one.
     Local(&'a Name),
     /// A scope of local names begins.
@@ -55,73 +55,49 @@ impl<'a> Parts<'a> {
 
     fn item(&mut self, item: &'a Item) {
         self.0.push(Part::Item(item));
-        self.scope(|parts| match &item.kind {
-            ItemKind::Use(_) | ItemKind::Module(_) | ItemKind::Ghost(_) => {}
-            ItemKind::Constant(constant) => {
-                parts.type_(&constant.annotation);
-                parts.expressions(&constant.value);
-            }
-            ItemKind::Alias(alias) => {
-                parts.generics(&alias.generics);
-                parts.type_(&alias.target);
-            }
-            ItemKind::Struct(item) => {
-                parts.generics(&item.generics);
-                parts.fields(&item.fields);
-            }
-            ItemKind::Enum(item) => {
-                parts.generics(&item.generics);
-                item.variants.iter().for_each(|variant| parts.fields(&variant.fields));
-            }
-            ItemKind::Trait(item) => {
-                parts.generics(&item.generics);
-                parts.bounds(&item.bounds);
-                item.members.iter().for_each(|member| parts.item(member));
-            }
-            ItemKind::Implementation(item) => {
-                parts.generics(&item.generics);
-                item.of.iter().for_each(|of| parts.path(of, Role::Trait));
-                parts.type_(&item.target);
-                item.members.iter().for_each(|member| parts.item(member));
-            }
-            ItemKind::Function(item) => {
-                parts.generics(&item.generics);
-                for parameter in &item.parameters {
-                    parts.type_(&parameter.annotation);
-                    parts.0.push(Part::Local(&parameter.name));
+        self.scope(|parts| {
+            parts.generics(item);
+            match &item.kind {
+                ItemKind::Use(_) | ItemKind::Module => {}
+                ItemKind::Ghost | ItemKind::GhostUse { .. } => {}
+                ItemKind::Constant { annotation, value } => {
+                    parts.type_(annotation);
+                    parts.expressions(value);
                 }
-                item.output.iter().for_each(|output| parts.type_(output));
-                item.body.iter().for_each(|body| parts.block(body));
+                ItemKind::Alias(target) => parts.type_(target),
+                ItemKind::Struct { fields, .. } => parts.fields(fields),
+                ItemKind::Enum(variants) => {
+                    variants.iter().for_each(|variant| parts.fields(&variant.fields));
+                }
+                ItemKind::Trait { bounds, .. } => parts.paths(bounds, Role::Bound),
+                ItemKind::Implementation { of, target, .. } => {
+                    parts.paths(of, Role::Trait);
+                    parts.type_(target);
+                }
+                ItemKind::Function(item) => {
+                    for parameter in &item.parameters {
+                        parts.type_(&parameter.annotation);
+                        let is_self = parameter.name.text == "self";
+                        parts.0.extend((!is_self).then_some(Part::Local(&parameter.name)));
+                    }
+                    item.output.iter().for_each(|output| parts.type_(output));
+                    item.body.iter().for_each(|body| parts.block(body));
+                }
             }
+            item.members().iter().for_each(|member| parts.item(member));
         });
     }
 
-    fn fields(&mut self, fields: &'a Fields) {
-        match fields {
-            Fields::Unit => {}
-            Fields::Tuple(fields) | Fields::Named(fields) => {
-                fields.iter().for_each(|field| self.type_(&field.annotation));
-            }
-        }
+    fn fields(&mut self, fields: &'a [Field]) {
+        fields.iter().for_each(|field| self.type_(&field.annotation));
     }
 
-    fn generics(&mut self, generics: &'a Generics) {
-        let names =
-            generics.parameters.iter().filter(|it| !matches!(it.kind, GenericKind::Lifetime));
-        self.0.extend(names.map(|parameter| Part::Local(&parameter.name)));
-        for parameter in &generics.parameters {
+    fn generics(&mut self, item: &'a Item) {
+        self.0.extend(item.generics.iter().map(|parameter| Part::Local(&parameter.name)));
+        for parameter in &item.generics {
             match &parameter.kind {
-                GenericKind::Lifetime => {}
-                GenericKind::Type(bounds) => self.bounds(bounds),
+                GenericKind::Type(bounds) => self.paths(bounds, Role::Bound),
                 GenericKind::Constant(annotation) => self.type_(annotation),
-            }
-        }
-    }
-
-    fn bounds(&mut self, bounds: &'a [Bound]) {
-        for bound in bounds {
-            if let Bound::Trait(path) = bound {
-                self.path(path, Role::Bound);
             }
         }
     }
@@ -136,6 +112,10 @@ impl<'a> Parts<'a> {
                 self.expression(length);
             }
         }
+    }
+
+    fn paths(&mut self, paths: impl IntoIterator<Item = &'a Path>, role: Role) {
+        paths.into_iter().for_each(|path| self.path(path, role));
     }
 
     fn path(&mut self, path: &'a Path, role: Role) {
@@ -154,55 +134,34 @@ impl<'a> Parts<'a> {
     fn pattern(&mut self, found: &'a Pattern) {
         match &found.kind {
             PatternKind::Wildcard | PatternKind::Rest => {}
-            PatternKind::Literal { .. } | PatternKind::Range { .. } => {}
+            PatternKind::Literal(_) | PatternKind::Range { .. } => {}
             PatternKind::Binding { name, pattern, .. } => {
                 self.0.push(Part::Local(name));
-                pattern.iter().for_each(|part| self.pattern(part));
+                self.patterns(pattern.as_deref());
             }
             PatternKind::Reference(part) => self.pattern(part),
             PatternKind::Tuple(parts) | PatternKind::Slice(parts) | PatternKind::Either(parts) => {
-                parts.iter().for_each(|part| self.pattern(part));
+                self.patterns(parts);
             }
-            PatternKind::Path(path) => self.path(path, Role::Pattern),
             PatternKind::Variant { path, fields } => {
                 self.path(path, Role::Pattern);
-                fields.iter().for_each(|field| self.pattern(field));
+                self.patterns(fields);
             }
-            PatternKind::Struct { path, fields, .. } => {
+            PatternKind::Struct { path, fields } => {
                 self.path(path, Role::Struct);
-                fields.iter().for_each(|field| self.pattern(&field.pattern));
+                self.patterns(fields.iter().map(|(_, field)| field));
             }
         }
     }
 
-    fn block(&mut self, block: &'a Block) {
-        self.scope(|parts| {
-            for statement in &block.statements {
-                match &statement.kind {
-                    StatementKind::Expression(found) => parts.expression(found),
-                    StatementKind::Let(found) => {
-                        found.annotation.iter().for_each(|annotation| parts.type_(annotation));
-                        parts.expressions(&found.value);
-                        found.otherwise.iter().for_each(|block| parts.block(block));
-                        parts.pattern(&found.pattern);
-                    }
-                }
-            }
-            parts.expressions(block.value.as_deref());
-        });
+    fn patterns(&mut self, found: impl IntoIterator<Item = &'a Pattern>) {
+        found.into_iter().for_each(|part| self.pattern(part));
     }
 
-    // Visits a condition and the block that it decides about, which has the names that it binds.
-    fn conditional(&mut self, condition: &'a Condition, body: &'a Block) {
+    fn block(&mut self, block: &'a Block) {
         self.scope(|parts| {
-            match condition {
-                Condition::Test(test) => parts.expression(test),
-                Condition::Let { pattern, value } => {
-                    parts.expression(value);
-                    parts.pattern(pattern);
-                }
-            }
-            parts.block(body);
+            parts.expressions(block.statements.iter().map(|statement| &statement.expression));
+            parts.expressions(block.value.as_deref());
         });
     }
 
@@ -212,15 +171,12 @@ impl<'a> Parts<'a> {
 
     fn expression(&mut self, found: &'a Expression) {
         match &found.kind {
-            Kind::Literal(_) | Kind::Break | Kind::Continue => {}
+            Kind::Literal(_) | Kind::Break => {}
             Kind::Path(path) => self.path(path, Role::Value),
-            Kind::Group(part) | Kind::Try(part) => self.expression(part),
-            Kind::Unary { operand: part, .. } | Kind::Borrow { operand: part, .. } => {
-                self.expression(part);
-            }
-            Kind::Field { receiver: part, .. } | Kind::Write { writer: part, .. } => {
-                self.expression(part);
-            }
+            Kind::Group(part) | Kind::Try(part) | Kind::Write(part) => self.expression(part),
+            Kind::Unary { operand: part, .. }
+            | Kind::Borrow { operand: part, .. }
+            | Kind::Field { receiver: part, .. } => self.expression(part),
             Kind::Tuple(parts) | Kind::Array(parts) => self.expressions(parts),
             Kind::Repeat { value: first, length: second }
             | Kind::Binary { left: first, right: second, .. }
@@ -228,32 +184,35 @@ impl<'a> Parts<'a> {
             | Kind::Index { receiver: first, index: second } => {
                 self.expressions([&**first, &**second]);
             }
-            Kind::Struct(found) => {
-                self.path(&found.path, Role::Struct);
-                self.expressions(found.fields.iter().map(|field| &field.value));
-                self.expressions(found.base.as_deref());
+            Kind::Part { receiver, low, high } => {
+                self.expressions([receiver].into_iter().chain(low).chain(high).map(|it| &**it));
+            }
+            Kind::Struct { path, fields, base } => {
+                self.path(path, Role::Struct);
+                self.expressions(fields.iter().map(|(_, value)| value));
+                self.expressions(base.as_deref());
             }
             Kind::Cast { value, target } => {
                 self.expression(value);
                 self.type_(target);
             }
-            Kind::Range { low, high, .. } => {
-                self.expressions(low.as_deref().into_iter().chain(high.as_deref()));
-            }
             Kind::Call { function, arguments } => {
-                match &function.kind {
-                    Kind::Path(path) => self.path(path, Role::Callee),
-                    _ => self.expression(function),
-                }
+                self.path(function, Role::Callee);
                 self.expressions(arguments);
             }
             Kind::Method(call) => {
-                self.0.push(Part::Method(call));
+                self.0.push(Part::Method(&call.name));
                 self.expression(&call.receiver);
                 self.arguments(&call.generics);
                 self.expressions(&call.arguments);
             }
             Kind::Return(value) => self.expressions(value.as_deref()),
+            Kind::Let(found) => {
+                found.annotation.iter().for_each(|annotation| self.type_(annotation));
+                self.expression(&found.value);
+                found.otherwise.iter().for_each(|block| self.block(block));
+                self.pattern(&found.pattern);
+            }
             _ => self.control(found),
         }
     }
@@ -261,12 +220,17 @@ impl<'a> Parts<'a> {
     // Visits an expression with blocks or scopes in it.
     fn control(&mut self, found: &'a Expression) {
         match &found.kind {
-            Kind::Block(found) | Kind::Loop(found) => self.block(found),
-            Kind::If(found) => {
-                self.conditional(&found.condition, &found.then);
-                self.expressions(found.otherwise.as_deref());
+            Kind::Block(found) => self.block(found),
+            Kind::If { condition, then: body, .. } | Kind::While { condition, body } => {
+                // The block has the names that the condition binds.
+                self.scope(|parts| {
+                    parts.expression(condition);
+                    parts.block(body);
+                });
+                if let Kind::If { otherwise, .. } = &found.kind {
+                    self.expressions(otherwise.as_deref());
+                }
             }
-            Kind::While { condition, body } => self.conditional(condition, body),
             Kind::Match { value, arms } => {
                 self.expression(value);
                 for arm in arms {
@@ -285,15 +249,12 @@ impl<'a> Parts<'a> {
                 });
             }
             Kind::Closure { parameters, body } => self.scope(|parts| {
-                parameters.iter().for_each(|parameter| parts.pattern(parameter));
+                parts.patterns(parameters);
                 parts.expression(body);
             }),
-            Kind::Matches { value, pattern, guard } => {
+            Kind::Matches { value, pattern } => {
                 self.expression(value);
-                self.scope(|parts| {
-                    parts.pattern(pattern);
-                    parts.expressions(guard.as_deref());
-                });
+                self.scope(|parts| parts.pattern(pattern));
             }
             _ => {}
         }

@@ -1,8 +1,6 @@
 //! The C of each form, and what is refused.
 
-mod common;
-
-use common::{TOP, c};
+use crate::common::{TOP, c};
 use std::path::Path;
 use torkettle_translate::c::made;
 
@@ -22,67 +20,6 @@ fn each_form_has_its_c() {
 fn joined(text: &str) -> String {
     let lines = text.lines().filter(|line| !line.starts_with("/* atoi_core/lib.rt:"));
     lines.flat_map(str::split_whitespace).collect::<Vec<_>>().join(" ")
-}
-
-#[track_caller]
-fn assert_refused(sources: &[(&str, &str)]) {
-    for (source, part) in sources {
-        let fault = c(source, false).err().unwrap_or_default();
-        assert!(fault.starts_with("atoi_core/lib.rt:2: C: "), "{source}: {fault}");
-        assert!(fault.contains(part), "{source}: {fault}");
-    }
-}
-
-// What stands in the first line, `f` calls in the second.
-#[test]
-fn forms_without_a_rule_are_refused_with_their_line() {
-    assert_refused(&[
-        ("\nfn f(x: u32) -> u32 { let y; y = x; y }", "a variable without a value"),
-        ("\nfn f(x: u32) -> u32 { while let 1 = x {} x }", "`while let` has no rule"),
-        ("\nfn f(x: u32) -> u32 { for i in x {} x }", "a loop over this"),
-        ("\nfn f(x: u32) -> u32 { let g = |y| y; x }", "this form"),
-        ("\nfn f(x: [u8; 4]) -> [u8; 4] { let y = [0; 4]; y }", "this form"),
-        ("\nfn f(x: u32) -> u32 { x.pow(2) }", "this method"),
-        ("\nfn f(x: &[u8]) -> u8 { x.iter().map(|y| *y).count(); 1 }", "only `iter().filter(..)`"),
-        ("\nfn f(x: u8) -> u8 { x.wrapping_add(1) }", "a wrapping operation on this type"),
-        ("\nfn f(x: i32) -> i32 { x.wrapping_add(1) }", "a wrapping operation on this type"),
-        ("\nfn f(x: i32) -> i32 { x >> 1 }", "a shift of a signed number"),
-        ("\nfn f(x: i64) -> i128 { x as i128 }", "a signed number of 128 bits"),
-        ("\nfn f(x: u128) -> u32 { x.trailing_zeros() }", "this operation"),
-        (
-            "\nfn f(x: &[u8]) -> u128 { match x.first_chunk::<16>() { Some(y) => u128::from_le_bytes(*y), None => 0 } }",
-            "a load of so many bytes",
-        ),
-        ("\nfn f(x: &[u8], y: &[u8]) -> bool { x == y }", "a comparison of these"),
-        ("\nfn f(x: Option<u8>) -> bool { x == None }", "a comparison of these"),
-        ("\nfn f(x: &str) -> bool { x == \"a\\n\" }", "a text"),
-        ("\nfn f(x: u32) -> bool { x }", "in place of"),
-        ("\nfn f(x: u32, y: u64) -> u64 { x + y }", "in place of"),
-        ("\nfn f(x: u32) -> u32 { g(x) }", "this function has no rule"),
-        ("\nfn f(x: u32) -> u32 { x + y }", "this name has no rule"),
-        ("\nfn f(x: String) -> u32 { 1 }", "this type has no rule"),
-        ("\nfn f(x: &u8) -> u8 { match x { -1 => 1, _ => 2 } }", "this pattern has no rule"),
-        ("\nfn f(x: &[u8]) -> u8 { let [y, ..] = x; *y }", "a pattern that not every value fits"),
-        (
-            "\nfn f(a: Option<&[u8; 4]>, b: Option<&[u16; 4]>) -> bool { matches!((a, b), (None, None)) }",
-            "two of one name",
-        ),
-        ("struct A { b: u8 }\nfn f(x: A) -> u8 { x.c }", "no such field"),
-        ("struct A { b: u8, c: u8 }\nfn f(x: A) -> A { A { b: 1 } }", "a field without a value"),
-        (
-            "fn g<const A: bool>() -> bool { A }\nfn f(x: u8) -> bool { g() }",
-            "a generic constant that is not written",
-        ),
-        ("fn g(x: u8) -> u8 { x }\nfn f(x: u8) -> u8 { g(x, x) }", "another number of arguments"),
-        (
-            "fn g(x: &mut u8) -> bool { true }\nfn f(x: u8, y: &mut u8) -> u8 { match x { 1 if { let z = x; z == 2 } => 1, _ => 2 } }",
-            "statements in a guard",
-        ),
-        (
-            "fn g() -> Option<u8> { None }\nfn f(x: u8) -> u8 { g()? }",
-            "`?` of an option in another function",
-        ),
-    ]);
 }
 
 // Operators that are proved not to overflow assert it, and wrapping ones do not.

@@ -1,8 +1,6 @@
 //! Which conditions of the sources become tests in Rust, and which are refused.
 
-mod common;
-
-use common::{core, rust};
+use crate::common::{core, rust};
 
 // The definitions that the conditions of our functions name.
 const IMPORTS: &str =

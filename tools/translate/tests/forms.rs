@@ -1,14 +1,12 @@
 //! What becomes of forms in which a condition or a meaning could get lost, and of conditions in each place of the
 //! proved sources.
 
-mod common;
-
-use common::TOP;
+use crate::common::{TOP, shown};
 use std::path::Path;
 use torkettle_translate::modules::{Module, Package};
 use torkettle_translate::resolve::Scopes;
 use torkettle_translate::source::Source;
-use torkettle_translate::tree::{Item, ItemKind, Visibility};
+use torkettle_translate::tree::{Item, Visibility};
 use torkettle_translate::{conditions, facade, translate};
 
 fn package() -> (Source, Package) {
@@ -35,20 +33,6 @@ fn forms() -> Vec<Form<'static>> {
         Form { name, file, verdict: shown(verdict), text: shown(text) }
     };
     lines.map(form).collect()
-}
-
-// Puts characters in place of what stands for them.
-fn shown(text: &str) -> String {
-    let signs = [
-        ("⏎", "\n"),
-        ("<CR>", "\r"),
-        ("<FF>", "\x0C"),
-        ("<VT>", "\x0B"),
-        ("<NBSP>", "\u{A0}"),
-        ("<LRM>", "\u{200E}"),
-        ("<BOM>", "\u{FEFF}"),
-    ];
-    signs.iter().fold(text.to_string(), |text, (sign, character)| text.replace(sign, character))
 }
 
 // The package with the form, and the text of the changed source.
@@ -101,22 +85,17 @@ fn each_form_keeps_its_meaning_or_is_refused() {
 // The functions of a module: where a condition of each can stand, and whether users can call it.
 fn functions(module: &Module, exported: &[String]) -> Vec<(usize, bool)> {
     let is_inner = ["atoi_core", "atoi_fast", "atoi_lanes"].contains(&module.crate_name);
-    let mut found = Vec::new();
-    let mut add = |item: &Item, is_free: bool| {
-        let ItemKind::Function(function) = &item.kind else { return };
-        let end = function.body.as_ref().map_or(item.span.end - 1, |body| body.span.start);
-        let is_exported = !is_inner || exported.contains(&function.name.text);
-        found.push((end, !is_free || item.visibility == Visibility::Public && is_exported));
+    let found = |item: &Item, is_free: bool| {
+        let end = item.function()?.body.as_ref().map_or(item.span.end - 1, |body| body.span.start);
+        let is_exported = !is_inner || exported.contains(&item.name.text);
+        Some((end, !is_free || item.visibility == Visibility::Public && is_exported))
     };
-    for item in &module.tree.items {
-        add(item, true);
-        match &item.kind {
-            ItemKind::Trait(item) => item.members.iter().for_each(|item| add(item, false)),
-            ItemKind::Implementation(item) => item.members.iter().for_each(|item| add(item, false)),
-            _ => {}
-        }
-    }
-    found
+    let items = module.tree.items.iter();
+    let all = items.flat_map(|item| {
+        let members = item.members().iter().map(|member| found(member, false));
+        std::iter::once(found(item, true)).chain(members)
+    });
+    all.flatten().collect()
 }
 
 // A condition that nothing tests, planted on each function in turn. Of those that users cannot call, the proofs

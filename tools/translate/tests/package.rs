@@ -1,8 +1,6 @@
 //! Which files are read, what they export, what is written, and what `--check` compares.
 
-mod common;
-
-use common::rust;
+use crate::common::rust;
 use std::fs;
 use std::path::{Path, PathBuf};
 use torkettle_translate::modules::CRATES;

@@ -19,7 +19,7 @@ use ir::{Bindings, Callee, Done, Id, Type};
 use special::{Key, Special};
 use std::collections::BTreeSet;
 use std::path::Path;
-use world::{Place, World, name_of};
+use world::{Place, World};
 
 /// The types whose calls C has.
 pub const TYPES: [&str; 10] =
@@ -125,7 +125,7 @@ fn near(special: &Special, mut open: Vec<Key>, far: &mut BTreeSet<Key>) -> BTree
     let mut near = BTreeSet::new();
     while let Some(key) = open.pop() {
         let Some(chosen) = special.functions.iter().find(|it| it.key == key) else { continue };
-        let is_far = name_of(special.world.item(key.0)).is_some_and(|it| FAR.contains(&it));
+        let is_far = FAR.contains(&special.world.name(key.0));
         if is_far || print::is_apart(special.world, &key, &chosen.function) {
             far.insert(key);
         } else if near.insert(key) {

@@ -5,8 +5,8 @@ use super::special::{Chosen, Key, Special};
 use super::terms;
 use super::text::{self, comment, wrapped};
 use super::types::{Types, declared};
-use super::world::{World, name_of};
-use crate::tree::{AttributeKind, BinaryOperator, Inline, ItemKind, Notes};
+use super::world::World;
+use crate::tree::{AttributeKind, BinaryOperator, ItemKind, Notes};
 use std::collections::{BTreeMap, BTreeSet};
 
 /// All that is printed.
@@ -108,11 +108,10 @@ impl Body<'_, '_> {
         let (world, function) = (self.printer.world, self.function);
         let mut parameters = Vec::new();
         for id in merged.iter().copied() {
-            let Some(tree) = world.constant(id) else { continue };
-            let of = world.type_in(&world.place(id)?, &tree.annotation)?;
+            let Some(of) = world.constant(id).transpose()? else { continue };
             let name = match of {
-                Type::Boolean => format!("is_{}", text::snake(&tree.name.text)),
-                _ => text::local(&tree.name.text),
+                Type::Boolean => format!("is_{}", text::snake(world.name(id))),
+                _ => text::local(world.name(id)),
             };
             self.scopes[0].insert(name.clone());
             parameters.push(declared(&self.printer.types.name(&of)?, &name));
@@ -144,7 +143,7 @@ impl Body<'_, '_> {
         let name = self.printer.names[key].clone();
         let is_recursive = calls_itself(function, key);
         // What calls itself cannot be inlined.
-        let is_called = name_of(item).is_some_and(|it| super::CALLED.contains(&it));
+        let is_called = super::CALLED.contains(&world.name(key.0));
         let qualifier =
             if is_recursive || is_called { "TK_NOINLINE" } else { qualifier(&item.notes) };
         let qualifier = match (qualifier, self.printer.far.contains(key)) {
@@ -337,21 +336,14 @@ pub fn is_apart(world: &World, key: &Key, function: &Function) -> bool {
 
 // What a compiler has to do with a function, as its attributes say it.
 fn qualifier(notes: &Notes) -> &'static str {
-    let has = |wanted: Inline| {
-        notes
-            .attributes
-            .iter()
-            .any(|it| matches!(it.kind, AttributeKind::Inline(own) if own == wanted))
-    };
-    if notes.attributes.iter().any(|it| matches!(it.kind, AttributeKind::Cold)) {
-        "TK_COLD"
-    } else if has(Inline::Never) {
-        "TK_NOINLINE"
-    } else if has(Inline::Always) {
-        "TK_INLINE"
-    } else {
-        "TK_HINTED"
-    }
+    let qualifiers = [
+        (AttributeKind::Cold, "TK_COLD"),
+        (AttributeKind::NeverInline, "TK_NOINLINE"),
+        (AttributeKind::AlwaysInline, "TK_INLINE"),
+    ];
+    let has = |kind: &AttributeKind| notes.attributes.iter().any(|it| it.kind == *kind);
+    let found = qualifiers.iter().find(|(kind, _)| has(kind));
+    found.map_or("TK_HINTED", |(_, qualifier)| qualifier)
 }
 
 // Returns the names of functions. Those of one name get what they differ in.
@@ -378,8 +370,8 @@ fn names(special: &Special) -> Done<BTreeMap<Key, String>> {
 
 fn plain_name(special: &Special, key: &Key) -> String {
     let (world, types) = (special.world, Types::new(special.world));
-    let mut name = text::snake(name_of(world.item(key.0)).unwrap_or_default());
-    if let ItemKind::Implementation(_) = world.owner(key.0).kind {
+    let mut name = text::snake(world.name(key.0));
+    if let ItemKind::Implementation { .. } = world.owner(key.0).kind {
         if let Ok(Some(own)) = world.place(key.0).map(|it| it.self_type) {
             name = match own {
                 Type::Item { id, .. } => {

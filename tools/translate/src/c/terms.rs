@@ -6,7 +6,6 @@ use super::operations;
 use super::print::{Body, explained};
 use super::text;
 use super::types::{ERROR_KINDS, declared, integer_name, integer_type};
-use super::world::name_of;
 use crate::source::Fault;
 
 /// An expression, and how tightly its operator binds.
@@ -138,7 +137,7 @@ fn constant(body: &mut Body, id: Id, owner: Option<&Type>) -> Done<Text> {
         return Ok(Text::atom(name.ok_or_else(missing)?));
     }
     let value = lower::constant(world, id)?;
-    let name = text::snake(name_of(world.item(id)).unwrap_or_default());
+    let name = text::snake(world.name(id));
     if let Type::Integer(_) | Type::Boolean = value.of {
         let (name, text) = (format!("TK_{}", name.to_uppercase()), print(body, &value)?.text);
         let line = format!("#define {name} {text}\n");

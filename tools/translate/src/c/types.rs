@@ -2,7 +2,7 @@
 
 use super::ir::{Done, Integer, Shape, Type};
 use super::text::{self, comment};
-use super::world::{World, name_of};
+use super::world::World;
 use crate::source::Fault;
 use std::collections::BTreeMap;
 use std::path::Path;
@@ -58,7 +58,7 @@ impl<'a> Types<'a> {
                 format!("{kind}_{}", parts.join("_"))
             }
             Type::Item { id, arguments } => {
-                let name = name_of(self.world.item(*id)).unwrap_or_default();
+                let name = self.world.name(*id);
                 let renamed = RENAMED.iter().find(|(from, _)| *from == name);
                 let name = renamed.map_or(text::snake(name), |(_, to)| to.to_string());
                 let arguments = arguments.iter().filter(|it| **it != Type::Merged);

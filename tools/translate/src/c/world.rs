@@ -5,16 +5,15 @@ use crate::modules::{Module, Package};
 use crate::resolve::{Definition, Namespace, Resolved, Scopes};
 use crate::source::{Fault, Source, Span};
 use crate::tree::{
-    Bound, Constant, ExpressionKind, Field, Fields, Function, GenericArgument, GenericKind,
-    Generics, Implementation, Item, ItemKind, Literal, LiteralKind, Path, Segment, Trait,
-    Type as TreeType, TypeKind, Variant,
+    ExpressionKind, Function, GenericArgument, GenericKind, GenericParameter, Item, ItemKind,
+    Literal, LiteralKind, Path, Segment, Type as TreeType, TypeKind, Variant,
 };
 use std::collections::BTreeMap;
 
 pub struct World<'a> {
     pub package: &'a Package,
     pub scopes: &'a Scopes<'a>,
-    implementations: Vec<(Id, &'a Implementation)>,
+    implementations: Vec<(Id, &'a Item)>,
 }
 
 /// Where a type is written: its module, and what `Self` and the parameters are.
@@ -33,8 +32,8 @@ impl<'a> World<'a> {
         let of_words = |(_, it): &(usize, &Module)| it.crate_name != "atoi_lanes";
         for (module, found) in package.modules.iter().enumerate().filter(of_words) {
             for (item, it) in found.tree.items.iter().enumerate() {
-                if let ItemKind::Implementation(found) = &it.kind {
-                    implementations.push((Id { module, item, member: None }, found));
+                if let ItemKind::Implementation { .. } = it.kind {
+                    implementations.push((Id { module, item, member: None }, it));
                 }
             }
         }
@@ -56,29 +55,31 @@ impl<'a> World<'a> {
 
     pub fn item(&self, id: Id) -> &'a Item {
         let owner = self.owner(id);
-        match (id.member, &owner.kind) {
-            (Some(member), ItemKind::Trait(Trait { members, .. })) => &members[member],
-            (Some(member), ItemKind::Implementation(found)) => &found.members[member],
-            _ => owner,
-        }
+        id.member.map_or(owner, |member| &owner.members()[member])
+    }
+
+    /// Returns the name of an item or a member.
+    pub fn name(&self, id: Id) -> &'a str {
+        &self.item(id).name.text
     }
 
     pub fn function(&self, id: Id) -> Option<&'a Function> {
-        if let ItemKind::Function(function) = &self.item(id).kind { Some(function) } else { None }
+        self.item(id).function()
     }
 
-    pub fn constant(&self, id: Id) -> Option<&'a Constant> {
-        if let ItemKind::Constant(constant) = &self.item(id).kind { Some(constant) } else { None }
+    /// Returns the type of a constant.
+    pub fn constant(&self, id: Id) -> Option<Done<Type>> {
+        let ItemKind::Constant { annotation, .. } = &self.item(id).kind else { return None };
+        Some(self.place(id).and_then(|place| self.type_in(&place, annotation)))
     }
 
     pub fn is_of_trait(&self, id: Id) -> bool {
-        id.member.is_some() && matches!(self.owner(id).kind, ItemKind::Trait(_))
+        id.member.is_some() && matches!(self.owner(id).kind, ItemKind::Trait { .. })
     }
 
     /// Finds what the start of a path stands for.
     pub fn resolve(&self, module: usize, space: Namespace, path: &Path) -> Option<Resolved> {
-        let names: Vec<&str> = path.segments.iter().map(|it| it.name.text.as_str()).collect();
-        self.scopes.resolve(module, space, &names)
+        self.scopes.resolve(module, space, &path.names())
     }
 
     fn trait_of(&self, module: usize, path: &Path) -> Option<Id> {
@@ -91,34 +92,27 @@ impl<'a> World<'a> {
     /// Returns the place in a function or a constant: what its owner and its own generics declare.
     pub fn place(&self, id: Id) -> Done<Place> {
         let mut place = Place { module: id.module, self_type: None, parameters: BTreeMap::new() };
-        match &self.owner(id).kind {
-            ItemKind::Implementation(found) => {
-                self.declare(&mut place, &found.generics);
-                place.self_type = Some(self.type_in(&place, &found.target)?);
+        let owner = self.owner(id);
+        self.declare(&mut place, &owner.generics);
+        match &owner.kind {
+            ItemKind::Implementation { target, .. } => {
+                place.self_type = Some(self.type_in(&place, target)?);
             }
-            ItemKind::Trait(_) => {
+            ItemKind::Trait { .. } => {
                 let own = Id { member: None, ..id };
                 place.parameters.insert("Self".into(), vec![own]);
                 place.self_type = Some(Type::Parameter("Self".into()));
             }
-            ItemKind::Struct(found) => self.declare(&mut place, &found.generics),
-            ItemKind::Enum(found) => self.declare(&mut place, &found.generics),
-            ItemKind::Alias(found) => self.declare(&mut place, &found.generics),
             _ => {}
         }
-        if let Some(function) = self.function(id) {
-            self.declare(&mut place, &function.generics);
-        }
+        self.declare(&mut place, &self.item(id).generics);
         Ok(place)
     }
 
-    fn declare(&self, place: &mut Place, generics: &Generics) {
-        for parameter in &generics.parameters {
+    fn declare(&self, place: &mut Place, generics: &[GenericParameter]) {
+        for parameter in generics {
             if let GenericKind::Type(bounds) = &parameter.kind {
-                let traits = bounds.iter().filter_map(|bound| match bound {
-                    Bound::Trait(path) => self.trait_of(place.module, path),
-                    Bound::Lifetime(_) => None,
-                });
+                let traits = bounds.iter().filter_map(|path| self.trait_of(place.module, path));
                 place.parameters.insert(parameter.name.text.clone(), traits.collect());
             }
         }
@@ -174,7 +168,7 @@ impl<'a> World<'a> {
         }
         let unknown = || source.fault(path.span, "C: this type has no rule");
         let found = self.resolve(place.module, Namespace::Types, path).ok_or_else(unknown)?;
-        let mut arguments = self.arguments(place, &path.segments[path.segments.len() - 1])?;
+        let mut arguments = self.arguments(place, path.last())?;
         let id = match found.definition {
             Definition::Foreign(name) => {
                 return foreign_type(&name, &mut arguments).ok_or_else(unknown);
@@ -185,22 +179,20 @@ impl<'a> World<'a> {
             _ => return Err(unknown()),
         };
         match &self.item(id).kind {
-            ItemKind::Struct(_) | ItemKind::Enum(_) => Ok(Type::Item { id, arguments }),
-            ItemKind::Alias(alias) => {
-                let bindings = type_names(&alias.generics).zip(arguments).collect();
-                Ok(self.type_in(&self.place(id)?, &alias.target)?.with(&bindings))
+            ItemKind::Struct { .. } | ItemKind::Enum(_) => Ok(Type::Item { id, arguments }),
+            ItemKind::Alias(target) => {
+                let bindings = self.parameters(id).into_iter().zip(arguments).collect();
+                Ok(self.type_in(&self.place(id)?, target)?.with(&bindings))
             }
             _ => Err(unknown()),
         }
     }
 
-    /// Returns the type parameters of a struct or an enum.
+    /// Returns the type parameters of an item.
     pub fn parameters(&self, id: Id) -> Vec<String> {
-        match &self.item(id).kind {
-            ItemKind::Struct(found) => type_names(&found.generics).collect(),
-            ItemKind::Enum(found) => type_names(&found.generics).collect(),
-            _ => Vec::new(),
-        }
+        let generics = self.item(id).generics.iter();
+        let names = generics.filter(|it| matches!(it.kind, GenericKind::Type(_)));
+        names.map(|it| it.name.text.clone()).collect()
     }
 
     /// Returns the fields of a struct, or of a variant of an enum, with their types.
@@ -211,13 +203,13 @@ impl<'a> World<'a> {
         arguments: &[Type],
     ) -> Done<Vec<(String, Type)>> {
         let fields = match (&self.item(id).kind, variant) {
-            (ItemKind::Struct(found), None) => &found.fields,
-            (ItemKind::Enum(found), Some(variant)) => &found.variants[variant].fields,
+            (ItemKind::Struct { fields, .. }, None) => fields,
+            (ItemKind::Enum(variants), Some(variant)) => &variants[variant].fields,
             _ => return Err(self.source(id).fault(self.item(id).span, "C: no fields")),
         };
         let place = self.place(id)?;
         let bindings = self.parameters(id).into_iter().zip(arguments.iter().cloned()).collect();
-        let types = list(fields).iter().map(|field| {
+        let types = fields.iter().map(|field| {
             let of = self.type_in(&place, &field.annotation)?;
             Ok((field.name.text.clone(), of.with(&bindings)))
         });
@@ -225,7 +217,7 @@ impl<'a> World<'a> {
     }
 
     pub fn variants(&self, id: Id) -> &'a [Variant] {
-        if let ItemKind::Enum(found) = &self.item(id).kind { &found.variants } else { &[] }
+        if let ItemKind::Enum(variants) = &self.item(id).kind { variants } else { &[] }
     }
 
     /// Says whether values of a type have no bytes.
@@ -235,7 +227,7 @@ impl<'a> World<'a> {
             Type::Tuple(parts) => parts.iter().all(|part| self.is_zero(part)),
             Type::Pointer(target) => self.is_zero(target),
             Type::Item { id, arguments } => {
-                let is_struct = matches!(self.item(*id).kind, ItemKind::Struct(_));
+                let is_struct = matches!(self.item(*id).kind, ItemKind::Struct { .. });
                 let fields = self.fields(*id, None, arguments);
                 is_struct && fields.is_ok_and(|it| it.iter().all(|(_, of)| self.is_zero(of)))
             }
@@ -255,37 +247,39 @@ impl<'a> World<'a> {
                 .filter_map(|(id, found)| Some((*id, *found, self.matches(*id, found, of)?)))
         };
         for (id, found, bindings) in fitting() {
-            if let Some(member) = position(&found.members, name) {
+            if let Some(member) = position(found, name) {
                 return Some((Id { member: Some(member), ..id }, bindings));
             }
         }
-        fitting().find_map(|(id, found, _)| {
-            let of_trait = self.trait_of(id.module, found.of.as_ref()?)?;
-            self.member_of_trait(of_trait, of, name)
-        })
+        fitting()
+            .find_map(|(id, found, _)| self.member_of_trait(self.implemented(id, found)?, of, name))
     }
 
     // Finds a member of a trait or of those before it.
     fn member_of_trait(&self, id: Id, of: &Type, name: &str) -> Option<(Id, Bindings)> {
-        let ItemKind::Trait(found) = &self.item(id).kind else { return None };
-        if let Some(member) = position(&found.members, name) {
+        let ItemKind::Trait { bounds, .. } = &self.item(id).kind else { return None };
+        if let Some(member) = position(self.item(id), name) {
             let bindings = Bindings::from([("Self".to_string(), of.clone())]);
             return Some((Id { member: Some(member), ..id }, bindings));
         }
-        found.bounds.iter().find_map(|bound| match bound {
-            Bound::Trait(path) => self.member_of_trait(self.trait_of(id.module, path)?, of, name),
-            Bound::Lifetime(_) => None,
-        })
+        let mut bounds = bounds.iter().filter_map(|path| self.trait_of(id.module, path));
+        bounds.find_map(|bound| self.member_of_trait(bound, of, name))
+    }
+
+    // The trait of an `impl`.
+    fn implemented(&self, id: Id, found: &Item) -> Option<Id> {
+        let ItemKind::Implementation { of, .. } = &found.kind else { return None };
+        self.trait_of(id.module, of.as_ref()?)
     }
 
     /// Finds the member that stands for one of a trait, for a type without parameters.
     pub fn dispatch(&self, id: Id, of: &Type) -> Option<(Id, Bindings)> {
         let own = Id { member: None, ..id };
-        let name = name_of(self.item(id))?;
+        let name = self.name(id);
         let found = self.implementations.iter().find_map(|(other, found)| {
-            let of_trait = self.trait_of(other.module, found.of.as_ref()?)?;
+            let of_trait = self.implemented(*other, found)?;
             let bindings = self.matches(*other, found, of).filter(|_| of_trait == own)?;
-            Some((*other, position(&found.members, name), bindings))
+            Some((*other, position(found, name), bindings))
         });
         let (other, member, bindings) = found?;
         match member {
@@ -296,7 +290,7 @@ impl<'a> World<'a> {
 
     // Returns what the generics of an `impl` stand for if it is one of this type. An `impl` for each type with
     // some trait is of none: only engines that read byte by byte have one.
-    fn matches(&self, id: Id, found: &Implementation, of: &Type) -> Option<Bindings> {
+    fn matches(&self, id: Id, found: &Item, of: &Type) -> Option<Bindings> {
         let place = self.place(id).ok()?;
         let mut bindings = Bindings::new();
         match (place.self_type?, of) {
@@ -309,7 +303,7 @@ impl<'a> World<'a> {
                 }
                 Some(bindings)
             }
-            (target, of) if found.generics.parameters.is_empty() && target == *of => Some(bindings),
+            (target, of) if found.generics.is_empty() && target == *of => Some(bindings),
             _ => None,
         }
     }
@@ -335,32 +329,12 @@ impl<'a> World<'a> {
     }
 }
 
-/// Returns the name of a function or a constant.
-pub fn name_of(item: &Item) -> Option<&str> {
-    match &item.kind {
-        ItemKind::Function(function) => Some(&function.name.text),
-        ItemKind::Constant(constant) => Some(&constant.name.text),
-        ItemKind::Struct(found) => Some(&found.name.text),
-        ItemKind::Enum(found) => Some(&found.name.text),
-        _ => None,
-    }
-}
-
-// Returns the types among generic parameters.
-fn type_names(generics: &Generics) -> impl Iterator<Item = String> {
-    let names = generics.parameters.iter().filter(|it| matches!(it.kind, GenericKind::Type(_)));
-    names.map(|it| it.name.text.clone())
-}
-
-fn list(fields: &Fields) -> &[Field] {
-    match fields {
-        Fields::Unit => &[],
-        Fields::Tuple(fields) | Fields::Named(fields) => fields,
-    }
-}
-
-fn position(members: &[Item], name: &str) -> Option<usize> {
-    members.iter().position(|it| name_of(it) == Some(name))
+// Returns the place of a function or a constant among the members of an item.
+fn position(item: &Item, name: &str) -> Option<usize> {
+    let is_member = |it: &Item| {
+        it.name.text == name && matches!(it.kind, ItemKind::Function(_) | ItemKind::Constant { .. })
+    };
+    item.members().iter().position(is_member)
 }
 
 /// Returns a type of integers by its name.

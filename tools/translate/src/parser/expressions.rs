@@ -1,13 +1,12 @@
-//! Expressions, by precedence as in Rust.
+//! Expressions and statements, by precedence as in Rust.
 
-use super::statements::is_block_like;
-use super::{Parser, is_capital, literals};
+use super::{Parser, is_capital};
 use crate::source::{Fault, Span};
 use crate::std_names::INTEGERS;
-use crate::token::Kind;
+use crate::token::Kind as TokenKind;
 use crate::tree::{
-    Arm, BinaryOperator, Condition, Expression, ExpressionKind, FieldValue, If, MethodCall, Path,
-    Segment, StructExpression, UnaryOperator,
+    Arm, BinaryOperator, Block, Expression, ExpressionKind as Kind, Let, Literal, LiteralKind,
+    MethodCall, Path, Statement, UnaryOperator,
 };
 
 // The level above `&&` and `||`, which mean something else behind `let PATTERN =`.
@@ -15,12 +14,12 @@ const ABOVE_AND: u8 = 3;
 const COMPARISON: u8 = 3;
 
 impl Parser<'_> {
-    // Reads an expression. Ranges are none, but for those that `index` and `counted` read.
+    // Reads an expression. Ranges are none, except for those in an index.
     pub(super) fn expression(&mut self) -> Result<Expression, Fault> {
         let start = self.span();
         let place = self.binary(1)?;
-        let sign = if self.kind() == Kind::Symbol { self.text().strip_suffix('=') } else { None };
-        let operator = match sign {
+        let is_symbol = self.kind() == TokenKind::Symbol;
+        let operator = match self.text().strip_suffix('=').filter(|_| is_symbol) {
             Some("") => None,
             Some(sign) => match operator(sign) {
                 Some((operator, level)) if level > COMPARISON => Some(operator),
@@ -33,19 +32,19 @@ impl Parser<'_> {
         }
         self.step();
         let (place, value) = (Box::new(place), self.boxed()?);
-        Ok(self.node(start, ExpressionKind::Assign { operator, place, value }))
+        Ok(self.node(start, Kind::Assign { operator, place, value }))
     }
 
-    pub(super) fn boxed(&mut self) -> Result<Box<Expression>, Fault> {
+    fn boxed(&mut self) -> Result<Box<Expression>, Fault> {
         self.expression().map(Box::new)
     }
 
-    fn node(&self, start: Span, kind: ExpressionKind) -> Expression {
+    fn node(&self, start: Span, kind: Kind) -> Expression {
         Expression { span: self.since(start), kind }
     }
 
     // Reads something in which `NAME {` begins a struct or not.
-    pub(super) fn with_structs<T>(
+    fn with_structs<T>(
         &mut self,
         takes_structs: bool,
         read: impl FnOnce(&mut Self) -> Result<T, Fault>,
@@ -56,38 +55,22 @@ impl Parser<'_> {
         value
     }
 
-    // Reads an index: an expression, or a range. Only here may an end be missing: a range without its last
-    // end overflows in Rust, and ends in Rattle.
-    fn index(&mut self) -> Result<Expression, Fault> {
-        let start = self.span();
-        let low = if self.is_one_of(&["..", "..="]) { None } else { Some(self.binary(1)?) };
+    // Reads what is between `[` and `]`: an index, or a range. Only here may an end be missing: a range without
+    // its last end overflows in Rust, and ends in Rattle.
+    fn index(&mut self, receiver: Expression) -> Result<Kind, Fault> {
+        let receiver = Box::new(receiver);
+        let low = if self.is("..") { None } else { Some(Box::new(self.binary(1)?)) };
         match low {
-            Some(value) if self.is("]") => Ok(value),
-            low => self.range(start, low),
+            Some(index) if self.eat("]") => Ok(Kind::Index { receiver, index }),
+            low => {
+                if !self.eat("..") {
+                    return self.refuse("`]` or `..`");
+                }
+                let high = if self.is("]") { None } else { Some(Box::new(self.binary(1)?)) };
+                self.expect("]")?;
+                Ok(Kind::Part { receiver, low, high })
+            }
         }
-    }
-
-    // Reads what `for` goes through.
-    fn counted(&mut self) -> Result<Expression, Fault> {
-        let start = self.span();
-        let low = self.binary(1)?;
-        if !self.is_one_of(&["..", "..="]) {
-            return Ok(low);
-        }
-        self.range(start, Some(low))
-    }
-
-    // Reads the rest of a range.
-    fn range(&mut self, start: Span, low: Option<Expression>) -> Result<Expression, Fault> {
-        let is_inclusive = self.is("..=");
-        if !is_inclusive && !self.is("..") {
-            return self.refuse("`]` or `..`");
-        }
-        self.step();
-        let may_be_open = self.is("]") && !is_inclusive;
-        let high = if may_be_open { None } else { Some(Box::new(self.binary(1)?)) };
-        let low = low.map(Box::new);
-        Ok(self.node(start, ExpressionKind::Range { low, high, is_inclusive }))
     }
 
     // Reads operators of this level and above. Comparisons in a row have no rule.
@@ -100,13 +83,13 @@ impl Parser<'_> {
             if found == COMPARISON && self.operator().is_some_and(|next| next.1 == COMPARISON) {
                 return self.refuse_form(sign, "a comparison of a comparison");
             }
-            value = self.node(start, ExpressionKind::Binary { operator, left, right });
+            value = self.node(start, Kind::Binary { operator, left, right });
         }
         Ok(value)
     }
 
     fn operator(&self) -> Option<(BinaryOperator, u8)> {
-        if self.kind() == Kind::Symbol { operator(self.text()) } else { None }
+        if self.kind() == TokenKind::Symbol { operator(self.text()) } else { None }
     }
 
     // Reads casts, which are to integers.
@@ -117,8 +100,8 @@ impl Parser<'_> {
             if !INTEGERS.contains(&self.text()) {
                 return self.refuse("a type of integers");
             }
-            let (value_before, target) = (Box::new(value), self.type_()?);
-            value = self.node(start, ExpressionKind::Cast { value: value_before, target });
+            let kind = Kind::Cast { value: Box::new(value), target: self.type_()? };
+            value = self.node(start, kind);
         }
         Ok(value)
     }
@@ -128,7 +111,7 @@ impl Parser<'_> {
         if self.eat_sign("&") {
             let is_mutable = self.eat("mut");
             let operand = Box::new(self.unary()?);
-            return Ok(self.node(start, ExpressionKind::Borrow { is_mutable, operand }));
+            return Ok(self.node(start, Kind::Borrow { is_mutable, operand }));
         }
         let operator = if self.eat("!") {
             UnaryOperator::Not
@@ -141,25 +124,23 @@ impl Parser<'_> {
             return self.expression_after(value);
         };
         let operand = Box::new(self.unary()?);
-        Ok(self.node(start, ExpressionKind::Unary { operator, operand }))
+        Ok(self.node(start, Kind::Unary { operator, operand }))
     }
 
     // Reads the calls, fields, indices and `?` behind an expression.
-    pub(super) fn expression_after(&mut self, mut value: Expression) -> Result<Expression, Fault> {
+    fn expression_after(&mut self, mut value: Expression) -> Result<Expression, Fault> {
         let start = value.span;
         loop {
             let kind = if self.eat("?") {
-                ExpressionKind::Try(Box::new(value))
+                Kind::Try(Box::new(value))
             } else if self.is("(") {
                 // Who calls a value need not meet the conditions of its function.
-                if !matches!(value.kind, ExpressionKind::Path(_)) {
+                let Kind::Path(function) = value.kind else {
                     return self.refuse("an operator: a value cannot be called");
-                }
-                ExpressionKind::Call { function: Box::new(value), arguments: self.arguments()? }
+                };
+                Kind::Call { function, arguments: self.arguments()? }
             } else if self.eat("[") {
-                let index = Box::new(self.with_structs(true, Self::index)?);
-                self.expect("]")?;
-                ExpressionKind::Index { receiver: Box::new(value), index }
+                self.with_structs(true, |parser| parser.index(value))?
             } else if self.eat(".") {
                 self.selection(Box::new(value))?
             } else {
@@ -176,9 +157,9 @@ impl Parser<'_> {
     }
 
     // Reads what follows the point: a field, by its name or number, or a call of a method.
-    fn selection(&mut self, receiver: Box<Expression>) -> Result<ExpressionKind, Fault> {
-        if self.kind() == Kind::Integer && self.text().bytes().all(|digit| digit.is_ascii_digit()) {
-            return Ok(ExpressionKind::Field { receiver, name: self.word() });
+    fn selection(&mut self, receiver: Box<Expression>) -> Result<Kind, Fault> {
+        if self.kind() == TokenKind::Integer && self.text().bytes().all(|it| it.is_ascii_digit()) {
+            return Ok(Kind::Field { receiver, name: self.word() });
         }
         let name = self.name()?;
         let generics = self.after("::", |parser| {
@@ -186,26 +167,26 @@ impl Parser<'_> {
             parser.generic_arguments()
         })?;
         if generics.is_none() && !self.is("(") {
-            return Ok(ExpressionKind::Field { receiver, name });
+            return Ok(Kind::Field { receiver, name });
         }
         let (generics, arguments) = (generics.unwrap_or_default(), self.arguments()?);
-        Ok(ExpressionKind::Method(MethodCall { receiver, name, generics, arguments }))
+        Ok(Kind::Method(MethodCall { receiver, name, generics, arguments }))
     }
 
     // Reads an expression without operators.
-    pub(super) fn primary(&mut self) -> Result<Expression, Fault> {
+    fn primary(&mut self) -> Result<Expression, Fault> {
         let start = self.span();
         let kind = if self.is_literal() {
-            ExpressionKind::Literal(self.literal()?)
+            Kind::Literal(self.literal()?)
         } else if self.eat("(") {
             self.with_structs(true, Self::group_or_tuple)?
         } else if self.eat("[") {
             self.with_structs(true, Self::array)?
         } else if self.is("{") {
-            ExpressionKind::Block(self.block()?)
+            Kind::Block(self.block()?)
         } else if self.eat_sign("|") {
             let parameters = self.list("|", Self::single_pattern)?;
-            ExpressionKind::Closure { parameters, body: self.boxed()? }
+            Kind::Closure { parameters, body: self.boxed()? }
         } else if self.is_name() && self.is_ahead(1, "!") {
             self.call_of_macro()?
         } else if self.is_name() || self.is_one_of(&["self", "Self", "crate"]) {
@@ -216,104 +197,103 @@ impl Parser<'_> {
         Ok(self.node(start, kind))
     }
 
-    fn group_or_tuple(&mut self) -> Result<ExpressionKind, Fault> {
+    fn group_or_tuple(&mut self) -> Result<Kind, Fault> {
         let mut values = self.list(")", Self::expression)?;
         let has_comma = self.source.at(self.tokens[self.at - 2].span) == ",";
-        Ok(match values.pop() {
-            Some(value) if values.is_empty() && !has_comma => {
-                ExpressionKind::Group(Box::new(value))
-            }
-            last => {
-                values.extend(last);
-                ExpressionKind::Tuple(values)
-            }
-        })
+        if values.len() == 1 && !has_comma {
+            return Ok(Kind::Group(Box::new(values.remove(0))));
+        }
+        Ok(Kind::Tuple(values))
     }
 
     // Reads `VALUE; LENGTH]`, or values and `]`.
-    fn array(&mut self) -> Result<ExpressionKind, Fault> {
-        if self.eat("]") {
-            return Ok(ExpressionKind::Array(Vec::new()));
+    fn array(&mut self) -> Result<Kind, Fault> {
+        let mut length = None;
+        let mut values = self.list("]", |parser| {
+            let value = parser.expression()?;
+            if length.is_none() {
+                length = parser.after(";", Self::length)?;
+            }
+            Ok(value)
+        })?;
+        match length {
+            None => Ok(Kind::Array(values)),
+            Some(length) if values.len() == 1 => {
+                let (value, length) = (Box::new(values.remove(0)), Box::new(length));
+                Ok(Kind::Repeat { value, length })
+            }
+            Some(length) => self.refuse_form(length.span, "a length behind more values"),
         }
-        let first = self.expression()?;
-        if self.eat(";") {
-            let (value, length) = (Box::new(first), Box::new(self.length()?));
-            self.expect("]")?;
-            return Ok(ExpressionKind::Repeat { value, length });
-        }
-        if !self.eat(",") && !self.is("]") {
-            return self.refuse("`,` or `]`");
-        }
-        let mut values = self.list("]", Self::expression)?;
-        values.insert(0, first);
-        Ok(ExpressionKind::Array(values))
     }
 
     // Reads the length of an array: a number, or the name of a constant.
     pub(super) fn length(&mut self) -> Result<Expression, Fault> {
         let start = self.span();
         let kind = match self.kind() {
-            Kind::Integer => ExpressionKind::Literal(self.literal()?),
-            _ => ExpressionKind::Path(self.path_of_values()?),
+            TokenKind::Integer => Kind::Literal(self.literal()?),
+            _ => Kind::Path(self.path(false)?),
         };
         Ok(self.node(start, kind))
     }
 
     // Reads an expression that a keyword begins.
-    fn control(&mut self) -> Result<ExpressionKind, Fault> {
-        Ok(if self.is("if") {
-            ExpressionKind::If(self.if_()?)
+    fn control(&mut self) -> Result<Kind, Fault> {
+        let start = self.span();
+        Ok(if self.eat("if") {
+            self.if_()?
         } else if self.eat("match") {
             self.match_()?
         } else if self.eat("while") {
-            let condition = Box::new(self.condition()?);
-            ExpressionKind::While { condition, body: self.block()? }
+            Kind::While { condition: self.condition()?, body: self.block()? }
         } else if self.eat("loop") {
-            ExpressionKind::Loop(self.block()?)
+            let forever = Literal { span: start, kind: LiteralKind::Boolean(true) };
+            let condition = Box::new(self.node(start, Kind::Literal(forever)));
+            Kind::While { condition, body: self.block()? }
         } else if self.eat("for") {
             let pattern = self.pattern()?;
             self.expect("in")?;
-            let value = Box::new(self.with_structs(false, Self::counted)?);
-            ExpressionKind::For { pattern, value, body: self.block()? }
+            let value = self.with_structs(false, Self::boxed)?;
+            Kind::For { pattern, value, body: self.block()? }
         } else if self.eat("return") {
             let is_alone = self.is_one_of(&[";", "}", ",", ")"]);
-            ExpressionKind::Return(if is_alone { None } else { Some(self.boxed()?) })
+            Kind::Return(if is_alone { None } else { Some(self.boxed()?) })
         } else if self.eat("break") {
-            ExpressionKind::Break
-        } else if self.eat("continue") {
-            ExpressionKind::Continue
+            Kind::Break
         } else {
             return self.refuse("an expression");
         })
     }
 
-    fn if_(&mut self) -> Result<If, Fault> {
-        self.expect("if")?;
-        let (condition, then) = (Box::new(self.condition()?), self.block()?);
+    fn if_(&mut self) -> Result<Kind, Fault> {
+        let (condition, then) = (self.condition()?, self.block()?);
         let otherwise = self.after("else", |parser| {
             let start = parser.span();
-            let kind = match parser.is("if") {
-                true => ExpressionKind::If(parser.if_()?),
-                false => ExpressionKind::Block(parser.block()?),
+            let kind = match parser.eat("if") {
+                true => parser.if_()?,
+                false => Kind::Block(parser.block()?),
             };
             Ok(Box::new(parser.node(start, kind)))
         })?;
-        Ok(If { condition, then, otherwise })
+        Ok(Kind::If { condition, then, otherwise })
     }
 
     // Reads a test or `let PATTERN = VALUE`. More tests behind a `let` have no rule.
-    fn condition(&mut self) -> Result<Condition, Fault> {
-        if !self.eat("let") {
-            return self.with_structs(false, Self::expression).map(Condition::Test);
-        }
-        let pattern = self.pattern()?;
-        self.expect("=")?;
-        let value = self.with_structs(false, |parser| parser.binary(ABOVE_AND))?;
-        Ok(Condition::Let { pattern, value })
+    fn condition(&mut self) -> Result<Box<Expression>, Fault> {
+        let start = self.span();
+        self.with_structs(false, |parser| {
+            if !parser.eat("let") {
+                return parser.boxed();
+            }
+            let pattern = parser.pattern()?;
+            parser.expect("=")?;
+            let value = parser.binary(ABOVE_AND)?;
+            let found = Let { pattern, annotation: None, value, otherwise: None };
+            Ok(Box::new(parser.node(start, Kind::Let(Box::new(found)))))
+        })
     }
 
-    fn match_(&mut self) -> Result<ExpressionKind, Fault> {
-        let value = Box::new(self.with_structs(false, Self::expression)?);
+    fn match_(&mut self) -> Result<Kind, Fault> {
+        let value = self.with_structs(false, Self::boxed)?;
         self.expect("{")?;
         let mut arms = Vec::new();
         while !self.eat("}") {
@@ -323,19 +303,18 @@ impl Parser<'_> {
             }
             arms.push(arm);
         }
-        Ok(ExpressionKind::Match { value, arms })
+        Ok(Kind::Match { value, arms })
     }
 
     fn arm(&mut self) -> Result<Arm, Fault> {
-        let (comments, start) = (self.comments(), self.span());
+        let comments = self.comments();
         let (pattern, guard) = (self.pattern()?, self.after("if", Self::expression)?);
         self.expect("=>")?;
-        let body = *self.statement_expression()?;
-        Ok(Arm { span: self.since(start), comments, pattern, guard, body })
+        Ok(Arm { comments, pattern, guard, body: self.statement_expression()? })
     }
 
     // Reads `matches!(..)` or `write!(..)`. No other macro has a rule.
-    fn call_of_macro(&mut self) -> Result<ExpressionKind, Fault> {
+    fn call_of_macro(&mut self) -> Result<Kind, Fault> {
         let name = self.name()?;
         if !matches!(&*name.text, "matches" | "write") {
             return self.refuse_form(name.span, &format!("the macro `{}`", name.text));
@@ -345,60 +324,30 @@ impl Parser<'_> {
         let value = self.with_structs(true, Self::boxed)?;
         self.expect(",")?;
         let kind = if name.text == "matches" {
-            let pattern = self.pattern()?;
-            let guard = self.after("if", |parser| parser.with_structs(true, Self::boxed))?;
-            ExpressionKind::Matches { value, pattern, guard }
+            Kind::Matches { value, pattern: self.pattern()? }
         } else {
             let format = self.literal()?;
-            if !literals::has_plain_places(&format) {
+            if !has_plain_places(&format) {
                 return self.refuse_form(format.span, "this format");
             }
-            ExpressionKind::Write { writer: value, format }
+            Kind::Write(value)
         };
-        self.eat(",");
         self.expect(")")?;
         Ok(kind)
     }
 
-    // Reads a path of values, whose generic arguments stand behind `::`.
-    pub(super) fn path_of_values(&mut self) -> Result<Path, Fault> {
-        let start = self.span();
-        let mut segments = Vec::<Segment>::new();
-        loop {
-            match segments.last_mut() {
-                Some(last) if self.eat("<") => last.arguments = self.generic_arguments()?,
-                _ => {
-                    let name = self.segment_name(segments.is_empty())?;
-                    segments.push(Segment { name, arguments: Vec::new() });
-                }
-            }
-            if !self.eat("::") {
-                return Ok(Path { span: self.since(start), segments });
-            }
+    fn path_or_struct(&mut self) -> Result<Kind, Fault> {
+        let path = self.path(false)?;
+        if !(is_capital(&path.last().name.text) && self.takes_structs && self.eat("{")) {
+            return Ok(Kind::Path(path));
         }
-    }
-
-    fn path_or_struct(&mut self) -> Result<ExpressionKind, Fault> {
-        let path = self.path_of_values()?;
-        let is_type = path.segments.last().is_some_and(|last| is_capital(&last.name.text));
-        if !(is_type && self.takes_structs && self.eat("{")) {
-            return Ok(ExpressionKind::Path(path));
-        }
-        let mut fields = Vec::new();
-        while !self.is_one_of(&["..", "}"]) {
-            let name = self.name()?;
-            let value = match self.after(":", Self::expression)? {
-                Some(value) => value,
-                None => self.node(name.span, variable(&name)),
-            };
-            fields.push(FieldValue { name, value });
-            if !self.eat(",") {
-                break;
-            }
-        }
+        let fields = self.fields_of(Self::expression, |name| Expression {
+            span: name.span,
+            kind: Kind::Path(Path::of(name.clone())),
+        })?;
         let base = self.after("..", Self::base)?;
         self.expect("}")?;
-        Ok(ExpressionKind::Struct(StructExpression { path, fields, base }))
+        Ok(Kind::Struct { path, fields, base })
     }
 
     // Reads what gives the other fields: a variable, a constant or `*self`. Rattle need not read more.
@@ -409,23 +358,82 @@ impl Parser<'_> {
         }
         self.refuse("the name of a variable")
     }
+
+    // Reads a block. Items in it have no rule.
+    pub(super) fn block(&mut self) -> Result<Block, Fault> {
+        let start = self.expect("{")?;
+        self.with_structs(true, |parser| {
+            let (mut statements, mut value) = (Vec::new(), None);
+            let mut comments = parser.comments();
+            while !parser.is("}") {
+                let expression = parser.statement()?;
+                if !matches!(expression.kind, Kind::Let(_)) && parser.is("}") {
+                    value = Some(Box::new(expression));
+                } else if parser.eat(";") || is_block_like(&expression) {
+                    statements.push(Statement { comments, expression });
+                    comments = parser.comments();
+                } else {
+                    return parser.refuse("`;`, `}` or an operator");
+                }
+            }
+            parser.expect("}")?;
+            Ok(Block { span: parser.since(start), statements, value, comments })
+        })
+    }
+
+    // Reads a statement without its `;`.
+    fn statement(&mut self) -> Result<Expression, Fault> {
+        let start = self.span();
+        if !self.eat("let") {
+            return self.statement_expression();
+        }
+        let pattern = self.pattern()?;
+        let annotation = self.after(":", Self::type_)?;
+        self.expect("=")?;
+        let value = self.expression()?;
+        let otherwise = self.after("else", Self::block)?;
+        let found = Let { pattern, annotation, value, otherwise };
+        Ok(self.node(start, Kind::Let(Box::new(found))))
+    }
+
+    // Reads an expression as a statement or the body of an arm: one that ends with a block goes on only with
+    // `.` or `?`.
+    fn statement_expression(&mut self) -> Result<Expression, Fault> {
+        if !self.is_one_of(&["if", "match", "while", "loop", "for", "{"]) {
+            return self.expression();
+        }
+        let value = self.primary()?;
+        if self.is_one_of(&[".", "?"]) { self.expression_after(value) } else { Ok(value) }
+    }
 }
 
-// Returns the variable of this name.
-fn variable(name: &crate::tree::Name) -> ExpressionKind {
-    let segments = vec![Segment { name: name.clone(), arguments: Vec::new() }];
-    ExpressionKind::Path(Path { span: name.span, segments })
+// Whether an expression is a statement without `;`.
+fn is_block_like(expression: &Expression) -> bool {
+    let kind = &expression.kind;
+    let is_loop = matches!(kind, Kind::For { .. } | Kind::While { .. });
+    is_loop || matches!(kind, Kind::Block(_) | Kind::If { .. } | Kind::Match { .. })
 }
 
 // Whether something can be assigned to this.
 fn is_place(expression: &Expression) -> bool {
-    match &expression.kind {
-        ExpressionKind::Unary { operator, .. } => *operator == UnaryOperator::Dereference,
-        kind => matches!(
-            kind,
-            ExpressionKind::Path(_) | ExpressionKind::Field { .. } | ExpressionKind::Index { .. }
-        ),
+    let is_pointed = |operator| operator == UnaryOperator::Dereference;
+    match expression.kind {
+        Kind::Unary { operator, .. } => is_pointed(operator),
+        ref kind => matches!(kind, Kind::Path(_) | Kind::Field { .. } | Kind::Index { .. }),
     }
+}
+
+// Whether each place of a format is `{NAME}`. Both languages print these alike.
+fn has_plain_places(format: &Literal) -> bool {
+    let LiteralKind::Text(text) = &format.kind else { return false };
+    let text = String::from_utf8_lossy(text);
+    let is_part = |character: char| character.is_ascii_lowercase() || character == '_';
+    let is_plain = |part: &str| match part.split_once('}') {
+        Some((name, rest)) => !name.is_empty() && name.chars().all(is_part) && !rest.contains('}'),
+        None => false,
+    };
+    let (first, places) = text.split_once('{').unwrap_or((&text, ""));
+    !first.contains('}') && (places.is_empty() || places.split('{').all(is_plain))
 }
 
 // Returns an operator between two values, and its level. A higher one binds more tightly.

@@ -5,14 +5,15 @@ use crate::source::{Fault, Span};
 use crate::std_names::{DERIVED, has};
 use crate::token::Kind;
 use crate::tree::{
-    Alias, Attribute, AttributeKind, Clause, ClauseKind, Constant, Enum, Field, Fields, Function,
-    GenericKind, Ghost, GhostKind, Implementation, Import, ImportKind, Inline, Item, ItemKind,
-    Name, Notes, Parameter, Receiver, Struct, Trait, Tree, Type, TypeKind, Use, Variant,
-    Visibility,
+    Attribute, AttributeKind, Clause, Field, Function, GenericKind, GenericParameter, Import, Item,
+    ItemKind, Name, Notes, Parameter, Path, Tree, Type, TypeKind, Variant, Visibility,
 };
 
+/// The generics of a `fmt`. In Rattle, a formatter has its writer as a type parameter, which Rust leaves out.
+pub const WRITER: &str = "<W: fmt::Write>";
+
 // What holds an item.
-#[derive(Clone, Copy, PartialEq, Eq)]
+#[derive(Clone, Copy, Debug, PartialEq, Eq)]
 enum Place {
     Module,
     Trait,
@@ -22,18 +23,18 @@ enum Place {
 impl Parser<'_> {
     // Reads a whole module. A hint to the prover for all of it may stand between its items.
     pub(super) fn tree(mut self) -> Result<Tree, Fault> {
-        let mut tree = Tree { docs: Vec::new(), attributes: Vec::new(), items: Vec::new() };
+        let mut tree = Tree::default();
         while self.kind() == Kind::InnerDoc {
-            tree.docs.push(self.step());
+            self.step();
         }
         while self.kind() != Kind::End {
             let start = self.span();
             if self.is_ahead(1, "!") && self.eat("#") && self.eat("!") {
                 let attribute = self.attribute(start)?;
-                if !matches!(attribute.kind, AttributeKind::Tactic) {
+                if attribute.kind != AttributeKind::Tactic {
                     return self.refuse_form(start, "this attribute of a whole module");
                 }
-                tree.attributes.push(attribute);
+                tree.hints.push(attribute.span);
             } else {
                 tree.items.push(self.item(Place::Module)?);
             }
@@ -63,9 +64,9 @@ impl Parser<'_> {
         let name = self.name()?;
         let has_arguments = self.eat("(");
         let kind = match (name.text.as_str(), has_arguments) {
-            ("inline", false) => AttributeKind::Inline(Inline::Plain),
-            ("inline", true) if self.eat("always") => AttributeKind::Inline(Inline::Always),
-            ("inline", true) if self.eat("never") => AttributeKind::Inline(Inline::Never),
+            ("inline", false) => AttributeKind::Inline,
+            ("inline", true) if self.eat("always") => AttributeKind::AlwaysInline,
+            ("inline", true) if self.eat("never") => AttributeKind::NeverInline,
             ("cold", false) => AttributeKind::Cold,
             ("doc", true) if self.eat("hidden") => AttributeKind::Hidden,
             ("derive", true) => AttributeKind::Derive(self.derived()?),
@@ -79,13 +80,13 @@ impl Parser<'_> {
         Ok(Attribute { span: self.since(start), kind })
     }
 
-    fn derived(&mut self) -> Result<Vec<Name>, Fault> {
+    fn derived(&mut self) -> Result<Vec<String>, Fault> {
         let mut names = Vec::new();
         while names.is_empty() || self.eat(",") {
             if !has(DERIVED, self.text()) {
                 return self.refuse("a trait that Rust derives as Rattle does");
             }
-            names.push(self.name()?);
+            names.push(self.name()?.text);
         }
         Ok(names)
     }
@@ -121,21 +122,49 @@ impl Parser<'_> {
 
     fn item(&mut self, place: Place) -> Result<Item, Fault> {
         let (notes, start) = (self.notes()?, self.span());
-        let visibility = match place {
-            Place::Trait => Visibility::Private,
-            Place::Module | Place::Implementation => self.visibility()?,
+        let is_of_trait = place == Place::Trait;
+        let visibility = if is_of_trait { Visibility::Private } else { self.visibility()? };
+        let keyword = self.text();
+        let is_known = match keyword {
+            "ghost" => visibility == Visibility::Private,
+            "fn" | "const" => true,
+            "type" => !is_of_trait,
+            "use" | "mod" | "static" | "struct" | "enum" | "trait" | "impl" => {
+                place == Place::Module
+            }
+            _ => false,
         };
-        let kind = match visibility {
-            Visibility::Private if self.is("ghost") => ItemKind::Ghost(self.ghost(place)?),
-            _ if place == Place::Module => self.module_item()?,
-            _ => self.member(place)?,
-        };
-        // Documentation of what becomes a comment would move to the next item.
-        let is_comment = matches!(kind, ItemKind::Ghost(_)) || is_model(&kind);
-        if is_comment || matches!(kind, ItemKind::Use(_)) {
-            self.refuse_notes(&notes, start)?;
+        if !is_known {
+            return self.refuse(match place {
+                Place::Module => "an item",
+                _ => "a function, a constant or a ghost item",
+            });
         }
-        Ok(Item { span: self.since(start), notes, visibility, kind })
+        self.step();
+        let mut item = Item {
+            span: start,
+            notes,
+            visibility,
+            name: Name { text: String::new(), span: start },
+            generics: Vec::new(),
+            kind: ItemKind::Ghost,
+        };
+        if keyword == "ghost" {
+            self.ghost(place, &mut item)?;
+        } else {
+            if !matches!(keyword, "use" | "impl") {
+                item.name = self.name()?;
+            }
+            item.generics = self.generics_of(keyword, &item.name)?;
+            item.kind = self.item_kind(keyword)?;
+        }
+        item.span = self.since(start);
+        // Documentation of what becomes a comment would move to the next item.
+        let is_ghost = matches!(item.kind, ItemKind::Ghost | ItemKind::GhostUse { .. });
+        if is_ghost || item.is_model() || keyword == "use" {
+            self.refuse_notes(&item.notes, start)?;
+        }
+        Ok(item)
     }
 
     fn refuse_notes(&self, notes: &Notes, item: Span) -> Result<(), Fault> {
@@ -143,43 +172,43 @@ impl Parser<'_> {
         if is_noted { self.refuse_form(item, "documentation of this item") } else { Ok(()) }
     }
 
-    fn module_item(&mut self) -> Result<ItemKind, Fault> {
-        Ok(if self.eat("use") {
-            ItemKind::Use(self.use_()?)
-        } else if self.eat("mod") {
-            let name = self.name()?;
-            self.expect(";")?;
-            ItemKind::Module(name)
-        } else if self.is_one_of(&["const", "static"]) {
-            ItemKind::Constant(self.constant()?)
-        } else if self.eat("type") {
-            ItemKind::Alias(self.alias()?)
-        } else if self.eat("struct") {
-            ItemKind::Struct(self.struct_()?)
-        } else if self.eat("enum") {
-            ItemKind::Enum(self.enum_()?)
-        } else if self.eat("trait") {
-            ItemKind::Trait(self.trait_()?)
-        } else if self.eat("impl") {
-            ItemKind::Implementation(self.implementation()?)
-        } else if self.eat("fn") {
-            ItemKind::Function(self.function()?)
-        } else {
-            return self.refuse("an item");
-        })
+    fn generics_of(&mut self, keyword: &str, name: &Name) -> Result<Vec<GenericParameter>, Fault> {
+        let is_fmt = keyword == "fn" && name.text == "fmt";
+        if is_fmt && !self.source.text[name.span.end..].starts_with(WRITER) {
+            return self.refuse_form(name.span, &format!("a `fmt` without `{WRITER}`"));
+        }
+        let mut generics = self.generics()?;
+        if is_fmt {
+            generics[0].kind = GenericKind::Type(Vec::new());
+        }
+        Ok(generics)
     }
 
-    // Reads an item of a trait or an `impl`.
-    fn member(&mut self, place: Place) -> Result<ItemKind, Fault> {
-        Ok(if self.is("const") {
-            ItemKind::Constant(self.constant()?)
-        } else if place == Place::Implementation && self.eat("type") {
-            ItemKind::Alias(self.alias()?)
-        } else if self.eat("fn") {
-            ItemKind::Function(self.function()?)
-        } else {
-            return self.refuse("a function, a constant or a ghost item");
-        })
+    // Reads what follows the name and the generics of an item.
+    fn item_kind(&mut self, keyword: &str) -> Result<ItemKind, Fault> {
+        let kind = match keyword {
+            "struct" => return self.struct_(),
+            "enum" => return self.enum_(),
+            "fn" => return Ok(ItemKind::Function(self.function()?)),
+            "trait" => {
+                let bounds = self.after(":", Self::bounds)?.unwrap_or_default();
+                return Ok(ItemKind::Trait { bounds, members: self.members(Place::Trait)? });
+            }
+            "impl" => return self.implementation(),
+            "use" => ItemKind::Use(self.imports()?),
+            "mod" => ItemKind::Module,
+            "type" => {
+                self.expect("=")?;
+                ItemKind::Alias(self.type_()?)
+            }
+            _ => {
+                self.expect(":")?;
+                let annotation = self.type_()?;
+                ItemKind::Constant { annotation, value: self.after("=", Self::expression)? }
+            }
+        };
+        self.expect(";")?;
+        Ok(kind)
     }
 
     fn members(&mut self, place: Place) -> Result<Vec<Item>, Fault> {
@@ -191,33 +220,26 @@ impl Parser<'_> {
         Ok(members)
     }
 
-    /// Reads what follows `use`, with its `;`.
-    pub fn use_(&mut self) -> Result<Use, Fault> {
-        let head = self.segment_name(true)?;
+    /// Reads what follows `use`.
+    pub fn imports(&mut self) -> Result<Vec<Import>, Fault> {
         let mut imports = Vec::new();
-        self.import(vec![head.clone()], &mut imports)?;
-        self.expect(";")?;
-        Ok(Use { head, imports })
+        let head = self.segment_name(true)?;
+        self.import(vec![head], &mut imports)?;
+        Ok(imports)
     }
 
     // Reads what follows a name of a path: `as NAME`, nothing, or `::` and more.
     fn import(&mut self, mut path: Vec<Name>, imports: &mut Vec<Import>) -> Result<(), Fault> {
         if !self.eat("::") {
             let alias = self.after("as", Self::name)?;
-            let kind = alias.map_or(ImportKind::Name, ImportKind::Alias);
-            imports.push(Import { path, kind, comma: None });
+            imports.push(Import { path, alias, is_all: false });
         } else if self.eat("*") {
-            imports.push(Import { path, kind: ImportKind::All, comma: None });
+            imports.push(Import { path, alias: None, is_all: true });
         } else if self.eat("{") {
-            while !self.eat("}") {
-                let name = self.name()?;
-                self.import([path.clone(), vec![name]].concat(), imports)?;
-                match imports.last_mut() {
-                    Some(last) if self.is(",") => last.comma = Some(self.step()),
-                    _ if self.is("}") => {}
-                    _ => return self.refuse("`,` or `}`"),
-                }
-            }
+            self.list("}", |parser| {
+                let name = parser.name()?;
+                parser.import([path.clone(), vec![name]].concat(), imports)
+            })?;
         } else {
             path.push(self.name()?);
             self.import(path, imports)?;
@@ -225,121 +247,83 @@ impl Parser<'_> {
         Ok(())
     }
 
-    fn constant(&mut self) -> Result<Constant, Fault> {
-        let is_static = self.is("static");
-        self.step();
-        let name = self.name()?;
-        self.expect(":")?;
-        let annotation = self.type_()?;
-        let value = self.after("=", Self::expression)?;
-        self.expect(";")?;
-        Ok(Constant { name, is_static, annotation, value })
-    }
-
-    fn alias(&mut self) -> Result<Alias, Fault> {
-        let (name, generics) = (self.name()?, self.generics()?);
-        self.expect("=")?;
-        let target = self.type_()?;
-        self.expect(";")?;
-        Ok(Alias { name, generics, target })
-    }
-
-    // Reads a struct, with named fields or without fields.
-    fn struct_(&mut self) -> Result<Struct, Fault> {
-        let (name, generics) = (self.name()?, self.generics()?);
+    // Reads what follows the name of a struct, which has named fields or none.
+    fn struct_(&mut self) -> Result<ItemKind, Fault> {
         let (mut fields, mut ghosts) = (Vec::new(), Vec::new());
         if self.eat(";") {
-            return Ok(Struct { name, generics, fields: Fields::Unit, ghosts });
+            return Ok(ItemKind::Struct { fields, ghosts });
         }
         self.expect("{")?;
         while !self.eat("}") {
             let (notes, start) = (self.notes()?, self.span());
             if self.eat("ghost") {
                 self.refuse_notes(&notes, start)?;
-                let kind = self.ghost_declaration()?;
+                self.ghost_declaration()?;
                 self.eat(",");
-                ghosts.push(Ghost { span: self.since(start), kind });
+                ghosts.push(self.since(start));
                 continue;
             }
-            fields.push(self.named_field(notes)?);
+            fields.push(self.named_field()?);
             if !self.eat(",") && !self.is("}") {
                 return self.refuse("`,` or `}`");
             }
         }
-        Ok(Struct { name, generics, fields: Fields::Named(fields), ghosts })
+        Ok(ItemKind::Struct { fields, ghosts })
     }
 
-    fn named_field(&mut self, notes: Notes) -> Result<Field, Fault> {
-        let start = self.span();
+    fn named_field(&mut self) -> Result<Field, Fault> {
+        self.notes()?;
         let (visibility, name) = (self.visibility()?, self.name()?);
         self.expect(":")?;
-        let annotation = self.type_()?;
-        Ok(Field { span: self.since(start), notes, visibility, name, annotation })
+        Ok(Field { visibility, name, annotation: self.type_()? })
     }
 
-    fn enum_(&mut self) -> Result<Enum, Fault> {
-        let (name, generics) = (self.name()?, self.generics()?);
+    fn enum_(&mut self) -> Result<ItemKind, Fault> {
         self.expect("{")?;
         let variants = self.list("}", |parser| {
-            let (notes, start) = (parser.notes()?, parser.span());
-            let (name, fields) = (parser.name()?, parser.fields()?);
-            Ok(Variant { span: parser.since(start), notes, name, fields })
+            parser.notes()?;
+            Ok(Variant { name: parser.name()?, fields: parser.fields()? })
         })?;
-        Ok(Enum { name, generics, variants })
+        Ok(ItemKind::Enum(variants))
     }
 
     // Reads the fields of a variant. A ghost item has no rule here.
-    fn fields(&mut self) -> Result<Fields, Fault> {
+    fn fields(&mut self) -> Result<Vec<Field>, Fault> {
         if self.eat("{") {
-            let fields = self.list("}", |parser| {
-                let notes = parser.notes()?;
-                parser.named_field(notes)
-            })?;
-            return Ok(Fields::Named(fields));
+            return self.list("}", Self::named_field);
         }
         let mut number = 0..;
         let fields = self.after("(", |parser| {
             parser.list(")", |parser| {
-                let (notes, annotation) = (parser.notes()?, parser.type_()?);
-                let (visibility, span) = (Visibility::Private, annotation.span);
-                let name = Name { text: number.next().unwrap_or(0).to_string(), span };
-                Ok(Field { span, notes, visibility, name, annotation })
+                let annotation = parser.type_()?;
+                let text = number.next().unwrap_or(0).to_string();
+                let name = Name { text, span: annotation.span };
+                Ok(Field { visibility: Visibility::Private, name, annotation })
             })
         })?;
-        Ok(fields.map_or(Fields::Unit, Fields::Tuple))
+        Ok(fields.unwrap_or_default())
     }
 
-    fn trait_(&mut self) -> Result<Trait, Fault> {
-        let (name, generics) = (self.name()?, self.generics()?);
-        let bounds = self.after(":", Self::bounds)?.unwrap_or_default();
-        Ok(Trait { name, generics, bounds, members: self.members(Place::Trait)? })
-    }
-
-    fn implementation(&mut self) -> Result<Implementation, Fault> {
-        let (generics, first) = (self.generics()?, self.type_()?);
+    fn implementation(&mut self) -> Result<ItemKind, Fault> {
+        let first = self.type_()?;
         let (of, target) = match (first.kind, self.after("for", Self::type_)?) {
             (TypeKind::Path(of), Some(target)) => (Some(of), target),
             (_, Some(_)) => return self.refuse_form(first.span, "an `impl` of no trait"),
             (kind, None) => (None, Type { span: first.span, kind }),
         };
-        Ok(Implementation { generics, of, target, members: self.members(Place::Implementation)? })
+        let members = self.members(Place::Implementation)?;
+        Ok(ItemKind::Implementation { of, target, members })
     }
 
     fn function(&mut self) -> Result<Function, Fault> {
-        let (name, mut generics) = (self.name()?, self.generics()?);
-        // In Rattle, a formatter has its writer as a type parameter, which Rust leaves out.
-        if name.text == "fmt" {
-            if generics.span.map(|span| self.source.at(span)) != Some("<W: fmt::Write>") {
-                return self.refuse_form(name.span, "a `fmt` without `<W: fmt::Write>`");
-            }
-            generics.parameters[0].kind = GenericKind::Type(Vec::new());
-        }
         self.expect("(")?;
-        let receiver = self.receiver()?;
-        if receiver.is_some() && !self.eat(",") && !self.is(")") {
-            return self.refuse("`,` or `)`");
-        }
+        let mut is_first = true;
         let parameters = self.list(")", |parser| {
+            let receiver = if is_first { parser.receiver()? } else { None };
+            is_first = false;
+            if let Some(receiver) = receiver {
+                return Ok(receiver);
+            }
             let (is_mutable, name) = (parser.eat("mut"), parser.name()?);
             parser.expect(":")?;
             Ok(Parameter { name, is_mutable, annotation: parser.type_()? })
@@ -347,36 +331,39 @@ impl Parser<'_> {
         let output = self.after("->", Self::type_)?;
         let clauses = self.clauses()?;
         let body = if self.eat(";") { None } else { Some(self.block()?) };
-        Ok(Function { name, generics, receiver, parameters, output, clauses, body })
+        Ok(Function { parameters, output, clauses, body })
     }
 
     // Reads `self`, `mut self`, `&self` or `&mut self`, if one comes next.
-    fn receiver(&mut self) -> Result<Option<Receiver>, Fault> {
+    fn receiver(&mut self) -> Result<Option<Parameter>, Fault> {
         let after_sign = usize::from(self.is("&"));
         let after_mut = after_sign + usize::from(self.is_ahead(after_sign, "mut"));
         if !self.is_ahead(after_mut, "self") {
             return Ok(None);
         }
         let (is_reference, is_mutable) = (self.eat("&"), self.eat("mut"));
-        self.expect("self")?;
-        Ok(Some(Receiver { is_reference, is_mutable }))
+        let name = self.word();
+        let (span, own) = (name.span, Name { text: "Self".into(), span: name.span });
+        let mut kind = TypeKind::Path(Path::of(own));
+        if is_reference {
+            kind = TypeKind::Reference { is_mutable, target: Box::new(Type { span, kind }) };
+        }
+        let is_mutable = is_mutable && !is_reference;
+        Ok(Some(Parameter { name, is_mutable, annotation: Type { span, kind } }))
     }
 
     // Reads the clauses of a contract.
     fn clauses(&mut self) -> Result<Vec<Clause>, Fault> {
         let mut clauses = Vec::new();
-        loop {
-            let start = self.span();
-            let kind = match self.text() {
-                "requires" => ClauseKind::Requires,
-                "ensures" => ClauseKind::Ensures,
-                _ => return Ok(clauses),
-            };
-            self.step();
-            let name = if self.kind() == Kind::Clause { None } else { Some(self.name()?) };
+        while self.is_one_of(&["requires", "ensures"]) {
+            let (is_condition, start) = (self.is("requires"), self.step());
+            if self.kind() != Kind::Clause {
+                self.name()?;
+            }
             let text = self.clause_text()?;
-            clauses.push(Clause { span: self.since(start), kind, name, text });
+            clauses.push(Clause { span: self.since(start), text, is_condition });
         }
+        Ok(clauses)
     }
 
     // Reads a clause, and returns what is between its braces.
@@ -388,37 +375,33 @@ impl Parser<'_> {
         Ok(Span { start: start + 1, end: end - 1 })
     }
 
-    // Reads a ghost item, with its `;`. A trait declares them, an `impl` defines them, and a module only
-    // imports definitions.
-    fn ghost(&mut self, place: Place) -> Result<Ghost, Fault> {
-        let start = self.expect("ghost")?;
-        let kind = if self.ahead(1).kind == Kind::GhostPath {
+    // Reads what follows `ghost`. A trait declares such items, an `impl` defines them, and a module only imports
+    // definitions.
+    fn ghost(&mut self, place: Place, item: &mut Item) -> Result<(), Fault> {
+        if self.ahead(1).kind == Kind::GhostPath {
             self.step();
-            self.ghost_import()?
+            item.kind = self.ghost_import()?;
         } else if place == Place::Trait {
-            self.ghost_declaration()?
+            self.ghost_declaration()?;
         } else if place == Place::Implementation {
-            let name = self.word();
+            item.name = self.word();
             self.expect("=")?;
             self.clause_text()?;
-            GhostKind::Defined(name)
         } else {
             return self.refuse("`use`");
-        };
-        self.expect(";")?;
-        Ok(Ghost { span: self.since(start), kind })
+        }
+        self.expect(";").map(|_| ())
     }
 
     // Reads `NAME: {..}`.
-    fn ghost_declaration(&mut self) -> Result<GhostKind, Fault> {
-        let name = self.word();
+    fn ghost_declaration(&mut self) -> Result<(), Fault> {
+        self.step();
         self.expect(":")?;
-        self.clause_text()?;
-        Ok(GhostKind::Declared(name))
+        self.clause_text().map(|_| ())
     }
 
     // Reads `MODULE.{NAMES}`. A path without braces and `as` have no rule: each name must be seen.
-    fn ghost_import(&mut self) -> Result<GhostKind, Fault> {
+    fn ghost_import(&mut self) -> Result<ItemKind, Fault> {
         let path = self.text().trim().strip_suffix('}').and_then(|path| path.split_once(".{"));
         let (module, names) = path.unwrap_or_default();
         let names: Vec<String> = names.split(',').map(|name| name.trim().to_string()).collect();
@@ -427,12 +410,6 @@ impl Parser<'_> {
             return self.refuse("`MODULE.{NAMES}`");
         }
         self.step();
-        Ok(GhostKind::Import { module: module.into(), names })
+        Ok(ItemKind::GhostUse { module: module.into(), names })
     }
-}
-
-/// Says whether an item is an `impl` of `Model`, which only proofs read.
-pub fn is_model(kind: &ItemKind) -> bool {
-    let ItemKind::Implementation(Implementation { of: Some(of), .. }) = kind else { return false };
-    matches!(of.segments.as_slice(), [only] if only.name.text == "Model")
 }

@@ -2,12 +2,9 @@
 
 mod expressions;
 mod items;
-mod literals;
-mod patterns;
-mod statements;
 mod types;
 
-pub use items::is_model;
+pub use items::WRITER;
 
 use crate::lexer::{Language, lex};
 use crate::source::{Fault, Source, Span};
@@ -150,10 +147,13 @@ impl<'a> Parser<'a> {
         Name { text, span: self.step() }
     }
 
-    // Reads a lifetime if one comes next.
-    fn lifetime(&mut self) -> Option<Name> {
-        let text = self.text().trim_start_matches('\'').into();
-        (self.kind() == Kind::Lifetime).then(|| Name { text, span: self.step() })
+    // Steps over a lifetime if one comes next.
+    fn lifetime(&mut self) -> bool {
+        let is_next = self.kind() == Kind::Lifetime;
+        if is_next {
+            self.step();
+        }
+        is_next
     }
 
     // Takes the comments before the next token.

@@ -46,11 +46,10 @@ impl Lowering<'_> {
             },
         };
         let constant = id.and_then(|id| Some((id, self.world.constant(id)?)));
-        let Some((id, tree)) = constant else { return self.refuse("this name has no rule") };
-        let of = self.world.type_in(&self.world.place(id)?, &tree.annotation)?;
+        let Some((id, of)) = constant else { return self.refuse("this name has no rule") };
         let owner = owner.map(|(owner, _)| owner);
         let bindings = owner.iter().map(|owner| ("Self".to_string(), owner.clone())).collect();
-        Ok(Value::Term(self.make(TermKind::Constant(id, owner), of.with(&bindings))))
+        Ok(Value::Term(self.make(TermKind::Constant(id, owner), of?.with(&bindings))))
     }
 
     // Returns what all of a path stands for.
@@ -85,13 +84,10 @@ impl Lowering<'_> {
     /// Evaluates a call of what a path names.
     pub(super) fn call(
         &mut self,
-        function: &Expression,
+        path: &Path,
         arguments: &[Expression],
         wanted: Option<&Type>,
     ) -> Done<Value> {
-        let ExpressionKind::Path(path) = &function.kind else {
-            return self.refuse("a call of what is no path");
-        };
         if let Some((of, shape)) = self.variant(path) {
             wanted.map_or(Ok(()), |wanted| self.unify(&of, wanted))?;
             let fields = self.fields_of(&self.known(&of), shape)?;
@@ -117,10 +113,10 @@ impl Lowering<'_> {
                 _ => None,
             },
         };
-        let (Some((id, bindings)), Some(last)) = (found, path.segments.last()) else {
+        let Some((id, bindings)) = found else {
             return self.refuse("this function has no rule");
         };
-        let mut chosen = self.choose(id, &last.arguments)?;
+        let mut chosen = self.choose(id, &path.last().arguments)?;
         chosen.callee.bindings.extend(bindings);
         self.call_chosen(chosen, None, arguments)
     }
@@ -138,13 +134,11 @@ impl Lowering<'_> {
 
     // Returns a function with the generics that a call writes. Types that it leaves out are found later.
     fn choose(&mut self, id: Id, arguments: &[GenericArgument]) -> Done<Chosen> {
-        let Some(tree) = self.world.function(id) else { return self.refuse("no function") };
-        let mut given = arguments.iter().filter(|it| !matches!(it, GenericArgument::Lifetime(_)));
+        let mut given = arguments.iter();
         let mut chosen =
             Chosen { callee: Callee { id, bindings: Default::default() }, constants: Vec::new() };
-        for parameter in &tree.generics.parameters {
+        for parameter in &self.world.item(id).generics {
             match &parameter.kind {
-                GenericKind::Lifetime => {}
                 GenericKind::Type(_) => {
                     let of = match given.next() {
                         Some(GenericArgument::Type(of)) => self.world.type_in(&self.place, of)?,

@@ -9,8 +9,8 @@ use super::ir::{Done, Function, Id, Local, Operation, Shape, Statement, Term, Te
 use super::world::{Place, World};
 use crate::source::{Fault, Source, Span};
 use crate::tree::{
-    self, BinaryOperator, Block, Condition, Expression, ExpressionKind, GenericKind, If, Let,
-    PatternKind, StatementKind,
+    self, BinaryOperator, Block, Expression, ExpressionKind, GenericKind, ItemKind, Let, Pattern,
+    PatternKind,
 };
 use infer::Variable;
 pub use infer::remove_unused;
@@ -79,7 +79,7 @@ pub fn function(world: &World, id: Id) -> Done<Function> {
 /// Returns the value of a constant.
 pub fn constant(world: &World, id: Id) -> Done<Term> {
     let mut lowering = Lowering::new(world, id)?;
-    let Some(tree::Constant { annotation, value: Some(value), .. }) = world.constant(id) else {
+    let ItemKind::Constant { annotation, value: Some(value) } = &world.item(id).kind else {
         return lowering.refuse("no constant with a value");
     };
     lowering.result = world.type_in(&lowering.place, annotation)?;
@@ -96,18 +96,10 @@ pub fn signature(world: &World, id: Id) -> Done<(Vec<Type>, Type)> {
     let Some(tree) = world.function(id) else {
         return Err(world.fault(id, world.item(id).span, "C: no function"));
     };
-    let own = tree.receiver.iter().zip(&place.self_type).map(|(it, own)| receiver_type(it, own));
-    let annotated = tree.parameters.iter().map(|it| world.type_in(&place, &it.annotation));
-    let types = own.map(Ok).chain(annotated).collect::<Done<Vec<Type>>>()?;
+    let types = tree.parameters.iter().map(|it| world.type_in(&place, &it.annotation));
+    let types = types.collect::<Done<Vec<Type>>>()?;
     let output = tree.output.as_ref().map(|it| world.type_in(&place, it)).transpose()?;
     Ok((types, output.unwrap_or(Type::UNIT)))
-}
-
-fn receiver_type(receiver: &tree::Receiver, own: &Type) -> Type {
-    match receiver.is_reference && receiver.is_mutable {
-        true => Type::Pointer(Box::new(own.clone())),
-        false => own.clone(),
-    }
 }
 
 impl<'a> Lowering<'a> {
@@ -171,15 +163,11 @@ impl<'a> Lowering<'a> {
     fn declare_parameters(&mut self, id: Id) -> Done<Vec<usize>> {
         let Some(tree) = self.world.function(id) else { return self.refuse("no function") };
         let mut parameters = Vec::new();
-        for generic in &tree.generics.parameters {
+        for generic in &self.world.item(id).generics {
             if let GenericKind::Constant(of) = &generic.kind {
                 let of = self.world.type_in(&self.place, of)?;
                 parameters.push(self.bind(&generic.name.text, of, false));
             }
-        }
-        if let (Some(receiver), Some(own)) = (&tree.receiver, self.place.self_type.clone()) {
-            let is_mutable = receiver.is_mutable && !receiver.is_reference;
-            parameters.push(self.bind("self", receiver_type(receiver, &own), is_mutable));
         }
         for parameter in &tree.parameters {
             let of = self.world.type_in(&self.place, &parameter.annotation)?;
@@ -246,9 +234,9 @@ impl<'a> Lowering<'a> {
     fn statements_of(&mut self, block: &Block) -> Done<()> {
         for statement in &block.statements {
             self.comment(&statement.comments);
-            match &statement.kind {
-                StatementKind::Let(it) => self.let_statement(it)?,
-                StatementKind::Expression(it) => self.to(it, Target::Nothing)?,
+            match &statement.expression.kind {
+                ExpressionKind::Let(it) => self.let_statement(it)?,
+                _ => self.to(&statement.expression, Target::Nothing)?,
             }
         }
         self.comment(&block.comments);
@@ -261,17 +249,28 @@ impl<'a> Lowering<'a> {
         match &expression.kind {
             ExpressionKind::Group(inner) => self.to(inner, target)?,
             ExpressionKind::Block(block) => self.block(block, target)?,
-            ExpressionKind::If(it) => self.if_to(it, target)?,
+            ExpressionKind::If { condition, then, otherwise } => {
+                let (condition, bindings) = self.condition(condition)?;
+                let (then, ()) = self.apart(|it| {
+                    it.declare_all(bindings)?;
+                    it.block(then, target)
+                })?;
+                let (otherwise, ()) = self.apart(|it| match otherwise {
+                    Some(otherwise) => it.to(otherwise, target),
+                    None => Ok(()),
+                })?;
+                self.push_if(condition, then, otherwise);
+            }
             ExpressionKind::Match { value, arms } => self.match_to(value, arms, target)?,
             ExpressionKind::Return(Some(value)) => self.to(value, Target::Return)?,
             ExpressionKind::Return(None) => {
                 self.finish_value(Value::Tuple(Vec::new()), Target::Return)?;
             }
             ExpressionKind::Break => self.push(Statement::Break),
-            ExpressionKind::Continue => self.push(Statement::Continue),
-            ExpressionKind::While { condition, body } => self.while_loop(condition, body)?,
-            ExpressionKind::Loop(body) => {
-                let condition = self.make(TermKind::Boolean(true), Type::Boolean);
+            ExpressionKind::While { condition, body } => {
+                let condition = self.alone("the condition of a loop", |it| {
+                    it.term(condition, Some(&Type::Boolean))
+                })?;
                 let (body, ()) = self.apart(|it| it.block(body, Target::Nothing))?;
                 self.push(Statement::While { condition, body });
             }
@@ -337,7 +336,7 @@ impl<'a> Lowering<'a> {
         let of =
             tree.annotation.as_ref().map(|it| self.world.type_in(&self.place, it)).transpose()?;
         self.at = tree.pattern.span;
-        let Some(value) = &tree.value else { return self.refuse("a variable without a value") };
+        let value = &tree.value;
         let first = self.locals.len();
         let PatternKind::Binding { name, is_mutable, pattern: None } = &tree.pattern.kind else {
             let found = self.value(value, of.as_ref())?;
@@ -377,20 +376,6 @@ impl<'a> Lowering<'a> {
         self.local(local)
     }
 
-    fn if_to(&mut self, tree: &If, target: Target) -> Done<()> {
-        let (condition, bindings) = self.condition(&tree.condition)?;
-        let (then, ()) = self.apart(|it| {
-            it.declare_all(bindings)?;
-            it.block(&tree.then, target)
-        })?;
-        let (otherwise, ()) = self.apart(|it| match &tree.otherwise {
-            Some(otherwise) => it.to(otherwise, target),
-            None => Ok(()),
-        })?;
-        self.push_if(condition, then, otherwise);
-        Ok(())
-    }
-
     // What follows a branch that leaves needs no `else`.
     fn push_if(&mut self, condition: Term, then: Vec<Statement>, mut otherwise: Vec<Statement>) {
         let leaves = then.last().is_some_and(leaves);
@@ -400,27 +385,23 @@ impl<'a> Lowering<'a> {
     }
 
     // Returns what must hold, and what is bound then.
-    fn condition(&mut self, condition: &Condition) -> Done<(Term, Vec<patterns::Binding>)> {
-        match condition {
-            Condition::Test(test) => Ok((self.term(test, Some(&Type::Boolean))?, Vec::new())),
-            Condition::Let { pattern, value } => {
-                let found = self.value(value, None)?;
-                let found = self.keep(found, "found")?;
-                let (tests, bindings) = self.matched(pattern, &found)?;
-                Ok((self.joined(tests, BinaryOperator::And), bindings))
-            }
+    fn condition(&mut self, condition: &Expression) -> Done<(Term, Vec<patterns::Binding>)> {
+        match &condition.kind {
+            ExpressionKind::Let(it) => self.fits(&it.value, &it.pattern),
+            _ => Ok((self.term(condition, Some(&Type::Boolean))?, Vec::new())),
         }
     }
 
-    fn while_loop(&mut self, condition: &Condition, body: &Block) -> Done<()> {
-        let Condition::Test(test) = condition else {
-            return self.refuse("`while let` has no rule");
-        };
-        let condition =
-            self.alone("the condition of a loop", |it| it.term(test, Some(&Type::Boolean)))?;
-        let (body, ()) = self.apart(|it| it.block(body, Target::Nothing))?;
-        self.push(Statement::While { condition, body });
-        Ok(())
+    // Returns whether a value fits a pattern, and what is bound then.
+    fn fits(
+        &mut self,
+        value: &Expression,
+        pattern: &Pattern,
+    ) -> Done<(Term, Vec<patterns::Binding>)> {
+        let found = self.value(value, None)?;
+        let found = self.keep(found, "found")?;
+        let (tests, bindings) = self.matched(pattern, &found)?;
+        Ok((self.joined(tests, BinaryOperator::And), bindings))
     }
 
     // Starts to walk over a slice. Returns it, the offset, and whether it is inside.
@@ -449,7 +430,7 @@ impl<'a> Lowering<'a> {
         value: &Expression,
     ) -> Done<()> {
         let place = self.alone("a place", |it| it.term(place, None))?;
-        let is_shift = operator.is_some_and(values::is_shift);
+        let is_shift = operator.is_some_and(BinaryOperator::is_shift);
         let mut value = self.term(value, (!is_shift).then_some(&place.of))?;
         // The value comes first, also where C leaves the order open.
         let is_simple = operator.is_none() && matches!(place.kind, TermKind::Local(_));

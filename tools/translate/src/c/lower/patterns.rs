@@ -4,8 +4,7 @@ use super::{Branch, Done, Lowering, Target, Value};
 use crate::c::ir::{Id, Operation, Shape, Statement, Term, TermKind, Type};
 use crate::resolve::{Definition, Namespace};
 use crate::tree::{
-    Arm, BinaryOperator, Block, Expression, FieldPattern, Literal, LiteralKind, Path, Pattern,
-    PatternKind,
+    Arm, BinaryOperator, Block, Expression, Literal, LiteralKind, Name, Path, Pattern, PatternKind,
 };
 
 /// A name of a pattern, with the part that it stands for.
@@ -37,7 +36,7 @@ impl Lowering<'_> {
                 Ok((tests, bindings))
             }
             PatternKind::Reference(inner) => self.matched(inner, value),
-            PatternKind::Literal { is_negative: false, literal } => {
+            PatternKind::Literal(literal) => {
                 let term = self.whole(value.clone())?;
                 Ok((vec![self.equals(term, literal)?], Vec::new()))
             }
@@ -47,11 +46,9 @@ impl Lowering<'_> {
             }
             PatternKind::Tuple(patterns) => self.matched_tuple(patterns, value),
             PatternKind::Slice(patterns) => self.matched_slice(patterns, value),
-            PatternKind::Path(path) => self.matched_variant(path, &[], value),
             PatternKind::Variant { path, fields } => self.matched_variant(path, fields, value),
-            PatternKind::Struct { path, fields, .. } => self.matched_struct(path, fields, value),
+            PatternKind::Struct { path, fields } => self.matched_struct(path, fields, value),
             PatternKind::Either(patterns) => self.matched_either(patterns, value),
-            PatternKind::Literal { .. } => self.refuse("this pattern has no rule"),
         }
     }
 
@@ -250,16 +247,16 @@ impl Lowering<'_> {
     fn matched_struct(
         &mut self,
         path: &Path,
-        patterns: &[FieldPattern],
+        patterns: &[(Name, Pattern)],
         value: &Value,
     ) -> Done<Matched> {
         let (of, shape) = self.made_type(path)?;
         let (mut tests, parts) = self.parts(&of, shape, value)?;
         let mut pairs = Vec::new();
-        for pattern in patterns {
-            let part = parts.iter().find(|(name, _)| *name == pattern.name.text);
+        for (name, pattern) in patterns {
+            let part = parts.iter().find(|(own, _)| *own == name.text);
             let Some((_, part)) = part else { return self.refuse("no such field") };
-            pairs.push((&pattern.pattern, part));
+            pairs.push((pattern, part));
         }
         let (more, bindings) = self.matched_all(pairs.into_iter())?;
         tests.extend(more);

@@ -4,8 +4,8 @@ use super::{Branch, Done, Lowering, Target, Value};
 use crate::c::ir::{Operation, Shape, Statement, Term, TermKind, Type};
 use crate::c::world::integer;
 use crate::tree::{
-    self, BinaryOperator, Expression, ExpressionKind, If, Literal, LiteralKind, Path,
-    StructExpression, TypeKind, UnaryOperator,
+    self, BinaryOperator, Expression, ExpressionKind, Literal, LiteralKind, Name, Path, TypeKind,
+    UnaryOperator,
 };
 
 impl Lowering<'_> {
@@ -31,7 +31,9 @@ impl Lowering<'_> {
             ExpressionKind::Path(path) => return self.path(path, wanted),
             ExpressionKind::Tuple(parts) => return self.tuple(parts, wanted),
             ExpressionKind::Array(parts) => self.array(parts, wanted)?,
-            ExpressionKind::Struct(tree) => self.structure(tree)?,
+            ExpressionKind::Struct { path, fields, base } => {
+                self.structure(path, fields, base.as_deref())?
+            }
             ExpressionKind::Unary { operator, operand } => {
                 self.unary(*operator, operand, wanted)?
             }
@@ -51,9 +53,28 @@ impl Lowering<'_> {
             }
             ExpressionKind::Method(call) => return self.method(call),
             ExpressionKind::Field { receiver, name } => return self.field(receiver, &name.text),
-            ExpressionKind::Index { receiver, index } => self.index(receiver, index)?,
+            ExpressionKind::Index { receiver, index } => {
+                let operands = [(&**receiver, None), (&**index, Some(Type::SIZE))];
+                let mut terms = self.operands(operands.into_iter())?;
+                let at = terms.remove(1);
+                self.element(terms.remove(0), at, false)?
+            }
+            ExpressionKind::Part { receiver, low, high } => {
+                let ends = low.iter().chain(high).map(|it| (&**it, Some(Type::SIZE)));
+                let operands = std::iter::once((&**receiver, None)).chain(ends);
+                let mut terms = self.operands(operands)?.into_iter();
+                let outer = terms.next().ok_or_else(|| self.fault("no slice"))?;
+                let [low, high] = [low, high].map(|it| it.as_ref().and_then(|_| terms.next()));
+                self.part(outer, low, high)?
+            }
             ExpressionKind::Try(value) => return self.question(value),
-            ExpressionKind::If(tree) => return self.if_value(tree, wanted),
+            ExpressionKind::If { condition, then, otherwise: Some(otherwise) } => {
+                return self.if_value(condition, then, otherwise, wanted);
+            }
+            ExpressionKind::If { .. } => {
+                self.to(expression, Target::Nothing)?;
+                return Ok(Value::Tuple(Vec::new()));
+            }
             ExpressionKind::Match { value, arms } => return self.match_value(value, arms, wanted),
             ExpressionKind::Block(block) => {
                 self.scopes.push(Default::default());
@@ -62,13 +83,8 @@ impl Lowering<'_> {
                 self.scopes.pop();
                 return Ok(value);
             }
-            ExpressionKind::Matches { value, pattern, guard: None } => {
-                let found = self.value(value, None)?;
-                let found = self.keep(found, "found")?;
-                let (tests, _) = self.matched(pattern, &found)?;
-                self.joined(tests, BinaryOperator::And)
-            }
-            ExpressionKind::Return(_) | ExpressionKind::Break | ExpressionKind::Continue => {
+            ExpressionKind::Matches { value, pattern } => self.fits(value, pattern)?.0,
+            ExpressionKind::Return(_) | ExpressionKind::Break => {
                 self.to(expression, Target::Nothing)?;
                 return Ok(Value::Never);
             }
@@ -216,22 +232,25 @@ impl Lowering<'_> {
         Ok((of, Shape::Plain))
     }
 
-    fn structure(&mut self, tree: &StructExpression) -> Done<Term> {
-        let (of, shape) = self.made_type(&tree.path)?;
+    fn structure(
+        &mut self,
+        path: &Path,
+        given: &[(Name, Expression)],
+        base: Option<&Expression>,
+    ) -> Done<Term> {
+        let (of, shape) = self.made_type(path)?;
         let fields = self.fields_of(&of, shape)?;
         let mut places = Vec::new();
-        for given in &tree.fields {
-            let place = fields.iter().position(|(name, _)| *name == given.name.text);
+        for (given, _) in given {
+            let place = fields.iter().position(|(name, _)| *name == given.text);
             places.push(place.ok_or_else(|| self.fault("no such field"))?);
         }
-        let given = tree.fields.iter().map(|it| &it.value).chain(tree.base.as_deref());
+        let given = given.iter().map(|(_, value)| value).chain(base);
         let types = places.iter().map(|at| Some(fields[*at].1.clone())).chain([Some(of.clone())]);
         let mut terms = self.operands(given.zip(types))?;
-        let mut base = None;
-        if tree.base.is_some() {
-            let found = terms.pop().map_or_else(|| self.refuse("no base"), Ok)?;
-            base = Some(Box::new(self.keep_term(Value::Term(found), "base")?));
-        }
+        let base = base.and_then(|_| terms.pop());
+        let base = base.map(|it| self.keep_term(Value::Term(it), "base").map(Box::new));
+        let base = base.transpose()?;
         let mut all = Vec::new();
         for (number, (_, of)) in fields.into_iter().enumerate() {
             let given = places.iter().position(|place| *place == number);
@@ -291,11 +310,11 @@ impl Lowering<'_> {
         if matches!(operator, BinaryOperator::And | BinaryOperator::Or) {
             return self.short_circuit(operator, left, right);
         }
-        let is_comparison = is_comparison(operator);
+        let is_comparison = operator.is_comparison();
         let hint = wanted.filter(|_| !is_comparison).cloned();
         let terms = self.operands([(left, hint), (right, None)].into_iter())?;
         let terms: Vec<Term> = terms.into_iter().map(|term| self.followed(term)).collect();
-        if !is_shift(operator) {
+        if !operator.is_shift() {
             self.unify(&terms[0].of, &terms[1].of)?;
         }
         let of = if is_comparison { Type::Boolean } else { terms[0].of.clone() };
@@ -348,25 +367,6 @@ impl Lowering<'_> {
             _ => return self.refuse("a field of an unknown type"),
         };
         Ok(Value::Term(self.make(TermKind::Field(Box::new(term), number), of)))
-    }
-
-    fn index(&mut self, receiver: &Expression, index: &Expression) -> Done<Term> {
-        let ends = match &index.kind {
-            ExpressionKind::Range { low, high, is_inclusive: false } => {
-                [low, high].map(|it| it.as_deref())
-            }
-            _ => [Some(index), None],
-        };
-        let operands = ends.iter().flatten().map(|it| (*it, Some(Type::SIZE)));
-        let operands = std::iter::once((receiver, None)).chain(operands);
-        let mut terms = self.operands(operands)?.into_iter();
-        let Some(outer) = terms.next() else { return self.refuse("no slice") };
-        let [low, high] = ends.map(|it| it.and_then(|_| terms.next()));
-        match (&index.kind, low) {
-            (ExpressionKind::Range { .. }, low) => self.part(outer, low, high),
-            (_, Some(at)) => self.element(outer, at, false),
-            _ => self.refuse("no index"),
-        }
     }
 
     /// Returns the element of a slice or an array, which is there if that was tested.
@@ -438,17 +438,19 @@ impl Lowering<'_> {
         Ok(value)
     }
 
-    fn if_value(&mut self, tree: &If, wanted: Option<&Type>) -> Done<Value> {
-        let Some(otherwise) = &tree.otherwise else {
-            self.if_to(tree, Target::Nothing)?;
-            return Ok(Value::Tuple(Vec::new()));
-        };
+    fn if_value(
+        &mut self,
+        condition: &Expression,
+        then: &tree::Block,
+        otherwise: &Expression,
+        wanted: Option<&Type>,
+    ) -> Done<Value> {
         let hint = self.hint.take();
-        let (condition, bindings) = self.condition(&tree.condition)?;
+        let (condition, bindings) = self.condition(condition)?;
         let (statements, value) = self.apart(|it| {
             it.declare_all(bindings)?;
-            it.statements_of(&tree.then)?;
-            it.block_value(&tree.then, wanted)
+            it.statements_of(then)?;
+            it.block_value(then, wanted)
         })?;
         let then = Branch { condition: Some(condition), statements, value };
         let (statements, value) = self.apart(|it| it.value(otherwise, wanted))?;
@@ -477,14 +479,4 @@ fn is_path(term: &Term) -> bool {
         TermKind::Operation(Operation::Length, terms) => is_path(&terms[0]),
         _ => false,
     }
-}
-
-fn is_comparison(operator: BinaryOperator) -> bool {
-    use BinaryOperator::{Equal, Greater, GreaterOrEqual, Less, LessOrEqual, NotEqual};
-    matches!(operator, Equal | NotEqual | Less | Greater | LessOrEqual | GreaterOrEqual)
-}
-
-/// Says whether the second operand may have another type.
-pub fn is_shift(operator: BinaryOperator) -> bool {
-    matches!(operator, BinaryOperator::ShiftLeft | BinaryOperator::ShiftRight)
 }

@@ -1,5 +1,4 @@
 //! Packages of a few modules, and the one of this repository.
-#![allow(dead_code)] // Not each test uses all of it.
 
 use std::path::Path;
 use torkettle_translate::c::{self, world::World};
@@ -50,7 +49,37 @@ pub fn c(text: &str, is_checked: bool) -> Result<String, String> {
     made.map(|made| made.1).map_err(|fault| fault.to_string())
 }
 
-/// Makes the Rust of a source of `atoi_core`.
+/// Makes the Rust of a source of `atoi_core`, in which `mod` may declare one module.
 pub fn core(text: &str) -> Result<String, String> {
-    rust("", &[("atoi_core/lib.rt", text)])
+    let name = text.strip_prefix("mod ").and_then(|rest| rest.split(';').next());
+    let file = name.map(|name| format!("atoi_core/{name}.rt"));
+    let files: Vec<_> = file.iter().map(|file| (file.as_str(), "")).collect();
+    rust("", &[files, vec![("atoi_core/lib.rt", text)]].concat())
+}
+
+/// Checks that each source of a list is refused at its line, for its reason.
+pub fn assert_refused(list: &str, make: impl Fn(&str) -> Result<String, String>) {
+    for row in list.lines().skip(1).filter(|row| !row.starts_with('#')) {
+        let [line, reason, source] = row.split('\t').collect::<Vec<_>>()[..] else {
+            panic!("{row}")
+        };
+        let fault = make(&shown(source)).expect_err(row);
+        let start = format!("atoi_core/lib.rt:{line}: ");
+        assert!(fault.starts_with(&start) && fault.contains(reason), "{row}: {fault}");
+    }
+}
+
+/// Puts characters in place of what stands for them.
+pub fn shown(text: &str) -> String {
+    let signs = [
+        ("⏎", "\n"),
+        ("<CR>", "\r"),
+        ("<FF>", "\x0C"),
+        ("<VT>", "\x0B"),
+        ("<NBSP>", "\u{A0}"),
+        ("<LRM>", "\u{200E}"),
+        ("<RLO>", "\u{202E}"),
+        ("<BOM>", "\u{FEFF}"),
+    ];
+    signs.iter().fold(text.to_string(), |text, (sign, character)| text.replace(sign, character))
 }

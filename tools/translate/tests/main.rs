@@ -1,0 +1,9 @@
+//! Tests of the program. Those of one stage are in one module.
+
+mod c_forms;
+mod common;
+mod conditions;
+mod forms;
+mod grammar;
+mod package;
+mod rust;
