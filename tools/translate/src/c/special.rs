@@ -68,7 +68,12 @@ impl<'a> Special<'a> {
         let names = self.world.parameters(id);
         self.matters.insert(id, vec![false; names.len()]);
         let own: Vec<Type> = names.iter().cloned().map(Type::Parameter).collect();
-        let types = self.world.all_fields(id, &own)?;
+        let of = Type::Item { id, arguments: own };
+        let mut types = Vec::new();
+        for shape in self.world.shapes(&of) {
+            let fields = self.world.fields(&of, shape).unwrap_or(Ok(Vec::new()))?;
+            types.extend(fields.into_iter().map(|(_, of)| of));
+        }
         let found = names.iter().map(|name| self.any_holds(&types, name));
         let found = found.collect::<Done<Vec<bool>>>()?;
         self.matters.insert(id, found.clone());

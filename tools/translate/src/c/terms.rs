@@ -5,7 +5,7 @@ use super::lower;
 use super::operations;
 use super::print::{Body, explained};
 use super::text;
-use super::types::{ERROR_KINDS, declared, integer_name, integer_type};
+use super::types::{declared, integer_name, integer_type};
 use crate::source::Fault;
 
 /// An expression, and how tightly its operator binds.
@@ -234,25 +234,18 @@ fn is(body: &mut Body, inner: &Term, shape: Shape) -> Done<Text> {
         (Shape::Ok, _) => Text::atom(format!("{text}.is_ok")),
         (Shape::None, _) => Text::new(format!("!{text}.is_some"), UNARY),
         (Shape::Err, _) => Text::new(format!("!{text}.is_ok"), UNARY),
-        (Shape::Variant(variant), Type::ErrorKind) => {
-            Text::new(format!("{text} == {}", error_kind(variant)), EQUALITY)
-        }
-        (Shape::Variant(variant), of @ Type::Item { id, .. }) => {
-            let variant = &body.printer.world.variants(*id)[variant].name.text;
-            Text::new(format!("{text}.tag == {}", body.printer.types.tag(of, variant)), EQUALITY)
+        (Shape::Variant(variant), of) => {
+            let tag = if *of == Type::ErrorKind { "" } else { ".tag" };
+            Text::new(format!("{text}{tag} == {}", body.printer.types.tag(of, variant)), EQUALITY)
         }
         _ => return Err(refuse(body, inner, "this test")),
     })
 }
 
-fn error_kind(variant: usize) -> String {
-    format!("TK_INT_ERROR_KIND_{}", ERROR_KINDS[variant])
-}
-
 fn made(body: &mut Body, shape: Shape, terms: &[Term], term: &Term) -> Done<Text> {
     body.printer.types.name(&term.of)?;
     if let (Type::ErrorKind, Shape::Variant(variant)) = (&term.of, shape) {
-        return Ok(Text::atom(error_kind(variant)));
+        return Ok(Text::atom(body.printer.types.tag(&term.of, variant)));
     }
     let world = body.printer.world;
     let terms: Vec<Term> = terms.iter().filter(|it| !world.is_zero(&it.of)).cloned().collect();

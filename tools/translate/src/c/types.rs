@@ -2,7 +2,7 @@
 
 use super::ir::{Done, Integer, Shape, Type};
 use super::text::{self, comment};
-use super::world::World;
+use super::world::{ERROR_KINDS, World};
 use crate::source::Fault;
 use std::collections::BTreeMap;
 use std::path::Path;
@@ -15,17 +15,15 @@ pub struct Types<'a> {
     pub texts: Vec<String>,
 }
 
-/// A member of a struct of C.
-struct Member {
-    name: String,
-    of: Type,
+/// The struct of C for a type: its members behind the one that says which shape a value has, and for each shape the
+/// members of its fields. Fields without bytes have none.
+struct Layout {
+    members: Vec<(String, Type)>,
+    shapes: Vec<(Shape, Vec<Option<usize>>)>,
 }
 
 // The names of types that are shorter in C.
 const RENAMED: [(&str, &str); 1] = [("AtoiSimdError", "error")];
-
-pub const ERROR_KINDS: [&str; 5] =
-    ["EMPTY", "INVALID_DIGIT", "POS_OVERFLOW", "NEG_OVERFLOW", "ZERO"];
 
 impl<'a> Types<'a> {
     pub fn new(world: &'a World<'a>) -> Types<'a> {
@@ -110,183 +108,132 @@ impl<'a> Types<'a> {
 
     fn definition(&mut self, of: &Type, name: &str) -> Done<String> {
         if let Type::ErrorKind = of {
-            let kinds = ERROR_KINDS.map(|kind| format!("    TK_INT_ERROR_KIND_{kind}"));
-            return Ok(format!("typedef enum {name} {{\n{}\n}} {name};\n", kinds.join(",\n")));
+            return Ok(self.tags(of, name, ERROR_KINDS.len()));
         }
+        let layout = self.layout(of)?;
         let (mut lines, mut before) = (Vec::new(), String::new());
         if let Type::Item { id, .. } = of {
-            let notes = &self.world.item(*id).notes;
-            before = comment(self.world.source(*id), &notes.docs, "");
-            let variants = self.world.variants(*id);
-            if !variants.is_empty() {
-                let tags: Vec<String> = variants
-                    .iter()
-                    .map(|it| format!("    {}", self.tag(of, &it.name.text)))
-                    .collect();
-                before += &format!(
-                    "typedef enum {name}_tag {{\n{}\n}} {name}_tag;\n\n",
-                    tags.join(",\n")
-                );
+            before = comment(self.world.source(*id), &self.world.item(*id).notes.docs, "");
+        }
+        match layout.shapes[0].0 {
+            Shape::Some => lines.push("    bool is_some;".into()),
+            Shape::Ok => lines.push("    bool is_ok;".into()),
+            Shape::Variant(_) => {
+                before += &(self.tags(of, &format!("{name}_tag"), layout.shapes.len()) + "\n");
                 lines.push(format!("    {name}_tag tag;"));
             }
+            _ => {}
         }
-        for member in self.members(of)? {
-            let of = self.name(&member.of)?;
-            lines.push(format!("    {};", declared(&of, &member.name)));
+        for (name, of) in &layout.members {
+            lines.push(format!("    {};", declared(&self.name(of)?, name)));
         }
-        let mut text =
-            format!("{before}typedef struct {name} {{\n{}\n}} {name};\n", lines.join("\n"));
-        text += &self.makers(of, name)?;
+        let lines = lines.join("\n");
+        let mut text = format!("{before}typedef struct {name} {{\n{lines}\n}} {name};\n");
+        for (shape, places) in &layout.shapes {
+            text += &self.maker_text(of, name, *shape, places, &layout.members)?;
+        }
         Ok(text)
     }
 
-    // Returns the members of the struct for a type, without its tag.
-    fn members(&self, of: &Type) -> Done<Vec<Member>> {
-        let member = |name: &str, of: &Type| Member { name: name.into(), of: of.clone() };
-        let mut members = match of {
-            Type::Slice { element, is_mutable } => {
-                let array = Type::Array { element: element.clone(), length: 0 };
-                let at = if *is_mutable { Type::Pointer(Box::new(array)) } else { array };
-                vec![member("at", &at), member("len", &Type::SIZE)]
-            }
-            Type::Option(value) => vec![member("is_some", &Type::Boolean), member("value", value)],
-            Type::Result(value, error) => {
-                let parts = [("is_ok", &Type::Boolean), ("value", &**value), ("error", error)];
-                parts.map(|(name, of)| member(name, of)).into()
-            }
-            Type::Tuple(parts) => {
-                parts.iter().enumerate().map(|(at, of)| member(&text::ordinal(at), of)).collect()
-            }
-            Type::Item { id, arguments } if self.world.variants(*id).is_empty() => {
-                let fields = self.world.fields(*id, None, arguments)?;
-                fields.iter().map(|(name, of)| member(&text::local(name), of)).collect()
-            }
-            Type::Item { .. } => self.slots(of)?.0,
-            _ => return Err(self.unknown(of)),
-        };
-        members.retain(|it| !self.world.is_zero(&it.of));
-        Ok(members)
+    // Returns the definition of the constants that say which variant a value has.
+    fn tags(&self, of: &Type, name: &str, count: usize) -> String {
+        let tags: Vec<String> = (0..count).map(|it| format!("    {}", self.tag(of, it))).collect();
+        format!("typedef enum {name} {{\n{}\n}} {name};\n", tags.join(",\n"))
     }
 
-    // Fields of different variants share a member if they have one type. Returns the members, and which each
-    // field of each variant has.
-    fn slots(&self, of: &Type) -> Done<(Vec<Member>, Vec<Vec<usize>>)> {
-        let Type::Item { id, arguments } = of else { return Err(self.unknown(of)) };
-        let (mut members, mut places): (Vec<Member>, Vec<Vec<usize>>) = (Vec::new(), Vec::new());
-        for variant in 0..self.world.variants(*id).len() {
-            let mut own: Vec<usize> = Vec::new();
-            let fields = self.world.fields(*id, Some(variant), arguments)?;
-            for (name, of) in fields {
+    // Fields of different variants share a member if they have one type.
+    fn layout(&self, of: &Type) -> Done<Layout> {
+        let mut layout = Layout { members: Vec::new(), shapes: Vec::new() };
+        let members = &mut layout.members;
+        for shape in self.world.shapes(of) {
+            let mut own: Vec<Option<usize>> = Vec::new();
+            let fields = self.world.fields(of, shape).ok_or_else(|| self.unknown(of))?;
+            for (name, of) in fields? {
                 if self.world.is_zero(&of) {
-                    own.push(usize::MAX);
+                    own.push(None);
                     continue;
                 }
-                let is_number = name.starts_with(|it: char| it.is_ascii_digit());
-                let name = if is_number { self.short(&of) } else { text::local(&name) };
-                let mut fitting = members.iter().enumerate().filter(|(at, member)| {
-                    member.of == of && !own.contains(at) && (is_number || member.name == name)
-                });
-                let place = fitting.next().map(|(at, _)| at);
-                let place = place.unwrap_or_else(|| {
-                    let count = members.iter().filter(|it| it.name.starts_with(&name)).count();
-                    let name = if count == 0 { name } else { format!("{name}_{}", count + 1) };
-                    members.push(Member { name, of });
+                let number = name.parse::<usize>().ok();
+                let name = match (number, shape) {
+                    (Some(number), Shape::Plain) => text::ordinal(number),
+                    (Some(_), _) => self.short(&of),
+                    (None, _) => text::local(&name),
+                };
+                let is_fitting = |at: usize, (other, other_of): &(String, Type)| {
+                    *other_of == of
+                        && !own.contains(&Some(at))
+                        && (number.is_some() || *other == name)
+                };
+                let mut places = 0..members.len();
+                let place = places.find(|at| is_fitting(*at, &members[*at])).unwrap_or_else(|| {
+                    let is_variant = matches!(shape, Shape::Variant(_));
+                    let count = members.iter().filter(|it| it.0.starts_with(&name)).count();
+                    let is_new = count == 0 || !is_variant;
+                    let name = if is_new { name } else { format!("{name}_{}", count + 1) };
+                    members.push((name, of));
                     members.len() - 1
                 });
-                own.push(place);
+                own.push(Some(place));
             }
-            places.push(own);
+            layout.shapes.push((shape, own));
         }
-        Ok((members, places))
+        Ok(layout)
     }
 
     /// Returns the name of a field of a value of this shape.
     pub fn field(&self, of: &Type, shape: Shape, field: usize) -> Done<String> {
-        match (of, shape) {
-            (Type::Option(_), _) | (_, Shape::Ok) => Ok("value".into()),
-            (_, Shape::Err) => Ok("error".into()),
-            (Type::Tuple(_), _) => Ok(text::ordinal(field)),
-            (Type::Item { .. }, Shape::Variant(variant)) => {
-                let (members, places) = self.slots(of)?;
-                Ok(members[places[variant][field]].name.clone())
-            }
-            (Type::Item { id, arguments }, _) => {
-                let fields = self.world.fields(*id, None, arguments)?;
-                Ok(text::local(&fields[field].0))
-            }
-            _ => Err(self.unknown(of)),
-        }
+        let layout = self.layout(of)?;
+        let places = layout.shapes.iter().find(|(own, _)| *own == shape);
+        let place = places.and_then(|(_, places)| *places.get(field)?);
+        place.map(|it| layout.members[it].0.clone()).ok_or_else(|| self.unknown(of))
     }
 
     /// Returns the constant that says which variant a value has.
-    pub fn tag(&self, of: &Type, variant: &str) -> String {
-        format!("TK_{}_{}", self.short(of), text::snake(variant)).to_uppercase()
+    pub fn tag(&self, of: &Type, variant: usize) -> String {
+        let variant = text::snake(self.world.variant(of, variant));
+        format!("TK_{}_{variant}", self.short(of)).to_uppercase()
     }
 
     /// Returns the function that makes a value of a shape.
     pub fn maker(&self, of: &Type, shape: Shape) -> String {
-        let (kind, own) =
-            (self.short(of), |kind: &str| kind.split_once('_').map_or("", |it| it.1).to_string());
-        match (of, shape) {
-            (Type::Item { id, .. }, Shape::Variant(variant)) => {
-                let variant = &self.world.variants(*id)[variant].name.text;
-                format!("tk_{kind}_{}", text::snake(variant))
+        let kind = self.short(of);
+        let own = kind.split_once('_').map_or("", |it| it.1);
+        match shape {
+            Shape::Variant(variant) => {
+                format!("tk_{kind}_{}", text::snake(self.world.variant(of, variant)))
             }
-            (_, Shape::Ok) => format!("tk_ok_{}", own(&kind)),
-            (_, Shape::Err) => format!("tk_err_{}", own(&kind)),
-            (_, Shape::Some) => format!("tk_some_{}", own(&kind)),
-            (_, Shape::None) => format!("tk_none_{}", own(&kind)),
-            _ => format!("tk_new_{kind}"),
+            Shape::Ok => format!("tk_ok_{own}"),
+            Shape::Err => format!("tk_err_{own}"),
+            Shape::Some => format!("tk_some_{own}"),
+            Shape::None => format!("tk_none_{own}"),
+            Shape::Plain if matches!(of, Type::Slice { .. }) => format!("tk_{kind}_of"),
+            Shape::Plain => format!("tk_new_{kind}"),
         }
     }
 
-    // Returns the functions that make values of a struct. Each sets all members.
-    fn makers(&mut self, of: &Type, name: &str) -> Done<String> {
-        let shapes = match of {
-            Type::Slice { .. } => {
-                let element = self.members(of)?.remove(0);
-                let at = declared(&self.name(&element.of)?, "at");
-                return Ok(format!(
-                    "\nTK_INLINE {name} {name}_of({at}, size_t len)\n{{\n    return TK_MAKE({name}, at, len);\n}}\n"
-                ));
-            }
-            Type::Option(_) => vec![Shape::Some, Shape::None],
-            Type::Result(..) => vec![Shape::Ok, Shape::Err],
-            Type::Item { id, .. } if !self.world.variants(*id).is_empty() => {
-                (0..self.world.variants(*id).len()).map(Shape::Variant).collect()
-            }
-            _ => vec![Shape::Plain],
-        };
-        shapes.into_iter().map(|shape| self.maker_text(of, name, shape)).collect()
-    }
-
-    fn maker_text(&mut self, of: &Type, name: &str, shape: Shape) -> Done<String> {
-        let members = self.members(of)?;
-        let used: Vec<usize> = match (of, shape) {
-            (_, Shape::None) => Vec::new(),
-            (_, Shape::Some | Shape::Ok) => vec![1],
-            (_, Shape::Err) => vec![2],
-            (_, Shape::Variant(variant)) => {
-                let places = self.slots(of)?.1.swap_remove(variant);
-                places.into_iter().filter(|it| *it < members.len()).collect()
-            }
-            _ => (0..members.len()).collect(),
-        };
-        let (mut parameters, mut values) = (Vec::new(), Vec::new());
-        for place in &used {
-            let member = &members[*place];
-            parameters.push(declared(&self.name(&member.of)?, &member.name));
+    // Returns the function that makes values of a shape. It sets all members.
+    fn maker_text(
+        &mut self,
+        of: &Type,
+        name: &str,
+        shape: Shape,
+        places: &[Option<usize>],
+        members: &[(String, Type)],
+    ) -> Done<String> {
+        let mut parameters = Vec::new();
+        for place in places.iter().flatten() {
+            let (member, of) = &members[*place];
+            parameters.push(declared(&self.name(of)?, member));
         }
-        if let (Type::Item { id, .. }, Shape::Variant(variant)) = (of, shape) {
-            values.push(self.tag(of, &self.world.variants(*id)[variant].name.text));
-        }
-        for (place, member) in members.iter().enumerate() {
-            values.push(match (shape, place) {
-                _ if used.contains(&place) => member.name.clone(),
-                (Shape::Some | Shape::Ok, 0) => "true".into(),
-                (Shape::None | Shape::Err, 0) => "false".into(),
-                _ => self.zero(&member.of)?,
-            });
+        let mut values: Vec<String> = match shape {
+            Shape::Variant(variant) => vec![self.tag(of, variant)],
+            Shape::Some | Shape::Ok => vec!["true".into()],
+            Shape::None | Shape::Err => vec!["false".into()],
+            Shape::Plain => Vec::new(),
+        };
+        for (place, (member, of)) in members.iter().enumerate() {
+            let is_set = places.contains(&Some(place));
+            values.push(if is_set { member.clone() } else { self.zero(of)? });
         }
         let parameters = if parameters.is_empty() { "void".into() } else { parameters.join(", ") };
         let (maker, values) = (self.maker(of, shape), values.join(", "));
@@ -295,33 +242,20 @@ impl<'a> Types<'a> {
         Ok(format!("\n{head}\n{{\n{line}\n}}\n"))
     }
 
-    // Returns a value for a member that is not used.
-    fn zero(&mut self, of: &Type) -> Done<String> {
+    // Returns a value for a member that is not used: `None`, or one of the first shape.
+    fn zero(&self, of: &Type) -> Done<String> {
         Ok(match of {
-            Type::Integer(Integer { bits: 128, is_signed: false, .. }) => "tk_u128_of(0)".into(),
-            Type::Integer(Integer { bits: 128, .. }) => "tk_i128_of(0)".into(),
+            Type::Integer(it) if it.bits == 128 => format!("tk_{}_of(0)", integer_name(*it)),
             Type::Integer(_) => "0".into(),
             Type::Boolean => "false".into(),
             Type::Array { .. } | Type::Pointer(_) => "NULL".into(),
-            Type::Slice { .. } => format!("{}_of(NULL, 0)", self.name(of)?),
-            Type::Option(_) => format!("{}()", self.maker(of, Shape::None)),
-            Type::Item { id, .. } if !self.world.variants(*id).is_empty() => {
-                let (members, places) = self.slots(of)?;
-                let mut values = Vec::new();
-                for place in &places[0] {
-                    values.push(self.zero(&members[*place].of)?);
-                }
-                format!("{}({})", self.maker(of, Shape::Variant(0)), values.join(", "))
-            }
             _ => {
-                let mut values = Vec::new();
-                for member in self.members(of)? {
-                    values.push(self.zero(&member.of)?);
-                }
-                let shape = if let Type::Result(..) = of { Shape::Ok } else { Shape::Plain };
-                let values =
-                    if shape == Shape::Ok { values.swap_remove(1) } else { values.join(", ") };
-                format!("{}({values})", self.maker(of, shape))
+                let Layout { members, shapes } = self.layout(of)?;
+                let none = shapes.iter().find(|(shape, _)| *shape == Shape::None);
+                let (shape, places) = none.unwrap_or(&shapes[0]);
+                let values = places.iter().flatten().map(|it| self.zero(&members[*it].1));
+                let values = values.collect::<Done<Vec<String>>>()?;
+                format!("{}({})", self.maker(of, *shape), values.join(", "))
             }
         })
     }

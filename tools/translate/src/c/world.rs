@@ -1,14 +1,17 @@
 //! What the sources declare: functions, constants, types and their members, by their numbers.
 
-use super::ir::{Bindings, Done, Id, Integer, Type};
+use super::ir::{Bindings, Done, Id, Integer, Shape, Type};
 use crate::modules::{Module, Package};
 use crate::resolve::{Definition, Namespace, Resolved, Scopes};
 use crate::source::{Fault, Source, Span};
 use crate::tree::{
-    ExpressionKind, Function, GenericArgument, GenericKind, GenericParameter, Item, ItemKind,
-    Literal, LiteralKind, Path, Segment, Type as TreeType, TypeKind, Variant,
+    ExpressionKind, Field, Function, GenericArgument, GenericKind, GenericParameter, Item,
+    ItemKind, Literal, LiteralKind, Path, Segment, Type as TreeType, TypeKind,
 };
 use std::collections::BTreeMap;
+
+/// The variants of `IntErrorKind`.
+pub const ERROR_KINDS: [&str; 5] = ["Empty", "InvalidDigit", "PosOverflow", "NegOverflow", "Zero"];
 
 pub struct World<'a> {
     pub package: &'a Package,
@@ -195,18 +198,54 @@ impl<'a> World<'a> {
         names.map(|it| it.name.text.clone()).collect()
     }
 
-    /// Returns the fields of a struct, or of a variant of an enum, with their types.
-    pub fn fields(
+    /// Returns the shapes that values of a type have.
+    pub fn shapes(&self, of: &Type) -> Vec<Shape> {
+        match of {
+            Type::Option(_) => vec![Shape::Some, Shape::None],
+            Type::Result(..) => vec![Shape::Ok, Shape::Err],
+            Type::Item { id, .. } => match &self.item(*id).kind {
+                ItemKind::Enum(variants) => (0..variants.len()).map(Shape::Variant).collect(),
+                _ => vec![Shape::Plain],
+            },
+            _ => vec![Shape::Plain],
+        }
+    }
+
+    /// Returns the names and types of the fields of a shape, if the type has it.
+    pub fn fields(&self, of: &Type, shape: Shape) -> Option<Done<Vec<(String, Type)>>> {
+        let one = |name: &str, of: &Type| (name.to_string(), of.clone());
+        Some(Ok(match (of, shape) {
+            (Type::Option(of), Shape::Some) | (Type::Result(of, _), Shape::Ok) => {
+                vec![one("value", of)]
+            }
+            (Type::Result(_, of), Shape::Err) => vec![one("error", of)],
+            (Type::Option(_), Shape::None) | (Type::ErrorKind, _) => Vec::new(),
+            (Type::Tuple(parts), Shape::Plain) => {
+                parts.iter().enumerate().map(|(at, of)| one(&at.to_string(), of)).collect()
+            }
+            (Type::Slice { element, is_mutable }, Shape::Plain) => {
+                let array = Type::Array { element: element.clone(), length: 0 };
+                let at = if *is_mutable { Type::Pointer(Box::new(array)) } else { array };
+                vec![one("at", &at), one("len", &Type::SIZE)]
+            }
+            (Type::Item { id, arguments }, shape) => {
+                let fields = match (&self.item(*id).kind, shape) {
+                    (ItemKind::Struct { fields, .. }, Shape::Plain) => fields,
+                    (ItemKind::Enum(variants), Shape::Variant(it)) => &variants[it].fields,
+                    _ => return None,
+                };
+                return Some(self.declared_fields(*id, fields, arguments));
+            }
+            _ => return None,
+        }))
+    }
+
+    fn declared_fields(
         &self,
         id: Id,
-        variant: Option<usize>,
+        fields: &[Field],
         arguments: &[Type],
     ) -> Done<Vec<(String, Type)>> {
-        let fields = match (&self.item(id).kind, variant) {
-            (ItemKind::Struct { fields, .. }, None) => fields,
-            (ItemKind::Enum(variants), Some(variant)) => &variants[variant].fields,
-            _ => return Err(self.source(id).fault(self.item(id).span, "C: no fields")),
-        };
         let place = self.place(id)?;
         let bindings = self.parameters(id).into_iter().zip(arguments.iter().cloned()).collect();
         let types = fields.iter().map(|field| {
@@ -216,21 +255,26 @@ impl<'a> World<'a> {
         types.collect()
     }
 
-    pub fn variants(&self, id: Id) -> &'a [Variant] {
-        if let ItemKind::Enum(variants) = &self.item(id).kind { variants } else { &[] }
+    /// Returns the name of a variant.
+    pub fn variant(&self, of: &Type, variant: usize) -> &'a str {
+        match of {
+            Type::Item { id, .. } => match &self.item(*id).kind {
+                ItemKind::Enum(variants) => &variants[variant].name.text,
+                _ => "",
+            },
+            _ => ERROR_KINDS[variant],
+        }
     }
 
     /// Says whether values of a type have no bytes.
     pub fn is_zero(&self, of: &Type) -> bool {
         match of {
             Type::Marker => true,
-            Type::Tuple(parts) => parts.iter().all(|part| self.is_zero(part)),
             Type::Pointer(target) => self.is_zero(target),
-            Type::Item { id, arguments } => {
-                let is_struct = matches!(self.item(*id).kind, ItemKind::Struct { .. });
-                let fields = self.fields(*id, None, arguments);
-                is_struct && fields.is_ok_and(|it| it.iter().all(|(_, of)| self.is_zero(of)))
-            }
+            Type::Tuple(_) | Type::Item { .. } => match self.fields(of, Shape::Plain) {
+                Some(Ok(fields)) => fields.iter().all(|(_, of)| self.is_zero(of)),
+                _ => false,
+            },
             _ => false,
         }
     }
@@ -306,17 +350,6 @@ impl<'a> World<'a> {
             (target, of) if found.generics.is_empty() && target == *of => Some(bindings),
             _ => None,
         }
-    }
-
-    /// Returns the types of all fields of a struct or an enum.
-    pub fn all_fields(&self, id: Id, arguments: &[Type]) -> Done<Vec<Type>> {
-        let variants = match self.variants(id).len() {
-            0 => vec![None],
-            count => (0..count).map(Some).collect(),
-        };
-        let fields = variants.into_iter().map(|variant| self.fields(id, variant, arguments));
-        let fields = fields.collect::<Result<Vec<_>, _>>()?;
-        Ok(fields.concat().into_iter().map(|(_, of)| of).collect())
     }
 
     /// Says why an item is refused.

@@ -2,6 +2,7 @@
 
 use super::{Branch, Done, Lowering, Target, Value};
 use crate::c::ir::{Id, Operation, Shape, Statement, Term, TermKind, Type};
+use crate::c::world::ERROR_KINDS;
 use crate::resolve::{Definition, Namespace};
 use crate::tree::{
     Arm, BinaryOperator, Block, Expression, Literal, LiteralKind, Name, Path, Pattern, PatternKind,
@@ -16,9 +17,6 @@ pub(super) struct Binding {
 }
 
 type Matched = (Vec<Term>, Vec<Binding>);
-
-// The variants of `IntErrorKind`.
-const ERROR_KINDS: [&str; 5] = ["Empty", "InvalidDigit", "PosOverflow", "NegOverflow", "Zero"];
 
 impl Lowering<'_> {
     /// Returns what must hold if a value fits a pattern, in order, and what is bound then.
@@ -78,12 +76,7 @@ impl Lowering<'_> {
             Value::Tuple(parts) => parts.clone(),
             _ => {
                 let term = self.whole(value.clone())?;
-                let Type::Tuple(types) = self.known(&term.of) else {
-                    return self.refuse("a tuple of an unknown type");
-                };
-                let field = |at| TermKind::Field(Box::new(term.clone()), at);
-                let parts = types.into_iter().enumerate();
-                parts.map(|(at, of)| Value::Term(self.make(field(at), of))).collect()
+                self.fields_in(&term, Shape::Plain)?.into_iter().map(|(_, part)| part).collect()
             }
         };
         if parts.len() != patterns.len() {
@@ -171,18 +164,8 @@ impl Lowering<'_> {
 
     /// Returns the fields of a shape of a type.
     pub(super) fn fields_of(&self, of: &Type, shape: Shape) -> Done<Vec<(String, Type)>> {
-        match (of, shape) {
-            (Type::Option(of), Shape::Some) | (Type::Result(of, _), Shape::Ok) => {
-                Ok(vec![("0".into(), (**of).clone())])
-            }
-            (Type::Result(_, of), Shape::Err) => Ok(vec![("0".into(), (**of).clone())]),
-            (Type::Option(_), Shape::None) | (Type::ErrorKind, _) => Ok(Vec::new()),
-            (Type::Item { id, arguments }, Shape::Plain) => self.world.fields(*id, None, arguments),
-            (Type::Item { id, arguments }, Shape::Variant(variant)) => {
-                self.world.fields(*id, Some(variant), arguments)
-            }
-            _ => self.refuse("this type has no such fields"),
-        }
+        let fields = self.world.fields(of, shape);
+        fields.unwrap_or_else(|| self.refuse("this type has no such fields"))
     }
 
     fn matched_variant(
@@ -228,16 +211,19 @@ impl Lowering<'_> {
         let term = self.whole(value.clone())?;
         let term = self.followed(term);
         self.unify(of, &term.of)?;
-        let fields = self.fields_of(&self.known(&term.of), shape)?;
+        let parts = self.fields_in(&term, shape)?;
+        let test = (shape != Shape::Plain).then(|| self.is(term, shape));
+        Ok((test.into_iter().collect(), parts))
+    }
+
+    // Returns the names and values of the fields of a value that has a shape.
+    pub(super) fn fields_in(&self, term: &Term, shape: Shape) -> Done<Vec<(String, Value)>> {
         let part = |number| match shape {
             Shape::Plain => TermKind::Field(Box::new(term.clone()), number),
             _ => TermKind::Payload(Box::new(term.clone()), shape, number),
         };
-        let parts = fields.into_iter().enumerate();
-        let parts = parts.map(|(at, (name, of))| (name, Value::Term(self.make(part(at), of))));
-        let parts = parts.collect();
-        let test = (shape != Shape::Plain).then(|| self.is(term, shape));
-        Ok((test.into_iter().collect(), parts))
+        let fields = self.fields_of(&self.known(&term.of), shape)?.into_iter().enumerate();
+        Ok(fields.map(|(at, (name, of))| (name, Value::Term(self.make(part(at), of)))).collect())
     }
 
     pub(super) fn is(&self, term: Term, shape: Shape) -> Term {

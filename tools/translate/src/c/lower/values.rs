@@ -346,27 +346,15 @@ impl Lowering<'_> {
 
     fn field(&mut self, receiver: &Expression, name: &str) -> Done<Value> {
         let value = self.value(receiver, None)?;
-        let number = name.parse::<usize>().ok();
-        if let (Value::Tuple(parts), Some(number)) = (&value, number) {
-            return parts.get(number).cloned().ok_or_else(|| self.fault("no such field"));
+        let missing = || self.fault("no such field");
+        if let Value::Tuple(parts) = &value {
+            let number = name.parse::<usize>().map_err(|_| missing())?;
+            return parts.get(number).cloned().ok_or_else(missing);
         }
         let term = self.whole(value)?;
-        let term = self.followed(term);
-        let (number, of) = match (self.known(&term.of), number) {
-            (Type::Tuple(types), Some(number)) if number < types.len() => {
-                (number, types[number].clone())
-            }
-            (of @ Type::Item { .. }, _) => {
-                let fields = self.fields_of(&of, Shape::Plain)?;
-                let mut named = fields.into_iter().enumerate().filter(|(_, (own, _))| own == name);
-                let Some((place, (_, of))) = named.next() else {
-                    return self.refuse("no such field");
-                };
-                (place, of)
-            }
-            _ => return self.refuse("a field of an unknown type"),
-        };
-        Ok(Value::Term(self.make(TermKind::Field(Box::new(term), number), of)))
+        let fields = self.fields_in(&self.followed(term), Shape::Plain)?;
+        let field = fields.into_iter().find(|(own, _)| own == name);
+        field.map(|(_, value)| value).ok_or_else(|| self.fault("no such field"))
     }
 
     /// Returns the element of a slice or an array, which is there if that was tested.
