@@ -205,60 +205,59 @@ impl Type {
     }
 }
 
-// The terms in a term, and those of a statement.
-macro_rules! walks {
-    ($children:ident $each:ident $iter:ident $($mutable:tt)?) => {
-        impl Term {
-            pub fn $children(&$($mutable)? self) -> Vec<&$($mutable)? Term> {
-                match &$($mutable)? self.kind {
-                    TermKind::Call { arguments: terms, .. }
-                    | TermKind::Operation(_, terms)
-                    | TermKind::Elements(terms)
-                    | TermKind::Choice(terms)
-                    | TermKind::Make(_, terms) => terms.$iter().collect(),
-                    TermKind::Cast(term)
-                    | TermKind::Field(term, _)
-                    | TermKind::Is(term, _)
-                    | TermKind::Payload(term, ..)
-                    | TermKind::Address(term)
-                    | TermKind::Follow(term) => vec![term],
-                    _ => Vec::new(),
-                }
-            }
+/// Calls something for each term of statements, but not for the terms in it.
+pub fn each_term(body: &mut [Statement], call: &mut dyn FnMut(&mut Term) -> Done<()>) -> Done<()> {
+    body.iter_mut().try_for_each(|statement| match statement {
+        Statement::Declare { value: Some(value), .. }
+        | Statement::Return(Some(value))
+        | Statement::Evaluate(value) => call(value),
+        Statement::Assign { place, value } => call(place).and_then(|()| call(value)),
+        Statement::If { condition, then, otherwise } => {
+            call(condition)?;
+            each_term(then, call)?;
+            each_term(otherwise, call)
         }
-
-        impl Statement {
-            pub fn $each(&$($mutable)? self, call: &mut dyn FnMut(&$($mutable)? Term)) {
-                match self {
-                    Statement::Declare { value: Some(value), .. }
-                    | Statement::Return(Some(value))
-                    | Statement::Evaluate(value) => call(value),
-                    Statement::Assign { place, value } => {
-                        call(place);
-                        call(value);
-                    }
-                    Statement::If { condition, then, otherwise } => {
-                        call(condition);
-                        then.$iter().chain(otherwise).for_each(|it| it.$each(call));
-                    }
-                    Statement::While { condition, body } => {
-                        call(condition);
-                        body.$iter().for_each(|it| it.$each(call));
-                    }
-                    _ => {}
-                }
-            }
+        Statement::While { condition, body } => {
+            call(condition)?;
+            each_term(body, call)
         }
-    };
+        _ => Ok(()),
+    })
 }
 
-walks!(children each_term iter);
-walks!(children_mut each_term_mut iter_mut mut);
+/// Returns all terms of statements, also those in others.
+pub fn all_terms(body: &[Statement]) -> Vec<Term> {
+    fn add(term: &mut Term, found: &mut Vec<Term>) -> Done<()> {
+        found.push(term.clone());
+        term.children().into_iter().try_for_each(|child| add(child, found))
+    }
+    let mut found = Vec::new();
+    let _ = each_term(&mut body.to_vec(), &mut |term| add(term, &mut found));
+    found
+}
 
 impl Term {
+    /// Returns the terms that this one is made of.
+    pub fn children(&mut self) -> Vec<&mut Term> {
+        match &mut self.kind {
+            TermKind::Call { arguments: terms, .. }
+            | TermKind::Operation(_, terms)
+            | TermKind::Elements(terms)
+            | TermKind::Choice(terms)
+            | TermKind::Make(_, terms) => terms.iter_mut().collect(),
+            TermKind::Cast(term)
+            | TermKind::Field(term, _)
+            | TermKind::Is(term, _)
+            | TermKind::Payload(term, ..)
+            | TermKind::Address(term)
+            | TermKind::Follow(term) => vec![term],
+            _ => Vec::new(),
+        }
+    }
+
     /// Says whether this term or one in it fulfils a condition.
     pub fn any(&self, is: &dyn Fn(&Term) -> bool) -> bool {
-        is(self) || self.children().into_iter().any(|child| child.any(is))
+        is(self) || self.clone().children().into_iter().any(|child| child.any(is))
     }
 
     /// Says whether evaluating it changes something.

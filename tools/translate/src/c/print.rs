@@ -1,6 +1,6 @@
 //! Functions and their statements as C.
 
-use super::ir::{Done, Function, Id, Operation, Statement, Term, TermKind, Type};
+use super::ir::{Done, Function, Id, Operation, Statement, Term, TermKind, Type, all_terms};
 use super::special::{Chosen, Key, Special};
 use super::terms;
 use super::text::{self, comment, wrapped};
@@ -126,7 +126,8 @@ impl Body<'_, '_> {
             self.name(*local);
             let name = &self.names[*local];
             parameters.push(declared(&self.printer.types.name(of)?, name));
-            if !reads(&function.body, *local) {
+            let is_it = |it: &Term| matches!(it.kind, TermKind::Local(own) if own == *local);
+            if !all_terms(&function.body).iter().any(is_it) {
                 unread.push(format!("    (void){name};\n"));
             }
         }
@@ -312,16 +313,6 @@ pub fn explained(world: &World, id: Id) -> String {
     let notes = &world.item(id).notes;
     let lines = if notes.docs.is_empty() { &notes.comments } else { &notes.docs };
     comment(world.source(id), lines, "")
-}
-
-fn reads(body: &[Statement], local: usize) -> bool {
-    let mut found = false;
-    for statement in body {
-        statement.each_term(&mut |term| {
-            found |= term.any(&|it| matches!(it.kind, TermKind::Local(own) if own == local));
-        });
-    }
-    found
 }
 
 fn calls_itself(function: &Function, key: &Key) -> bool {

@@ -1,6 +1,7 @@
 //! The functions that are printed: each generic one for the types that matter to it, from what is asked for.
 
 use super::ir::{Bindings, Callee, Done, Function, Id, Operation, Statement, Term, TermKind, Type};
+use super::ir::{all_terms, each_term};
 use super::lower;
 use super::world::World;
 use crate::tree::BinaryOperator;
@@ -119,7 +120,7 @@ impl<'a> Special<'a> {
         let mut needs = empty;
         let mut types: Vec<Type> = form.locals.iter().map(|it| it.of.clone()).collect();
         types.push(form.result.clone());
-        for term in all_terms(&form) {
+        for term in all_terms(&form.body) {
             types.push(term.of.clone());
             self.term_needs(&term, &mut needs)?;
         }
@@ -200,15 +201,15 @@ impl<'a> Special<'a> {
             local.of = self.erased(&local.of.with(bindings))?;
         }
         form.result = self.erased(&form.result.with(bindings))?;
-        try_each(&mut form.body, |term| self.fill_term(term, bindings))?;
+        each_term(&mut form.body, &mut |term| self.fill_term(term, bindings))?;
         form.body = reached(std::mem::take(&mut form.body));
         lower::remove_unused(form);
-        try_each(&mut form.body, |term| self.fill_calls(term))
+        each_term(&mut form.body, &mut |term| self.fill_calls(term))
     }
 
     fn fill_term(&mut self, term: &mut Term, bindings: &Bindings) -> Done<()> {
         term.of = self.erased(&term.of.with(bindings))?;
-        for child in term.children_mut() {
+        for child in term.children() {
             self.fill_term(child, bindings)?;
         }
         match &mut term.kind {
@@ -236,7 +237,7 @@ impl<'a> Special<'a> {
 
     // Adds what a term calls. The constants that only matter become the first arguments.
     fn fill_calls(&mut self, term: &mut Term) -> Done<()> {
-        for child in term.children_mut() {
+        for child in term.children() {
             self.fill_calls(child)?;
         }
         let span = term.span;
@@ -270,33 +271,11 @@ impl<'a> Special<'a> {
 
 /// Returns the functions that a function calls.
 pub fn called(function: &Function) -> BTreeSet<Key> {
-    let callees = all_terms(function).into_iter().filter_map(|term| match term.kind {
+    let callees = all_terms(&function.body).into_iter().filter_map(|term| match term.kind {
         TermKind::Call { callee, .. } => Some((callee.id, callee.bindings)),
         _ => None,
     });
     callees.collect()
-}
-
-fn all_terms(function: &Function) -> Vec<Term> {
-    fn add(term: &Term, found: &mut Vec<Term>) {
-        found.push(term.clone());
-        term.children().into_iter().for_each(|child| add(child, found));
-    }
-    let mut found = Vec::new();
-    function.body.iter().for_each(|it| it.each_term(&mut |term| add(term, &mut found)));
-    found
-}
-
-fn try_each(body: &mut [Statement], mut call: impl FnMut(&mut Term) -> Done<()>) -> Done<()> {
-    let mut done = Ok(());
-    for statement in body {
-        statement.each_term_mut(&mut |term| {
-            if done.is_ok() {
-                done = call(term);
-            }
-        });
-    }
-    done
 }
 
 // Leaves out statements that are never reached.

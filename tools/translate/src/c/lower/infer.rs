@@ -2,6 +2,7 @@
 
 use super::{Done, Lowering};
 use crate::c::ir::{Function, Id, Integer, Operation, Statement, Term, TermKind, Type};
+use crate::c::ir::{all_terms, each_term};
 
 /// What is known of a type that was unknown at first.
 #[derive(Clone, Debug)]
@@ -114,19 +115,17 @@ impl Lowering<'_> {
     }
 
     /// Ends a function: all types get what was found.
-    pub(super) fn finish(&mut self, id: Id, parameters: Vec<usize>) -> Function {
+    pub(super) fn finish(&mut self, id: Id, parameters: Vec<usize>) -> Done<Function> {
         let mut body = std::mem::take(&mut self.statements);
-        for statement in &mut body {
-            statement.each_term_mut(&mut |term| self.finish_term(term));
-        }
+        each_term(&mut body, &mut |term| self.finish_term(term))?;
         let mut locals = std::mem::take(&mut self.locals);
         locals.iter_mut().for_each(|local| local.of = self.full(&local.of));
         let mut made = Function { id, locals, parameters, result: self.result.clone(), body };
         remove_unused(&mut made);
-        made
+        Ok(made)
     }
 
-    fn finish_term(&self, term: &mut Term) {
+    fn finish_term(&self, term: &mut Term) -> Done<()> {
         term.of = self.full(&term.of);
         match &mut term.kind {
             TermKind::Call { callee, .. } => {
@@ -135,7 +134,7 @@ impl Lowering<'_> {
             TermKind::Constant(_, Some(of)) => *of = self.full(of),
             _ => {}
         }
-        term.children_mut().into_iter().for_each(|child| self.finish_term(child));
+        term.children().into_iter().try_for_each(|child| self.finish_term(child))
     }
 }
 
@@ -155,20 +154,15 @@ fn is_same_kind(left: &Type, right: &Type) -> bool {
 pub fn remove_unused(function: &mut Function) {
     loop {
         let mut is_used = vec![false; function.locals.len()];
-        for statement in &function.body {
-            statement.each_term(&mut |term| mark(term, &mut is_used));
+        for term in all_terms(&function.body) {
+            if let TermKind::Local(local) = term.kind {
+                is_used[local] = true;
+            }
         }
         if !remove(&mut function.body, &is_used) {
             return;
         }
     }
-}
-
-fn mark(term: &Term, is_used: &mut [bool]) {
-    if let TermKind::Local(local) = term.kind {
-        is_used[local] = true;
-    }
-    term.children().into_iter().for_each(|child| mark(child, is_used));
 }
 
 // Returns whether something was removed.

@@ -73,7 +73,7 @@ pub fn function(world: &World, id: Id) -> Done<Function> {
     if let Some(Statement::Return(None)) = lowering.statements.last() {
         lowering.statements.pop();
     }
-    Ok(lowering.finish(id, parameters))
+    lowering.finish(id, parameters)
 }
 
 /// Returns the value of a constant.
@@ -84,7 +84,7 @@ pub fn constant(world: &World, id: Id) -> Done<Term> {
     };
     lowering.result = world.type_in(&lowering.place, annotation)?;
     lowering.to(value, Target::Return)?;
-    match lowering.finish(id, Vec::new()).body.as_slice() {
+    match lowering.finish(id, Vec::new())?.body.as_slice() {
         [Statement::Return(Some(term))] => Ok(term.clone()),
         _ => Err(world.fault(id, value.span, "C: statements in a constant")),
     }

@@ -17,6 +17,7 @@ pub(super) struct Binding {
 }
 
 type Matched = (Vec<Term>, Vec<Binding>);
+type Parts = Vec<(String, Value)>;
 
 impl Lowering<'_> {
     /// Returns what must hold if a value fits a pattern, in order, and what is bound then.
@@ -82,16 +83,18 @@ impl Lowering<'_> {
         if parts.len() != patterns.len() {
             return self.refuse("a pattern with another number of parts");
         }
-        self.matched_all(patterns.iter().zip(&parts))
+        self.matched_all(Vec::new(), patterns.iter().zip(parts))
     }
 
+    // Adds what must hold if values fit patterns to other tests.
     fn matched_all<'p>(
         &mut self,
-        pairs: impl Iterator<Item = (&'p Pattern, &'p Value)>,
+        mut tests: Vec<Term>,
+        pairs: impl Iterator<Item = (&'p Pattern, Value)>,
     ) -> Done<Matched> {
-        let (mut tests, mut bindings) = (Vec::new(), Vec::new());
+        let mut bindings = Vec::new();
         for (pattern, value) in pairs {
-            let (more, found) = self.matched(pattern, value)?;
+            let (more, found) = self.matched(pattern, &value)?;
             tests.extend(more);
             bindings.extend(found);
         }
@@ -105,7 +108,7 @@ impl Lowering<'_> {
         }
         let rest = patterns.iter().position(is_rest);
         let fixed = self.size((patterns.len() - usize::from(rest.is_some())) as u128);
-        let mut tests = match rest {
+        let tests = match rest {
             Some(_) if patterns.len() == 1 => Vec::new(),
             Some(_) => vec![self.test(BinaryOperator::GreaterOrEqual, self.length(&slice), fixed)],
             None => vec![self.test(BinaryOperator::Equal, self.length(&slice), fixed)],
@@ -130,9 +133,7 @@ impl Lowering<'_> {
             };
             parts.push(Value::Term(part));
         }
-        let (more, bindings) = self.matched_all(patterns.iter().zip(&parts))?;
-        tests.extend(more);
-        Ok((tests, bindings))
+        self.matched_all(tests, patterns.iter().zip(parts))
     }
 
     /// Returns the variant that a path names: its type, and its shape.
@@ -188,26 +189,16 @@ impl Lowering<'_> {
             }
             _ => {}
         }
-        let (mut tests, parts) = self.parts(&of, shape, value)?;
-        if !matches!(patterns, [Pattern { kind: PatternKind::Rest, .. }])
-            && patterns.len() != parts.len()
-        {
+        let (tests, parts) = self.parts(&of, shape, value)?;
+        let has_rest = matches!(patterns, [Pattern { kind: PatternKind::Rest, .. }]);
+        if !has_rest && patterns.len() != parts.len() {
             return self.refuse("a pattern with another number of parts");
         }
-        let pairs = patterns.iter().zip(parts.iter().map(|(_, value)| value));
-        let (more, bindings) = self.matched_all(pairs)?;
-        tests.extend(more);
-        Ok((tests, bindings))
+        self.matched_all(tests, patterns.iter().zip(parts.into_iter().map(|(_, value)| value)))
     }
 
     // Returns whether a value has a shape, if it may have another, and its fields then.
-    #[allow(clippy::type_complexity)]
-    fn parts(
-        &mut self,
-        of: &Type,
-        shape: Shape,
-        value: &Value,
-    ) -> Done<(Vec<Term>, Vec<(String, Value)>)> {
+    fn parts(&mut self, of: &Type, shape: Shape, value: &Value) -> Done<(Vec<Term>, Parts)> {
         let term = self.whole(value.clone())?;
         let term = self.followed(term);
         self.unify(of, &term.of)?;
@@ -217,7 +208,7 @@ impl Lowering<'_> {
     }
 
     // Returns the names and values of the fields of a value that has a shape.
-    pub(super) fn fields_in(&self, term: &Term, shape: Shape) -> Done<Vec<(String, Value)>> {
+    pub(super) fn fields_in(&self, term: &Term, shape: Shape) -> Done<Parts> {
         let part = |number| match shape {
             Shape::Plain => TermKind::Field(Box::new(term.clone()), number),
             _ => TermKind::Payload(Box::new(term.clone()), shape, number),
@@ -237,16 +228,14 @@ impl Lowering<'_> {
         value: &Value,
     ) -> Done<Matched> {
         let (of, shape) = self.made_type(path)?;
-        let (mut tests, parts) = self.parts(&of, shape, value)?;
+        let (tests, parts) = self.parts(&of, shape, value)?;
         let mut pairs = Vec::new();
         for (name, pattern) in patterns {
             let part = parts.iter().find(|(own, _)| *own == name.text);
             let Some((_, part)) = part else { return self.refuse("no such field") };
-            pairs.push((pattern, part));
+            pairs.push((pattern, part.clone()));
         }
-        let (more, bindings) = self.matched_all(pairs.into_iter())?;
-        tests.extend(more);
-        Ok((tests, bindings))
+        self.matched_all(tests, pairs.into_iter())
     }
 
     // Each alternative may bind the same names to other parts.
@@ -311,21 +300,20 @@ impl Lowering<'_> {
 
     /// Declares a variable for each name of a pattern.
     pub(super) fn declare_all(&mut self, bindings: Vec<Binding>) -> Done<()> {
-        for binding in bindings {
-            let term = self.whole(binding.value)?;
-            self.declare(&binding.name, term, binding.is_mutable);
-        }
-        Ok(())
+        self.bind_all(bindings, |_, _| false)
     }
 
-    // Lets the names of a pattern stand for its parts, unless something may change these meanwhile.
-    fn name_all(&mut self, bindings: Vec<Binding>, is_guard: bool) -> Done<()> {
-        for binding in bindings {
-            let term = self.whole(binding.value)?;
-            if is_guard || self.is_constant(&term) && !binding.is_mutable {
-                self.name(&binding.name, Value::Term(term));
-            } else {
-                self.declare(&binding.name, term, binding.is_mutable);
+    // Lets the names of a pattern stand for its parts where they may, or else for variables.
+    fn bind_all(
+        &mut self,
+        bindings: Vec<Binding>,
+        may_name: impl Fn(&Self, &Term) -> bool,
+    ) -> Done<()> {
+        for Binding { name, is_mutable, value } in bindings {
+            let term = self.whole(value)?;
+            match may_name(self, &term) && !is_mutable {
+                true => self.name(&name, Value::Term(term)),
+                false => self.declare(&name, term, is_mutable),
             }
         }
         Ok(())
@@ -345,7 +333,7 @@ impl Lowering<'_> {
             let (mut tests, bindings) = self.matched(&arm.pattern, &found)?;
             if let Some(guard) = &arm.guard {
                 tests.push(self.alone("a guard", |it| {
-                    it.name_all(bindings.clone(), true)?;
+                    it.bind_all(bindings.clone(), |_, _| true)?;
                     it.term(guard, Some(&Type::Boolean))
                 })?);
             } else if number + 1 == arms.len() {
@@ -390,7 +378,8 @@ impl Lowering<'_> {
     ) -> Done<Value> {
         let hint = self.hint.take();
         let branches = self.branches(value, arms, |it, arm, bindings| {
-            it.name_all(bindings, false)?;
+            // Unless something may change the parts meanwhile.
+            it.bind_all(bindings, Self::is_constant)?;
             it.value(&arm.body, wanted)
         })?;
         self.hint = hint;
