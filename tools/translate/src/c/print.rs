@@ -251,27 +251,23 @@ impl Body<'_, '_> {
             return Ok(());
         }
         // The value may name what the variable hides.
-        let value_text = match value.map(|it| &it.kind) {
-            None | Some(TermKind::Elements(_)) => String::new(),
-            Some(_) => {
-                value.map(|it| self.term(it)).transpose()?.map_or(String::new(), |it| it.text)
-            }
-        };
+        let (mut is_array, mut text) = (false, String::new());
+        if let Some(value) = value {
+            is_array = matches!(value.kind, TermKind::Elements(_));
+            text = match &value.kind {
+                TermKind::Elements(terms) => format!(" = {{{}}}", self.texts(terms)?.join(", ")),
+                _ => format!(" = {}", self.term(value)?.text),
+            };
+        }
         self.name(local);
         let name = self.names[local].clone();
-        if let (Type::Array { element, length }, Some(TermKind::Elements(terms))) =
-            (of, value.map(|it| &it.kind))
-        {
-            let element = self.printer.types.name(element)?;
-            let texts = self.texts(terms)?.join(", ");
-            self.line(&format!("const {element} {name}[{length}] = {{{texts}}};"));
-            return Ok(());
-        }
-        let declared = declared(&self.printer.types.name(of)?, &name);
-        match value {
-            Some(_) => self.line(&format!("{declared} = {value_text};")),
-            None => self.line(&format!("{declared};")),
-        }
+        let declared = match of {
+            Type::Array { element, length } if is_array => {
+                format!("const {} {name}[{length}]", self.printer.types.name(element)?)
+            }
+            _ => declared(&self.printer.types.name(of)?, &name),
+        };
+        self.line(&format!("{declared}{text};"));
         Ok(())
     }
 
@@ -279,22 +275,18 @@ impl Body<'_, '_> {
         let place_text = self.term(place)?;
         let target = &place_text.text;
         let is_short = place.of.integer().is_some_and(|it| (32..=64).contains(&it.bits));
-        if let (TermKind::Operation(Operation::Binary(BinaryOperator::Add), terms), true, false) =
-            (&value.kind, is_short, self.printer.is_checked)
-        {
-            if self.term(&terms[0])?.text == *target {
-                let text = self.term(&terms[1])?.text;
-                let line = if text == "1" {
-                    format!("{}++;", place_text.at(terms::ATOM))
-                } else {
-                    format!("{target} += {text};")
-                };
-                self.line(&line);
-                return Ok(());
+        let (mut sign, mut value) = ("=", value);
+        if let TermKind::Operation(Operation::Binary(BinaryOperator::Add), terms) = &value.kind {
+            let is_shown = is_short && !self.printer.is_checked;
+            if is_shown && self.term(&terms[0])?.text == *target {
+                (sign, value) = ("+=", &terms[1]);
             }
         }
         let text = self.term(value)?.text;
-        self.line(&format!("{target} = {text};"));
+        match (sign, text.as_str()) {
+            ("+=", "1") => self.line(&format!("{}++;", place_text.at(terms::ATOM))),
+            _ => self.line(&format!("{target} {sign} {text};")),
+        }
         Ok(())
     }
 

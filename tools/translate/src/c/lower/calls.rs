@@ -1,7 +1,9 @@
 //! Paths, calls and methods. Calls of laws, which return nothing and change nothing, vanish.
 
-use super::{Done, Lowering, Value, signature};
-use crate::c::ir::{Callee, Id, Integer, Operation, Shape, Statement, Term, TermKind, Type};
+use super::{Done, Lowering, Value, Wanted, signature};
+use crate::c::ir::{
+    Bindings, Callee, Id, Integer, Operation, Shape, Statement, Term, TermKind, Type,
+};
 use crate::c::world::integer;
 use crate::resolve::{Definition, Namespace};
 use crate::tree::{
@@ -9,15 +11,12 @@ use crate::tree::{
     MethodCall, Path, TypeKind,
 };
 
-/// A function with the types and constants that a call chooses.
-struct Chosen {
-    callee: Callee,
-    constants: Vec<Term>,
-}
+// A function with the types and constants that a call chooses.
+type Chosen = (Callee, Vec<Term>);
 
 impl Lowering<'_> {
     /// Evaluates a path: a variable, a constant or a variant without fields.
-    pub(super) fn path(&mut self, path: &Path, wanted: Option<&Type>) -> Done<Value> {
+    pub fn path(&mut self, path: &Path, wanted: Wanted) -> Done<Value> {
         if let [only] = path.segments.as_slice() {
             let named = self.scopes.iter().rev().find_map(|scope| scope.get(&only.name.text));
             if let Some(value) = named {
@@ -82,12 +81,7 @@ impl Lowering<'_> {
     }
 
     /// Evaluates a call of what a path names.
-    pub(super) fn call(
-        &mut self,
-        path: &Path,
-        arguments: &[Expression],
-        wanted: Option<&Type>,
-    ) -> Done<Value> {
+    pub fn call(&mut self, path: &Path, arguments: &[Expression], wanted: Wanted) -> Done<Value> {
         if let Some((of, shape)) = self.variant(path) {
             wanted.map_or(Ok(()), |wanted| self.unify(&of, wanted))?;
             let fields = self.fields_of(&self.known(&of), shape)?;
@@ -116,8 +110,7 @@ impl Lowering<'_> {
         let Some((id, bindings)) = found else {
             return self.refuse("this function has no rule");
         };
-        let mut chosen = self.choose(id, &path.last().arguments)?;
-        chosen.callee.bindings.extend(bindings);
+        let chosen = self.choose(id, bindings, &path.last().arguments)?;
         self.call_chosen(chosen, None, arguments)
     }
 
@@ -133,10 +126,14 @@ impl Lowering<'_> {
     }
 
     // Returns a function with the generics that a call writes. Types that it leaves out are found later.
-    fn choose(&mut self, id: Id, arguments: &[GenericArgument]) -> Done<Chosen> {
+    fn choose(
+        &mut self,
+        id: Id,
+        mut bindings: Bindings,
+        arguments: &[GenericArgument],
+    ) -> Done<Chosen> {
         let mut given = arguments.iter();
-        let mut chosen =
-            Chosen { callee: Callee { id, bindings: Default::default() }, constants: Vec::new() };
+        let mut constants = Vec::new();
         for parameter in &self.world.item(id).generics {
             match &parameter.kind {
                 GenericKind::Type(_) => {
@@ -144,7 +141,7 @@ impl Lowering<'_> {
                         Some(GenericArgument::Type(of)) => self.world.type_in(&self.place, of)?,
                         _ => self.fresh(false),
                     };
-                    chosen.callee.bindings.insert(parameter.name.text.clone(), of);
+                    bindings.insert(parameter.name.text.clone(), of);
                 }
                 GenericKind::Constant(of) => {
                     let of = self.world.type_in(&self.place, of)?;
@@ -159,11 +156,11 @@ impl Lowering<'_> {
                         },
                         _ => return self.refuse("a generic constant that is not written"),
                     };
-                    chosen.constants.push(self.coerce(term, &of)?);
+                    constants.push(self.coerce(term, &of)?);
                 }
             }
         }
-        Ok(chosen)
+        Ok((Callee { id, bindings }, constants))
     }
 
     fn call_chosen(
@@ -172,7 +169,7 @@ impl Lowering<'_> {
         receiver: Option<Term>,
         arguments: &[Expression],
     ) -> Done<Value> {
-        let Chosen { callee, constants } = chosen;
+        let (callee, constants) = chosen;
         let (parameters, result) = signature(self.world, callee.id)?;
         let own = usize::from(receiver.is_some());
         if parameters.len() != own + arguments.len() {
@@ -197,7 +194,7 @@ impl Lowering<'_> {
     }
 
     /// Evaluates a call of a method.
-    pub(super) fn method(&mut self, call: &MethodCall) -> Done<Value> {
+    pub fn method(&mut self, call: &MethodCall) -> Done<Value> {
         if call.name.text == "count" && call.arguments.is_empty() {
             return self.count(&call.receiver).map(Value::Term);
         }
@@ -219,8 +216,7 @@ impl Lowering<'_> {
                 let Some((id, bindings)) = found else { return self.no_method() };
                 let is_pointer =
                     matches!(signature(self.world, id)?.0.first(), Some(Type::Pointer(_)));
-                let mut chosen = self.choose(id, &call.generics)?;
-                chosen.callee.bindings.extend(bindings);
+                let chosen = self.choose(id, bindings, &call.generics)?;
                 let receiver = match (is_pointer, self.known(&receiver.of)) {
                     (true, Type::Pointer(_)) => receiver,
                     (true, of) => {
@@ -362,12 +358,10 @@ impl Lowering<'_> {
     // `SLICE.iter().filter(..).count()` or with `take_while`, as a loop.
     fn count(&mut self, source: &Expression) -> Done<Term> {
         let step = method_of(source).and_then(|step| Some((step, method_of(&step.receiver)?)));
+        let step = step.map(|(step, iter)| (&*step.name.text, &*iter.name.text, step, iter));
         let (otherwise, step, slice) = match step {
-            Some((step, iter)) if iter.name.text == "iter" => match step.name.text.as_str() {
-                "filter" => (Statement::Continue, step, &iter.receiver),
-                "take_while" => (Statement::Break, step, &iter.receiver),
-                _ => return self.refuse("only `iter().filter(..)` and `take_while` are counted"),
-            },
+            Some(("filter", "iter", step, iter)) => (Statement::Continue, step, &iter.receiver),
+            Some(("take_while", "iter", step, iter)) => (Statement::Break, step, &iter.receiver),
             _ => return self.refuse("only `iter().filter(..)` and `take_while` are counted"),
         };
         let [Expression { kind: ExpressionKind::Closure { parameters, body }, .. }] =

@@ -15,13 +15,13 @@ const I32: Type = Type::Integer(Integer { bits: 32, is_signed: true, is_size: fa
 
 impl Lowering<'_> {
     /// Returns a type that is not known yet.
-    pub(super) fn fresh(&mut self, is_integer: bool) -> Type {
+    pub fn fresh(&mut self, is_integer: bool) -> Type {
         self.variables.push(Variable::Free { is_integer });
         Type::Variable(self.variables.len() - 1)
     }
 
     /// Returns what is known of a type, but of its parts only what they were made with.
-    pub(super) fn known(&self, of: &Type) -> Type {
+    pub fn known(&self, of: &Type) -> Type {
         match of {
             Type::Variable(number) => match &self.variables[*number] {
                 Variable::Known(found) => self.known(found),
@@ -32,7 +32,7 @@ impl Lowering<'_> {
     }
 
     /// Returns a type with all that is known. Integers that nothing decides are `i32`, as in Rust.
-    pub(super) fn full(&self, of: &Type) -> Type {
+    pub fn full(&self, of: &Type) -> Type {
         let mut found = self.known(of);
         if let Type::Variable(number) = found {
             if let Variable::Free { is_integer: true } = self.variables[number] {
@@ -44,7 +44,7 @@ impl Lowering<'_> {
     }
 
     /// Makes two types the same.
-    pub(super) fn unify(&mut self, left: &Type, right: &Type) -> Done<()> {
+    pub fn unify(&mut self, left: &Type, right: &Type) -> Done<()> {
         let (mut left, mut right) = (self.known(left), self.known(right));
         match (&left, &right) {
             _ if left == right => return Ok(()),
@@ -79,7 +79,7 @@ impl Lowering<'_> {
     }
 
     /// Makes a term one of the wanted type: arrays become slices, and what may be written is shared.
-    pub(super) fn coerce(&mut self, term: Term, wanted: &Type) -> Done<Term> {
+    pub fn coerce(&mut self, term: Term, wanted: &Type) -> Done<Term> {
         let (of, wanted) = (self.known(&term.of), self.known(wanted));
         let array = match &of {
             Type::Pointer(target) => self.known(target),
@@ -115,7 +115,7 @@ impl Lowering<'_> {
     }
 
     /// Ends a function: all types get what was found.
-    pub(super) fn finish(&mut self, id: Id, parameters: Vec<usize>) -> Done<Function> {
+    pub fn finish(&mut self, id: Id, parameters: Vec<usize>) -> Done<Function> {
         let mut body = std::mem::take(&mut self.statements);
         each_term(&mut body, &mut |term| self.finish_term(term))?;
         let mut locals = std::mem::take(&mut self.locals);

@@ -14,9 +14,10 @@ use crate::tree::{
 };
 use infer::Variable;
 pub use infer::remove_unused;
+use patterns::Binding;
 use std::collections::BTreeMap;
 
-pub struct Lowering<'a> {
+struct Lowering<'a> {
     world: &'a World<'a>,
     source: &'a Source,
     place: Place,
@@ -43,6 +44,9 @@ enum Value {
     Never,
 }
 
+/// The type that is wanted, if one is known.
+type Wanted<'t> = Option<&'t Type>;
+
 /// Where a value goes.
 #[derive(Clone, Copy, Debug)]
 enum Target {
@@ -61,14 +65,21 @@ struct Branch {
 /// Returns the typed form of a function.
 pub fn function(world: &World, id: Id) -> Done<Function> {
     let mut lowering = Lowering::new(world, id)?;
-    let Some(tree::Function { body: Some(body), output, .. }) = world.function(id) else {
+    let Some(tree @ tree::Function { body: Some(body), .. }) = world.function(id) else {
         return lowering.refuse("no function with a body");
     };
-    let parameters = lowering.declare_parameters(id)?;
-    lowering.result = match output {
-        Some(output) => world.type_in(&lowering.place, output)?,
-        None => Type::UNIT,
-    };
+    let (types, result) = signature(world, id)?;
+    lowering.result = result;
+    let mut parameters = Vec::new();
+    for generic in &world.item(id).generics {
+        if let GenericKind::Constant(of) = &generic.kind {
+            let of = world.type_in(&lowering.place, of)?;
+            parameters.push(lowering.bind(&generic.name.text, of, false));
+        }
+    }
+    for (parameter, of) in tree.parameters.iter().zip(types) {
+        parameters.push(lowering.bind(&parameter.name.text, of, parameter.is_mutable));
+    }
     lowering.block(body, Target::Return)?;
     if let Some(Statement::Return(None)) = lowering.statements.last() {
         lowering.statements.pop();
@@ -158,22 +169,6 @@ impl<'a> Lowering<'a> {
     fn joined(&self, tests: Vec<Term>, operator: BinaryOperator) -> Term {
         let joined = tests.into_iter().reduce(|left, right| self.test(operator, left, right));
         joined.unwrap_or_else(|| self.make(TermKind::Boolean(true), Type::Boolean))
-    }
-
-    fn declare_parameters(&mut self, id: Id) -> Done<Vec<usize>> {
-        let Some(tree) = self.world.function(id) else { return self.refuse("no function") };
-        let mut parameters = Vec::new();
-        for generic in &self.world.item(id).generics {
-            if let GenericKind::Constant(of) = &generic.kind {
-                let of = self.world.type_in(&self.place, of)?;
-                parameters.push(self.bind(&generic.name.text, of, false));
-            }
-        }
-        for parameter in &tree.parameters {
-            let of = self.world.type_in(&self.place, &parameter.annotation)?;
-            parameters.push(self.bind(&parameter.name.text, of, parameter.is_mutable));
-        }
-        Ok(parameters)
     }
 
     // Makes a variable, and lets its name stand for it.
@@ -385,7 +380,7 @@ impl<'a> Lowering<'a> {
     }
 
     // Returns what must hold, and what is bound then.
-    fn condition(&mut self, condition: &Expression) -> Done<(Term, Vec<patterns::Binding>)> {
+    fn condition(&mut self, condition: &Expression) -> Done<(Term, Vec<Binding>)> {
         match &condition.kind {
             ExpressionKind::Let(it) => self.fits(&it.value, &it.pattern),
             _ => Ok((self.term(condition, Some(&Type::Boolean))?, Vec::new())),
@@ -393,11 +388,7 @@ impl<'a> Lowering<'a> {
     }
 
     // Returns whether a value fits a pattern, and what is bound then.
-    fn fits(
-        &mut self,
-        value: &Expression,
-        pattern: &Pattern,
-    ) -> Done<(Term, Vec<patterns::Binding>)> {
+    fn fits(&mut self, value: &Expression, pattern: &Pattern) -> Done<(Term, Vec<Binding>)> {
         let found = self.value(value, None)?;
         let found = self.keep(found, "found")?;
         let (tests, bindings) = self.matched(pattern, &found)?;

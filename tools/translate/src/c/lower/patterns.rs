@@ -1,6 +1,6 @@
 //! Patterns as conditions and variables, and the branches of `match`.
 
-use super::{Branch, Done, Lowering, Target, Value};
+use super::{Branch, Done, Lowering, Target, Value, Wanted};
 use crate::c::ir::{Id, Operation, Shape, Statement, Term, TermKind, Type};
 use crate::c::world::ERROR_KINDS;
 use crate::resolve::{Definition, Namespace};
@@ -10,7 +10,7 @@ use crate::tree::{
 
 /// A name of a pattern, with the part that it stands for.
 #[derive(Clone)]
-pub(super) struct Binding {
+pub struct Binding {
     name: String,
     is_mutable: bool,
     value: Value,
@@ -21,7 +21,7 @@ type Parts = Vec<(String, Value)>;
 
 impl Lowering<'_> {
     /// Returns what must hold if a value fits a pattern, in order, and what is bound then.
-    pub(super) fn matched(&mut self, pattern: &Pattern, value: &Value) -> Done<Matched> {
+    pub fn matched(&mut self, pattern: &Pattern, value: &Value) -> Done<Matched> {
         self.at = pattern.span;
         match &pattern.kind {
             PatternKind::Wildcard | PatternKind::Rest => Ok((Vec::new(), Vec::new())),
@@ -137,7 +137,7 @@ impl Lowering<'_> {
     }
 
     /// Returns the variant that a path names: its type, and its shape.
-    pub(super) fn variant(&mut self, path: &Path) -> Option<(Type, Shape)> {
+    pub fn variant(&mut self, path: &Path) -> Option<(Type, Shape)> {
         let found = self.world.resolve(self.place.module, Namespace::Values, path)?;
         match found.definition {
             _ if found.used != path.segments.len() => None,
@@ -164,7 +164,7 @@ impl Lowering<'_> {
     }
 
     /// Returns the fields of a shape of a type.
-    pub(super) fn fields_of(&self, of: &Type, shape: Shape) -> Done<Vec<(String, Type)>> {
+    pub fn fields_of(&self, of: &Type, shape: Shape) -> Done<Vec<(String, Type)>> {
         let fields = self.world.fields(of, shape);
         fields.unwrap_or_else(|| self.refuse("this type has no such fields"))
     }
@@ -208,7 +208,7 @@ impl Lowering<'_> {
     }
 
     // Returns the names and values of the fields of a value that has a shape.
-    pub(super) fn fields_in(&self, term: &Term, shape: Shape) -> Done<Parts> {
+    pub fn fields_in(&self, term: &Term, shape: Shape) -> Done<Parts> {
         let part = |number| match shape {
             Shape::Plain => TermKind::Field(Box::new(term.clone()), number),
             _ => TermKind::Payload(Box::new(term.clone()), shape, number),
@@ -217,7 +217,7 @@ impl Lowering<'_> {
         Ok(fields.map(|(at, (name, of))| (name, Value::Term(self.make(part(at), of)))).collect())
     }
 
-    pub(super) fn is(&self, term: Term, shape: Shape) -> Term {
+    pub fn is(&self, term: Term, shape: Shape) -> Term {
         self.make(TermKind::Is(Box::new(term), shape), Type::Boolean)
     }
 
@@ -262,7 +262,7 @@ impl Lowering<'_> {
     }
 
     /// Declares the variables of a pattern that every value fits, or all others go to a block that leaves.
-    pub(super) fn destructure(
+    pub fn destructure(
         &mut self,
         pattern: &Pattern,
         value: Value,
@@ -299,7 +299,7 @@ impl Lowering<'_> {
     }
 
     /// Declares a variable for each name of a pattern.
-    pub(super) fn declare_all(&mut self, bindings: Vec<Binding>) -> Done<()> {
+    pub fn declare_all(&mut self, bindings: Vec<Binding>) -> Done<()> {
         self.bind_all(bindings, |_, _| false)
     }
 
@@ -355,12 +355,7 @@ impl Lowering<'_> {
     }
 
     /// Evaluates a `match` and moves its value to the target.
-    pub(super) fn match_to(
-        &mut self,
-        value: &Expression,
-        arms: &[Arm],
-        target: Target,
-    ) -> Done<()> {
+    pub fn match_to(&mut self, value: &Expression, arms: &[Arm], target: Target) -> Done<()> {
         let branches = self.branches(value, arms, |it, arm, bindings| {
             it.declare_all(bindings)?;
             it.to(&arm.body, target).map(|()| Value::Never)
@@ -370,12 +365,7 @@ impl Lowering<'_> {
     }
 
     /// Evaluates a `match` to a value.
-    pub(super) fn match_value(
-        &mut self,
-        value: &Expression,
-        arms: &[Arm],
-        wanted: Option<&Type>,
-    ) -> Done<Value> {
+    pub fn match_value(&mut self, value: &Expression, arms: &[Arm], wanted: Wanted) -> Done<Value> {
         let hint = self.hint.take();
         let branches = self.branches(value, arms, |it, arm, bindings| {
             // Unless something may change the parts meanwhile.
@@ -402,7 +392,7 @@ impl Lowering<'_> {
     }
 
     /// Returns the value that branches end with, in a variable if they have statements.
-    pub(super) fn join(&mut self, branches: Vec<Branch>, wanted: Option<&Type>) -> Done<Value> {
+    pub fn join(&mut self, branches: Vec<Branch>, wanted: Wanted) -> Done<Value> {
         let is_never = |branch: &Branch| matches!(branch.value, Value::Never);
         if branches.iter().all(is_never) {
             self.push_branches(branches);
@@ -483,7 +473,7 @@ impl Lowering<'_> {
         value
     }
 
-    fn common_type(&mut self, branches: &[Branch], wanted: Option<&Type>) -> Type {
+    fn common_type(&mut self, branches: &[Branch], wanted: Wanted) -> Type {
         let types = branches.iter().filter_map(|branch| match &branch.value {
             Value::Term(term) => Some(self.known(&term.of)),
             _ => None,
@@ -494,7 +484,7 @@ impl Lowering<'_> {
         found.unwrap_or_else(|| self.fresh(false))
     }
 
-    pub(super) fn choice(&mut self, test: Term, then: Term, other: Term) -> Done<Term> {
+    pub fn choice(&mut self, test: Term, then: Term, other: Term) -> Done<Term> {
         self.unify(&then.of, &other.of)?;
         let of = then.of.clone();
         Ok(self.make(TermKind::Choice(vec![test, then, other]), of))

@@ -1,6 +1,6 @@
 //! Expressions as values. Operands are evaluated from left to right: what a later one could change is held first.
 
-use super::{Branch, Done, Lowering, Target, Value};
+use super::{Branch, Done, Lowering, Target, Value, Wanted};
 use crate::c::ir::{Operation, Shape, Statement, Term, TermKind, Type};
 use crate::c::world::integer;
 use crate::tree::{
@@ -10,21 +10,21 @@ use crate::tree::{
 
 impl Lowering<'_> {
     /// Evaluates an expression to a term of the wanted type, if one is wanted.
-    pub(super) fn term(&mut self, expression: &Expression, wanted: Option<&Type>) -> Done<Term> {
+    pub fn term(&mut self, expression: &Expression, wanted: Wanted) -> Done<Term> {
         let value = self.value(expression, wanted)?;
         let term = self.whole(value)?;
         wanted.map_or(Ok(term.clone()), |wanted| self.coerce(term, wanted))
     }
 
     /// Evaluates an expression. What is wanted only helps to find its type.
-    pub(super) fn value(&mut self, expression: &Expression, wanted: Option<&Type>) -> Done<Value> {
+    pub fn value(&mut self, expression: &Expression, wanted: Wanted) -> Done<Value> {
         let before = std::mem::replace(&mut self.at, expression.span);
         let value = self.value_here(expression, wanted)?;
         self.at = before;
         Ok(value)
     }
 
-    fn value_here(&mut self, expression: &Expression, wanted: Option<&Type>) -> Done<Value> {
+    fn value_here(&mut self, expression: &Expression, wanted: Wanted) -> Done<Value> {
         let term = match &expression.kind {
             ExpressionKind::Group(inner) => return self.value(inner, wanted),
             ExpressionKind::Literal(literal) => self.literal(literal, wanted)?,
@@ -93,7 +93,7 @@ impl Lowering<'_> {
         Ok(Value::Term(term))
     }
 
-    pub(super) fn literal(&mut self, literal: &Literal, wanted: Option<&Type>) -> Done<Term> {
+    pub fn literal(&mut self, literal: &Literal, wanted: Wanted) -> Done<Term> {
         let (kind, of) = match &literal.kind {
             LiteralKind::Boolean(value) => (TermKind::Boolean(*value), Type::Boolean),
             LiteralKind::Byte(byte) => (TermKind::Byte(*byte), Type::BYTE),
@@ -114,7 +114,7 @@ impl Lowering<'_> {
         Ok(self.make(kind, of))
     }
 
-    fn tuple(&mut self, parts: &[Expression], wanted: Option<&Type>) -> Done<Value> {
+    fn tuple(&mut self, parts: &[Expression], wanted: Wanted) -> Done<Value> {
         let types = match wanted.map(|it| self.known(it)) {
             Some(Type::Tuple(types)) if types.len() == parts.len() => {
                 types.into_iter().map(Some).collect()
@@ -125,7 +125,7 @@ impl Lowering<'_> {
         Ok(Value::Tuple(terms.into_iter().map(Value::Term).collect()))
     }
 
-    fn array(&mut self, parts: &[Expression], wanted: Option<&Type>) -> Done<Term> {
+    fn array(&mut self, parts: &[Expression], wanted: Wanted) -> Done<Term> {
         let element = match wanted.map(|it| self.known(it)) {
             Some(Type::Array { element, .. } | Type::Slice { element, .. }) => *element,
             _ => self.fresh(false),
@@ -137,7 +137,7 @@ impl Lowering<'_> {
 
     /// Evaluates operands from left to right. Those before one with statements are held in variables, and so
     /// are results of calls that write.
-    pub(super) fn operands<'e>(
+    pub fn operands<'e>(
         &mut self,
         operands: impl Iterator<Item = (&'e Expression, Option<Type>)>,
     ) -> Done<Vec<Term>> {
@@ -160,7 +160,7 @@ impl Lowering<'_> {
     }
 
     /// Says whether nothing that happens later changes what a term is.
-    pub(super) fn is_constant(&self, term: &Term) -> bool {
+    pub fn is_constant(&self, term: &Term) -> bool {
         !term.has_effect()
             && !term.any(&|it| match &it.kind {
                 TermKind::Local(local) => self.locals[*local].is_mutable,
@@ -173,7 +173,7 @@ impl Lowering<'_> {
     }
 
     /// Returns a value as one term.
-    pub(super) fn whole(&mut self, value: Value) -> Done<Term> {
+    pub fn whole(&mut self, value: Value) -> Done<Term> {
         match value {
             Value::Term(term) => Ok(term),
             Value::Tuple(parts) => {
@@ -193,7 +193,7 @@ impl Lowering<'_> {
     }
 
     /// Returns a value that may be read more than once: what is computed is held in a variable.
-    pub(super) fn keep(&mut self, value: Value, name: &str) -> Done<Value> {
+    pub fn keep(&mut self, value: Value, name: &str) -> Done<Value> {
         match value {
             Value::Term(_) => Ok(Value::Term(self.keep_term(value, name)?)),
             Value::Tuple(parts) => {
@@ -204,13 +204,13 @@ impl Lowering<'_> {
         }
     }
 
-    pub(super) fn keep_term(&mut self, value: Value, name: &str) -> Done<Term> {
+    pub fn keep_term(&mut self, value: Value, name: &str) -> Done<Term> {
         let term = self.whole(value)?;
         Ok(if is_path(&term) { term } else { self.hold(term, name, false) })
     }
 
     /// Returns what a term refers to.
-    pub(super) fn followed(&self, term: Term) -> Term {
+    pub fn followed(&self, term: Term) -> Term {
         match self.known(&term.of) {
             Type::Pointer(target) => self.make(TermKind::Follow(Box::new(term)), *target),
             _ => term,
@@ -218,7 +218,7 @@ impl Lowering<'_> {
     }
 
     /// Returns the type and shape of the struct or variant that a path names. Types may be left out.
-    pub(super) fn made_type(&mut self, path: &Path) -> Done<(Type, Shape)> {
+    pub fn made_type(&mut self, path: &Path) -> Done<(Type, Shape)> {
         if let Some(found) = self.variant(path) {
             return Ok(found);
         }
@@ -263,13 +263,8 @@ impl Lowering<'_> {
         Ok(self.shaped(shape, all, of))
     }
 
-    fn unary(
-        &mut self,
-        operator: UnaryOperator,
-        operand: &Expression,
-        wanted: Option<&Type>,
-    ) -> Done<Term> {
-        let term = self.term(operand, wanted)?;
+    fn unary(&mut self, operator: UnaryOperator, inner: &Expression, wanted: Wanted) -> Done<Term> {
+        let term = self.term(inner, wanted)?;
         let of = term.of.clone();
         Ok(match operator {
             UnaryOperator::Dereference => self.followed(term),
@@ -279,12 +274,7 @@ impl Lowering<'_> {
         })
     }
 
-    fn borrow(
-        &mut self,
-        is_mutable: bool,
-        operand: &Expression,
-        wanted: Option<&Type>,
-    ) -> Done<Value> {
+    fn borrow(&mut self, is_mutable: bool, operand: &Expression, wanted: Wanted) -> Done<Value> {
         let value = self.value(operand, wanted.filter(|_| !is_mutable))?;
         let Value::Term(term) = value else { return Ok(value) };
         Ok(Value::Term(match (self.known(&term.of), &term.kind) {
@@ -305,7 +295,7 @@ impl Lowering<'_> {
         operator: BinaryOperator,
         left: &Expression,
         right: &Expression,
-        wanted: Option<&Type>,
+        wanted: Wanted,
     ) -> Done<Term> {
         if matches!(operator, BinaryOperator::And | BinaryOperator::Or) {
             return self.short_circuit(operator, left, right);
@@ -358,7 +348,7 @@ impl Lowering<'_> {
     }
 
     /// Returns the element of a slice or an array, which is there if that was tested.
-    pub(super) fn element(&mut self, outer: Term, at: Term, is_tested: bool) -> Done<Term> {
+    pub fn element(&mut self, outer: Term, at: Term, is_tested: bool) -> Done<Term> {
         let outer = self.followed(outer);
         match self.known(&outer.of) {
             Type::Slice { element, .. } | Type::Array { element, .. } => {
@@ -370,12 +360,7 @@ impl Lowering<'_> {
     }
 
     /// Returns a part of a slice, from an offset or its start to another or its end.
-    pub(super) fn part(
-        &mut self,
-        slice: Term,
-        low: Option<Term>,
-        high: Option<Term>,
-    ) -> Done<Term> {
+    pub fn part(&mut self, slice: Term, low: Option<Term>, high: Option<Term>) -> Done<Term> {
         let slice = match self.known(&slice.of) {
             Type::Array { element, .. } => self.coerce(slice, &Type::slice(*element, false))?,
             Type::Slice { .. } => slice,
@@ -431,7 +416,7 @@ impl Lowering<'_> {
         condition: &Expression,
         then: &tree::Block,
         otherwise: &Expression,
-        wanted: Option<&Type>,
+        wanted: Wanted,
     ) -> Done<Value> {
         let hint = self.hint.take();
         let (condition, bindings) = self.condition(condition)?;
@@ -447,7 +432,7 @@ impl Lowering<'_> {
     }
 
     // The value of a block behind its statements.
-    fn block_value(&mut self, block: &tree::Block, wanted: Option<&Type>) -> Done<Value> {
+    fn block_value(&mut self, block: &tree::Block, wanted: Wanted) -> Done<Value> {
         match &block.value {
             Some(value) => self.value(value, wanted),
             None if self.statements.last().is_some_and(super::leaves) => Ok(Value::Never),
