@@ -6,13 +6,14 @@ use torkettle_translate::c::made;
 
 const FORMS: &str = include_str!("c_forms.txt");
 
-// Each source has the C behind each `----`, among other types and functions. Lines may be broken elsewhere.
+// The C of a source stands among other types and functions.
 #[test]
 fn each_form_has_its_c() {
-    for form in FORMS.split("\n\n") {
-        let (source, expected) = form.split_once("\n----\n").expect(form);
+    for form in FORMS.split("\n> ").skip(1) {
+        let mut parts = form.split("\n= ");
+        let source = parts.next().unwrap();
         let made = joined(&c(source, false).unwrap_or_else(|fault| panic!("{source}: {fault}")));
-        for part in expected.split("\n----\n") {
+        for part in parts {
             assert!(made.contains(&joined(part)), "{source}\nis\n{made}\nand not\n{part}");
         }
     }
