@@ -105,7 +105,7 @@ impl Names<'_> {
     fn item(&self, item: &Item) -> Result<(), Fault> {
         match &item.kind {
             ItemKind::Use(imports) => imports.iter().try_for_each(|it| self.import(it)),
-            ItemKind::Implementation { of, .. } => self.implementation(of, &item.generics),
+            ItemKind::Implementation { of, .. } => self.implementation(of, item),
             ItemKind::Ghost | ItemKind::GhostUse { .. } => Ok(()),
             ItemKind::Module | ItemKind::Function(_) => self.declare(&item.name, false),
             ItemKind::Constant { .. } | ItemKind::Alias(_) | ItemKind::Trait { .. } => {
@@ -174,17 +174,13 @@ impl Names<'_> {
 
     // Refuses an `impl` of a trait of ours for types that users can make: each parameter must have a trait of
     // ours, which no type of theirs has.
-    fn implementation(
-        &self,
-        of: &Option<Path>,
-        generics: &[GenericParameter],
-    ) -> Result<(), Fault> {
+    fn implementation(&self, of: &Option<Path>, item: &Item) -> Result<(), Fault> {
         let is_own = |path: &Path| self.is_own_trait(&path.names());
         let is_open = |parameter: &&GenericParameter| match &parameter.kind {
             GenericKind::Type(bounds) => !bounds.iter().any(is_own),
             GenericKind::Constant(_) => false,
         };
-        match generics.iter().find(is_open) {
+        match item.generics.iter().find(is_open) {
             Some(open) if of.as_ref().is_some_and(is_own) => {
                 let reason = "an `impl` of a trait of ours for types that users can make";
                 Err(self.source.fault(open.name.span, reason))

@@ -2,13 +2,12 @@
 //! no export may be a module, all names of one, or another name of something. What is proved of a trait holds
 //! for our own types alone, so users must not be able to implement one.
 
-use crate::lexer::{Language, lex};
+use crate::lexer::{Kind, Language, Token, lex};
 use crate::modules::CRATES;
 use crate::parser::Parser;
 use crate::resolve::{Definition, Namespace, Scopes};
 use crate::source::{Fault, Source, Span};
 use crate::std_names::has;
-use crate::token::{Kind, Token};
 use crate::tree::{Import, ItemKind, Name, Path};
 
 // The attributes that the facade may have.

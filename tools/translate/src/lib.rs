@@ -16,7 +16,6 @@ pub mod resolve;
 pub mod rust;
 pub mod source;
 pub mod std_names;
-pub mod token;
 pub mod tree;
 pub mod visit;
 

@@ -33,7 +33,7 @@ pub enum Definition {
 
 /// What the start of a path stands for, and how many of its names that start has. The others are names of
 /// what belongs to a type.
-#[derive(Clone, Debug, PartialEq, Eq)]
+#[derive(Debug)]
 pub struct Resolved {
     pub definition: Definition,
     pub used: usize,
@@ -121,21 +121,16 @@ impl<'a> Scopes<'a> {
         (found.used == names.len()).then_some(found.definition)
     }
 
-    // Goes on from a definition by the names of a path from `used` on.
-    fn below(
-        &self,
-        mut definition: Definition,
-        namespace: Namespace,
-        names: &[&str],
-        mut used: usize,
-    ) -> Option<Resolved> {
+    // Goes on from what the first name of a path stands for by the others.
+    fn below(&self, first: Definition, namespace: Namespace, names: &[&str]) -> Option<Resolved> {
+        let (mut definition, mut used) = (first, 1);
         while let Some(name) = names.get(used) {
             let is_last = used + 1 == names.len();
             let space = if is_last { namespace } else { Namespace::Types };
             definition = match &definition {
                 Definition::Module(module) => self.get(*module, space, name)?.clone(),
-                Definition::Item { module, item } => match self.variant(*module, *item, name) {
-                    Some(variant) => Definition::Variant { module: *module, item: *item, variant },
+                &Definition::Item { module, item } => match self.variant(module, item, name) {
+                    Some(variant) => Definition::Variant { module, item, variant },
                     None => break,
                 },
                 Definition::Foreign(path) if std_names::is_known(&format!("{path}::{name}")) => {
@@ -161,7 +156,7 @@ impl<'a> Scopes<'a> {
             None if std_names::is_built_in(head) => foreign(&[head]),
             None => return None,
         };
-        self.below(definition, namespace, names, 1)
+        self.below(definition, namespace, names)
     }
 
     /// Returns the item that a definition is.
@@ -183,13 +178,8 @@ impl<'a> Scopes<'a> {
     }
 
     /// Returns what the root of a crate declares or imports by a name.
-    pub fn in_root(
-        &self,
-        crate_name: &str,
-        namespace: Namespace,
-        name: &str,
-    ) -> Option<&Definition> {
-        self.get(self.package.find(crate_name, &[])?, namespace, name)
+    pub fn in_root(&self, crate_name: &str, space: Namespace, name: &str) -> Option<&Definition> {
+        self.get(self.package.find(crate_name, &[])?, space, name)
     }
 
     // The number of a variant, if the item is an `enum` that has it.

@@ -42,14 +42,8 @@ pub struct Special<'a> {
 
 impl<'a> Special<'a> {
     pub fn new(world: &'a World<'a>) -> Special<'a> {
-        Special {
-            world,
-            forms: BTreeMap::new(),
-            needs: BTreeMap::new(),
-            matters: BTreeMap::new(),
-            functions: Vec::new(),
-            done: BTreeSet::new(),
-        }
+        let (forms, needs, matters) = Default::default();
+        Special { world, forms, needs, matters, functions: Vec::new(), done: BTreeSet::new() }
     }
 
     fn form(&mut self, id: Id) -> Done<Function> {
@@ -296,10 +290,7 @@ fn reached(body: Vec<Statement>) -> Vec<Statement> {
             }
             other => kept.push(other),
         }
-        if matches!(
-            kept.last(),
-            Some(Statement::Return(_) | Statement::Break | Statement::Continue)
-        ) {
+        if kept.last().is_some_and(lower::leaves) {
             break;
         }
     }
@@ -308,10 +299,7 @@ fn reached(body: Vec<Statement>) -> Vec<Statement> {
 
 // Puts the value of a condition in its place, if it is known.
 fn fold(term: &mut Term) {
-    let boolean = |term: &Term| match term.kind {
-        TermKind::Boolean(value) => Some(value),
-        _ => None,
-    };
+    let boolean = |it: &Term| if let TermKind::Boolean(it) = it.kind { Some(it) } else { None };
     let number = |term: &Term| match term.kind {
         TermKind::Number { value, .. } => Some(value),
         _ => None,

@@ -1,9 +1,9 @@
 //! Expressions and statements, by precedence as in Rust.
 
 use super::{Parser, is_capital};
+use crate::lexer::Kind as TokenKind;
 use crate::source::{Fault, Span};
 use crate::std_names::INTEGERS;
-use crate::token::Kind as TokenKind;
 use crate::tree::{
     Arm, BinaryOperator, Block, Expression, ExpressionKind as Kind, Let, Literal, LiteralKind,
     MethodCall, Path, Statement, UnaryOperator,

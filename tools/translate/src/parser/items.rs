@@ -1,9 +1,9 @@
 //! Items: their attributes, visibility, contracts and ghost items.
 
 use super::Parser;
+use crate::lexer::Kind;
 use crate::source::{Fault, Span};
 use crate::std_names::{DERIVED, has};
-use crate::token::Kind;
 use crate::tree::{
     Attribute, AttributeKind, Clause, Field, Function, GenericKind, GenericParameter, Import, Item,
     ItemKind, Name, Notes, Parameter, Path, Tree, Type, TypeKind, Variant, Visibility,

@@ -6,9 +6,8 @@ mod types;
 
 pub use items::WRITER;
 
-use crate::lexer::{Language, lex};
+use crate::lexer::{Kind, Language, Token, lex};
 use crate::source::{Fault, Source, Span};
-use crate::token::{Kind, Token};
 use crate::tree::{Name, Tree};
 
 // Words that are no names: those of Rust, also for later use, and those of Rattle.
@@ -48,18 +47,15 @@ impl<'a> Parser<'a> {
         &self.tokens[(self.at + count).min(self.tokens.len() - 1)]
     }
 
-    /// Returns the kind of the next token.
-    pub fn kind(&self) -> Kind {
+    pub(crate) fn kind(&self) -> Kind {
         self.ahead(0).kind
     }
 
-    /// Returns the part of the next token.
-    pub fn span(&self) -> Span {
+    pub(crate) fn span(&self) -> Span {
         self.ahead(0).span
     }
 
-    /// Returns the text of the next token.
-    pub fn text(&self) -> &'a str {
+    pub(crate) fn text(&self) -> &'a str {
         self.source.at(self.span())
     }
 

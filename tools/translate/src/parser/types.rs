@@ -1,9 +1,9 @@
 //! Types, paths, generics, patterns and literals.
 
 use super::{Parser, is_capital};
+use crate::lexer::Kind;
 use crate::source::Fault;
 use crate::std_names::INTEGERS;
-use crate::token::Kind;
 use crate::tree::{
     GenericArgument, GenericKind, GenericParameter, Literal, LiteralKind, Name, Path, Pattern,
     PatternKind, Segment, Type, TypeKind,

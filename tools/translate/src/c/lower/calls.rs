@@ -198,8 +198,7 @@ impl Lowering<'_> {
         if call.name.text == "count" && call.arguments.is_empty() {
             return self.count(&call.receiver).map(Value::Term);
         }
-        let value = self.value(&call.receiver, None)?;
-        let receiver = self.whole(value)?;
+        let receiver = self.term(&call.receiver, None)?;
         let target = self.followed(receiver.clone());
         match self.known(&target.of) {
             Type::Integer(_) => self.of_number(target, call),
