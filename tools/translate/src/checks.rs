@@ -3,7 +3,7 @@
 use crate::modules::{CRATES, Package};
 use crate::parser::is_capital;
 use crate::resolve::{Definition, Namespace, Scopes};
-use crate::source::{Fault, Source, Span};
+use crate::source::{Done, Source, Span};
 use crate::std_names::{self, has};
 use crate::tree::{Field, GenericKind, GenericParameter, Import, Item, ItemKind, Name, Path};
 use crate::visit::{self, Part, Role};
@@ -17,7 +17,7 @@ const OWN_METHODS: &str = "index parts put_message text tick guessed_number next
 const RESERVED: &str = "std core alloc proved Model Formatter";
 
 /// Checks all modules.
-pub fn check(package: &Package, scopes: &Scopes) -> Result<(), Fault> {
+pub fn check(package: &Package, scopes: &Scopes) -> Done<()> {
     let members = Members::new(package)?;
     for (module, found) in package.modules.iter().enumerate() {
         let (source, members, locals) = (&found.source, &members, Vec::new());
@@ -40,7 +40,7 @@ struct Members {
 impl Members {
     // Collects them. Refuses a method of a trait of ours that has the name of another method of ours: which
     // one a call means depends on the type.
-    fn new(package: &Package) -> Result<Members, Fault> {
+    fn new(package: &Package) -> Done<Members> {
         let mut members = Members::default();
         for is_trait in [false, true] {
             for module in &package.modules {
@@ -58,7 +58,7 @@ impl Members {
         Ok(members)
     }
 
-    fn add(&mut self, member: &Item, is_trait: bool, source: &Source) -> Result<(), Fault> {
+    fn add(&mut self, member: &Item, is_trait: bool, source: &Source) -> Done<()> {
         let Item { name, kind, .. } = member;
         let is_method = match kind {
             ItemKind::Function(function) => function.is_method(),
@@ -84,7 +84,7 @@ struct Names<'a> {
 }
 
 impl Names<'_> {
-    fn part(&mut self, part: Part) -> Result<(), Fault> {
+    fn part(&mut self, part: Part) -> Done<()> {
         match part {
             Part::Item(item) => return self.item(item),
             Part::Path(path, role) if !self.is_known(path, role) => return self.refuse(path.span),
@@ -102,32 +102,24 @@ impl Names<'_> {
         Ok(())
     }
 
-    fn item(&self, item: &Item) -> Result<(), Fault> {
+    fn item(&self, item: &Item) -> Done<()> {
         match &item.kind {
-            ItemKind::Use(imports) => imports.iter().try_for_each(|it| self.import(it)),
-            ItemKind::Implementation { of, .. } => self.implementation(of, item),
-            ItemKind::Ghost | ItemKind::GhostUse { .. } => Ok(()),
-            ItemKind::Module | ItemKind::Function(_) => self.declare(&item.name, false),
-            ItemKind::Constant { .. } | ItemKind::Alias(_) | ItemKind::Trait { .. } => {
-                self.declare(&item.name, true)
-            }
-            ItemKind::Struct { fields, .. } => {
-                self.declare(&item.name, true)?;
-                self.check_fields(fields)
-            }
-            ItemKind::Enum(variants) => {
-                self.declare(&item.name, true)?;
-                variants.iter().try_for_each(|variant| {
-                    self.check_case(&variant.name, true)?;
-                    self.check_fields(&variant.fields)
-                })
-            }
+            ItemKind::Use(imports) => return imports.iter().try_for_each(|it| self.import(it)),
+            ItemKind::Implementation { of, .. } => return self.implementation(of, item),
+            ItemKind::Ghost | ItemKind::GhostUse { .. } => return Ok(()),
+            ItemKind::Struct { fields, .. } => self.check_fields(fields)?,
+            ItemKind::Enum(variants) => variants.iter().try_for_each(|variant| {
+                self.check_case(&variant.name, true)?;
+                self.check_fields(&variant.fields)
+            })?,
+            _ => {}
         }
+        self.declare(&item.name, !matches!(item.kind, ItemKind::Module | ItemKind::Function(_)))
     }
 
     // Refuses an import that hides what is built in, or gives a function another name: its conditions are found
     // by its own.
-    fn import(&self, import: &Import) -> Result<(), Fault> {
+    fn import(&self, import: &Import) -> Done<()> {
         let last = import.last();
         match &import.alias {
             Some(name) if import.path.len() > 1 => self.refuse(name.span),
@@ -148,14 +140,14 @@ impl Names<'_> {
         is_type && is_capital(name) || is_reserved(name)
     }
 
-    fn refuse(&self, span: Span) -> Result<(), Fault> {
+    fn refuse(&self, span: Span) -> Done<()> {
         let text = self.source.at(span).lines().next().unwrap_or_default();
         let reason = format!("`{text}` is not known here, or means something else in Rust");
         Err(self.source.fault(span, reason))
     }
 
     // Refuses a name of an item that hides another, or looks like one of another kind.
-    fn declare(&self, name: &Name, is_large: bool) -> Result<(), Fault> {
+    fn declare(&self, name: &Name, is_large: bool) -> Done<()> {
         if is_reserved(&name.text) {
             self.refuse(name.span)
         } else {
@@ -164,17 +156,17 @@ impl Names<'_> {
     }
 
     // Patterns are read by the case of their names: a small one binds.
-    fn check_case(&self, name: &Name, is_large: bool) -> Result<(), Fault> {
+    fn check_case(&self, name: &Name, is_large: bool) -> Done<()> {
         if is_capital(&name.text) == is_large { Ok(()) } else { self.refuse(name.span) }
     }
 
-    fn check_fields(&self, fields: &[Field]) -> Result<(), Fault> {
+    fn check_fields(&self, fields: &[Field]) -> Done<()> {
         fields.iter().try_for_each(|field| self.check_case(&field.name, false))
     }
 
     // Refuses an `impl` of a trait of ours for types that users can make: each parameter must have a trait of
     // ours, which no type of theirs has.
-    fn implementation(&self, of: &Option<Path>, item: &Item) -> Result<(), Fault> {
+    fn implementation(&self, of: &Option<Path>, item: &Item) -> Done<()> {
         let is_own = |path: &Path| self.is_own_trait(&path.names());
         let is_open = |parameter: &&GenericParameter| match &parameter.kind {
             GenericKind::Type(bounds) => !bounds.iter().any(is_own),

@@ -3,7 +3,7 @@
 
 use crate::modules::{Module, Package};
 use crate::resolve::{Definition, Namespace, Scopes};
-use crate::source::{Fault, Span};
+use crate::source::{Done, Span};
 use crate::std_names::has;
 use crate::tree::{Block, Field, Function, Item, ItemKind, Type, TypeKind, Visibility};
 use std::collections::{BTreeMap, BTreeSet};
@@ -61,7 +61,7 @@ const UNTESTED: [(&str, &str); 9] = [
 const INNER_CRATES: &str = "atoi_core atoi_fast atoi_lanes";
 
 /// Returns the tests of each module. Users can call the functions whose names are `exported`.
-pub fn tests(package: &Package, scopes: &Scopes, exported: &[&str]) -> Result<Vec<Tests>, Fault> {
+pub fn tests(package: &Package, scopes: &Scopes, exported: &[&str]) -> Done<Vec<Tests>> {
     let modules = package.modules.iter().enumerate();
     let tests = modules.map(|(number, module)| {
         let mut finder = Finder { module, number, scopes, exported, tests: Tests::new() };
@@ -80,7 +80,7 @@ struct Finder<'a> {
 }
 
 impl Finder<'_> {
-    fn item(&mut self, item: &Item) -> Result<(), Fault> {
+    fn item(&mut self, item: &Item) -> Done<()> {
         match &item.kind {
             ItemKind::Function(function) if self.is_callable(item) => {
                 self.test(item, function, "", function.body.as_ref())
@@ -108,7 +108,7 @@ impl Finder<'_> {
         }
     }
 
-    fn refuse<T>(&self, span: Span, reason: impl Into<String>) -> Result<T, Fault> {
+    fn refuse<T>(&self, span: Span, reason: impl Into<String>) -> Done<T> {
         Err(self.module.source.fault(span, reason))
     }
 
@@ -141,7 +141,7 @@ impl Finder<'_> {
         function: &Function,
         owner: &str,
         body: Option<&Block>,
-    ) -> Result<(), Fault> {
+    ) -> Done<()> {
         let path = format!("{owner}::{}", item.name.text);
         for clause in function.clauses.iter().filter(|clause| clause.is_condition) {
             let text = self.module.source.at(clause.text);
@@ -203,7 +203,7 @@ impl Finder<'_> {
 
     // Refuses an `impl` of `Model` with other items than ghost items, and an invariant of what users can write,
     // or change.
-    fn model(&self, item: &Item, target: &Type) -> Result<(), Fault> {
+    fn model(&self, item: &Item, target: &Type) -> Done<()> {
         let is_sealed = self.target(target).is_some_and(|(_, is_sealed)| is_sealed);
         for member in item.members() {
             match &member.kind {

@@ -6,7 +6,7 @@ use crate::lexer::{Kind, Language, Token, lex};
 use crate::modules::CRATES;
 use crate::parser::Parser;
 use crate::resolve::{Definition, Namespace, Scopes};
-use crate::source::{Fault, Source, Span};
+use crate::source::{Done, Source, Span};
 use crate::std_names::has;
 use crate::tree::{Import, ItemKind, Name, Path};
 
@@ -27,7 +27,7 @@ pub struct Export {
 
 /// Reads what the facade exports. It names the proved crates only in `use proved::CRATE::NAME;` and
 /// `use proved::CRATE::{NAME, ..};`, where `crate::` may be in front. Its items are modules and exports.
-pub fn exports(source: &Source) -> Result<Vec<Export>, Fault> {
+pub fn exports(source: &Source) -> Done<Vec<Export>> {
     let parser = Parser::new(source, lex(source, Language::Rust)?);
     let mut facade = Facade { source, parser, exports: Vec::new() };
     facade.items(true)?;
@@ -42,7 +42,7 @@ struct Facade<'a> {
 
 impl Facade<'_> {
     // Reads items up to the end of the file, or up to the `}` of a module.
-    fn items(&mut self, is_top: bool) -> Result<(), Fault> {
+    fn items(&mut self, is_top: bool) -> Done<()> {
         loop {
             let mut needs_lanes = false;
             loop {
@@ -60,7 +60,7 @@ impl Facade<'_> {
     }
 
     // Reads an attribute behind its `#`. Returns whether it says that its item needs the feature `lanes`.
-    fn attribute(&mut self) -> Result<bool, Fault> {
+    fn attribute(&mut self) -> Done<bool> {
         let is_inner = self.parser.eat("!");
         self.parser.expect("[")?;
         let name = self.parser.span();
@@ -82,7 +82,7 @@ impl Facade<'_> {
         Ok(needs_lanes)
     }
 
-    fn item(&mut self, needs_lanes: bool, is_top: bool) -> Result<(), Fault> {
+    fn item(&mut self, needs_lanes: bool, is_top: bool) -> Done<()> {
         let start = self.parser.span();
         let is_public = self.parser.eat("pub");
         if self.parser.eat("mod") {
@@ -111,7 +111,7 @@ impl Facade<'_> {
     }
 
     // Reads what follows the name of a module. The proved crates are in one alone.
-    fn module(&mut self, may_be_proved: bool, name: &Name) -> Result<(), Fault> {
+    fn module(&mut self, may_be_proved: bool, name: &Name) -> Done<()> {
         let has_items = !self.parser.eat(";");
         if name.text == "proved" && !(may_be_proved && has_items) {
             return Err(self.source.fault(name.span, "`proved` outside of a known export"));
@@ -124,7 +124,7 @@ impl Facade<'_> {
     }
 
     // Reads what follows `pub use`.
-    fn export(&mut self, start: Span) -> Result<(), Fault> {
+    fn export(&mut self, start: Span) -> Done<()> {
         for import in self.parser.imports()? {
             match exported(&import) {
                 Some(export) => self.exports.push(export),
@@ -149,7 +149,7 @@ fn exported(import: &Import) -> Option<Export> {
 }
 
 /// Refuses an export that is no function, struct, `enum` or sealed trait, or not only that.
-pub fn check(source: &Source, exports: &[Export], scopes: &Scopes) -> Result<(), Fault> {
+pub fn check(source: &Source, exports: &[Export], scopes: &Scopes) -> Done<()> {
     for export in exports {
         let Export { crate_name, name } = export;
         let found = [Namespace::Types, Namespace::Values]
@@ -191,7 +191,7 @@ fn is_sealed(of: &Definition, bounds: &[Path], exports: &[Export], scopes: &Scop
 
 /// Refuses a hand-written file that is not the facade if it names the proved crates: it could export what is
 /// in them, or call it where its conditions do not hold.
-pub fn check_other(source: &Source) -> Result<(), Fault> {
+pub fn check_other(source: &Source) -> Done<()> {
     let tokens = lex(source, Language::Rust)?;
     check_files(source, &tokens)?;
     match tokens.iter().find(|token| source.at(token.span) == "proved") {
@@ -201,7 +201,7 @@ pub fn check_other(source: &Source) -> Result<(), Fault> {
 }
 
 // Refuses what takes in a file that may not be read here: one in another folder, or of another kind.
-fn check_files(source: &Source, tokens: &[Token]) -> Result<(), Fault> {
+fn check_files(source: &Source, tokens: &[Token]) -> Done<()> {
     let is_read = |file: &str| file.ends_with(".rs\"") && !file.contains(['/', '\\']);
     let is_unread = |tokens: &[Token]| match [0, 1, 2].map(|at| source.at(tokens[at].span)) {
         ["include", "!", _] => true,

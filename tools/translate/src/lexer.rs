@@ -1,6 +1,6 @@
 //! Reads the tokens of a text. What is no token of its language is refused.
 
-use crate::source::{Fault, Source, Span};
+use crate::source::{Done, Source, Span};
 
 /// What the texts of both languages consist of.
 #[derive(Clone, Copy, Debug, PartialEq, Eq)]
@@ -65,7 +65,7 @@ const MARKS: &[char] = &[
 ];
 
 /// Returns all tokens, of which the last is the end.
-pub fn lex(source: &Source, language: Language) -> Result<Vec<Token>, Fault> {
+pub fn lex(source: &Source, language: Language) -> Done<Vec<Token>> {
     let lexer = Lexer { source, language, at: 0, tokens: Vec::new(), comments: Vec::new() };
     lexer.check_characters()?;
     lexer.run()
@@ -81,7 +81,7 @@ struct Lexer<'a> {
 }
 
 impl<'a> Lexer<'a> {
-    fn run(mut self) -> Result<Vec<Token>, Fault> {
+    fn run(mut self) -> Done<Vec<Token>> {
         while self.skip_space()? {
             let text = self.token()?;
             match text {
@@ -96,7 +96,7 @@ impl<'a> Lexer<'a> {
     }
 
     // Refuses control characters and invisible marks, also in comments and texts.
-    fn check_characters(&self) -> Result<(), Fault> {
+    fn check_characters(&self) -> Done<()> {
         let text = &self.source.text;
         let is_known = |character: char| match character {
             '\n' | ' ' => true,
@@ -119,7 +119,7 @@ impl<'a> Lexer<'a> {
         &self.source.text[self.at..]
     }
 
-    fn refuse<T>(&self, reason: impl Into<String>) -> Result<T, Fault> {
+    fn refuse<T>(&self, reason: impl Into<String>) -> Done<T> {
         Err(self.source.fault(Span { start: self.at, end: self.at }, reason))
     }
 
@@ -132,7 +132,7 @@ impl<'a> Lexer<'a> {
     }
 
     // Skips spaces, ends of lines and comments. Returns whether a token follows.
-    fn skip_space(&mut self) -> Result<bool, Fault> {
+    fn skip_space(&mut self) -> Done<bool> {
         loop {
             let rest = self.rest();
             let length = match rest.chars().next() {
@@ -158,7 +158,7 @@ impl<'a> Lexer<'a> {
     }
 
     // The length of a comment between signs. In Rust, one may hold others, which are refused.
-    fn length_between_signs(&self) -> Result<usize, Fault> {
+    fn length_between_signs(&self) -> Done<usize> {
         if self.language == Language::Rattle {
             return self.refuse("a comment between `/*` and `*/`");
         }
@@ -170,7 +170,7 @@ impl<'a> Lexer<'a> {
     }
 
     // Reads a token, and returns its text.
-    fn token(&mut self) -> Result<&'a str, Fault> {
+    fn token(&mut self) -> Done<&'a str> {
         let rest = self.rest();
         let first = rest.chars().next().unwrap_or(' ');
         let name = name_length(rest);
@@ -194,7 +194,7 @@ impl<'a> Lexer<'a> {
     }
 
     // Reads a whole number. Behind a point, it is the name of a field.
-    fn number(&mut self, length: usize) -> Result<&'a str, Fault> {
+    fn number(&mut self, length: usize) -> Done<&'a str> {
         let is_field = self.tokens.last().is_some_and(|last| self.source.at(last.span) == ".");
         let mut rest = self.rest()[length..].chars();
         let has_point = rest.next() == Some('.');
@@ -205,7 +205,7 @@ impl<'a> Lexer<'a> {
         Ok(self.push(Kind::Integer, length))
     }
 
-    fn symbol(&mut self) -> Result<&'a str, Fault> {
+    fn symbol(&mut self) -> Done<&'a str> {
         let rest = self.rest();
         if let Some(symbol) = SYMBOLS.iter().find(|symbol| rest.starts_with(**symbol)) {
             return Ok(self.push(Kind::Symbol, symbol.len()));
@@ -217,7 +217,7 @@ impl<'a> Lexer<'a> {
     }
 
     // Reads a text, byte or character whose first quote is at `from`.
-    fn quoted(&mut self, kind: Kind, from: usize) -> Result<&'a str, Fault> {
+    fn quoted(&mut self, kind: Kind, from: usize) -> Done<&'a str> {
         let rest = self.rest();
         let quote = rest.as_bytes()[from];
         let mut bytes = rest.bytes().enumerate().skip(from + 1);
@@ -233,7 +233,7 @@ impl<'a> Lexer<'a> {
     }
 
     // Reads the name of a clause, if it has one, and the clause.
-    fn contract(&mut self) -> Result<(), Fault> {
+    fn contract(&mut self) -> Done<()> {
         self.skip_space()?;
         let name = name_length(self.rest());
         if name > 0 {
@@ -243,7 +243,7 @@ impl<'a> Lexer<'a> {
     }
 
     // Reads what follows `ghost`: `use PATH;`, `NAME: {..}` or `NAME = {..}`.
-    fn ghost(&mut self) -> Result<(), Fault> {
+    fn ghost(&mut self) -> Done<()> {
         self.skip_space()?;
         match self.push(Kind::Name, name_length(self.rest())) {
             "use" => self.ghost_path(),
@@ -260,7 +260,7 @@ impl<'a> Lexer<'a> {
     }
 
     // Reads the path of a `ghost use`. The parser reads the `;` behind it.
-    fn ghost_path(&mut self) -> Result<(), Fault> {
+    fn ghost_path(&mut self) -> Done<()> {
         self.skip_space()?;
         let rest = self.rest();
         let Some((path, _)) = rest.split_once(';') else {
@@ -275,7 +275,7 @@ impl<'a> Lexer<'a> {
 
     // Reads a clause. It is not Rust: its names may have any characters. Rattle's comments, escapes, and
     // quotes that could hide a brace are refused, so that its braces are those that Rattle counts.
-    fn clause(&mut self) -> Result<(), Fault> {
+    fn clause(&mut self) -> Done<()> {
         self.skip_space()?;
         let rest = self.rest();
         if !rest.starts_with('{') {

@@ -21,7 +21,7 @@ pub mod visit;
 
 use modules::{Package, names_in, read_text};
 use resolve::Scopes;
-use source::{Fault, Source};
+use source::{Done, Fault, Source};
 use std::collections::{BTreeMap, BTreeSet};
 use std::fs;
 use std::path::{Path, PathBuf};
@@ -32,14 +32,14 @@ const PACKAGE: &str = "rust/src";
 const FACADE: &str = "rust/src/lib.rs";
 
 /// Makes the Rust of the sources below `top`: each file of `PROVED`, and its text.
-pub fn made(top: &Path) -> Result<BTreeMap<PathBuf, String>, Fault> {
+pub fn made(top: &Path) -> Done<BTreeMap<PathBuf, String>> {
     let facade = Source::new(Path::new(FACADE), read_text(top, Path::new(FACADE))?);
     check_others(top)?;
     translate(&facade, &Package::read(top)?)
 }
 
 // Makes the Rust, and the library for C where there is one.
-fn all(top: &Path) -> Result<BTreeMap<PathBuf, String>, Fault> {
+fn all(top: &Path) -> Done<BTreeMap<PathBuf, String>> {
     let mut made = made(top)?;
     if top.join("c/interface").exists() {
         made.extend(c::made(top, false)?.map(|(file, text)| (PathBuf::from(file), text)));
@@ -48,7 +48,7 @@ fn all(top: &Path) -> Result<BTreeMap<PathBuf, String>, Fault> {
 }
 
 /// Makes the Rust of a package that exports what the facade says.
-pub fn translate(facade: &Source, package: &Package) -> Result<BTreeMap<PathBuf, String>, Fault> {
+pub fn translate(facade: &Source, package: &Package) -> Done<BTreeMap<PathBuf, String>> {
     let exports = facade::exports(facade)?;
     let scopes = Scopes::new(package)?;
     checks::check(package, &scopes)?;
@@ -60,7 +60,7 @@ pub fn translate(facade: &Source, package: &Package) -> Result<BTreeMap<PathBuf,
 }
 
 /// Writes the files below `top`, and removes all others from their folder.
-pub fn write(top: &Path) -> Result<(), Fault> {
+pub fn write(top: &Path) -> Done<()> {
     let made = all(top)?;
     for file in differing(top, &made)? {
         let path = top.join(&file);
@@ -76,12 +76,12 @@ pub fn write(top: &Path) -> Result<(), Fault> {
 
 /// Returns how many files are made, and those below `top` that are not there, hold something else, or are not
 /// made. Writes nothing.
-pub fn compare(top: &Path) -> Result<(usize, Vec<PathBuf>), Fault> {
+pub fn compare(top: &Path) -> Done<(usize, Vec<PathBuf>)> {
     let made = all(top)?;
     Ok((made.len(), differing(top, &made)?.into_iter().collect()))
 }
 
-fn differing(top: &Path, made: &BTreeMap<PathBuf, String>) -> Result<BTreeSet<PathBuf>, Fault> {
+fn differing(top: &Path, made: &BTreeMap<PathBuf, String>) -> Done<BTreeSet<PathBuf>> {
     let is_made = |file: &PathBuf, text: &str| {
         fs::read(top.join(file)).is_ok_and(|present| present == text.as_bytes())
     };
@@ -96,7 +96,7 @@ fn differing(top: &Path, made: &BTreeMap<PathBuf, String>) -> Result<BTreeSet<Pa
 }
 
 // Finds all files in a folder and in the folders in it.
-fn files_in(top: &Path, folder: &Path) -> Result<Vec<PathBuf>, Fault> {
+fn files_in(top: &Path, folder: &Path) -> Done<Vec<PathBuf>> {
     let mut files = Vec::new();
     for path in names_in(top, folder)?.iter().map(|name| folder.join(name)) {
         match top.join(&path).is_dir() {
@@ -108,7 +108,7 @@ fn files_in(top: &Path, folder: &Path) -> Result<Vec<PathBuf>, Fault> {
 }
 
 // Refuses what the hand-written files other than the facade must not name. Hidden files are no modules.
-fn check_others(top: &Path) -> Result<(), Fault> {
+fn check_others(top: &Path) -> Done<()> {
     let is_other = |file: &&PathBuf| {
         let is_hidden = file.to_string_lossy().contains("/.");
         let is_rust = file.extension().is_some_and(|extension| extension == "rs");

@@ -1,6 +1,6 @@
 //! The modules of the package: which files they are in, and their trees.
 
-use crate::source::{Fault, Source};
+use crate::source::{Done, Fault, Source};
 use crate::tree::{Item, ItemKind, Tree};
 use crate::{PROVED, engines, parser};
 use std::collections::{BTreeMap, BTreeSet};
@@ -30,7 +30,7 @@ pub struct Module {
 
 impl Package {
     /// Reads the sources in `crates` below `top`, and their trees.
-    pub fn read(top: &Path) -> Result<Package, Fault> {
+    pub fn read(top: &Path) -> Done<Package> {
         let mut modules = Vec::new();
         for crate_name in CRATES {
             for (path, file) in files(top, crate_name)? {
@@ -45,7 +45,7 @@ impl Package {
     }
 
     /// Makes a package of modules. Each must be declared in another, or be the root of its crate.
-    pub fn new(modules: Vec<Module>) -> Result<Package, Fault> {
+    pub fn new(modules: Vec<Module>) -> Done<Package> {
         let package = Package { modules };
         package.check_declarations()?;
         Ok(package)
@@ -65,7 +65,7 @@ impl Package {
     }
 
     // Refuses a declared module without a file, and a file that no module declares.
-    fn check_declarations(&self) -> Result<(), Fault> {
+    fn check_declarations(&self) -> Done<()> {
         let mut declared = BTreeSet::new();
         for module in &self.modules {
             for item in &module.tree.items {
@@ -95,11 +95,7 @@ impl Module {
     }
 
     /// Reads the tree of a source as the package has it.
-    pub fn new(
-        crate_name: &'static str,
-        path: Vec<String>,
-        source: Source,
-    ) -> Result<Module, Fault> {
+    pub fn new(crate_name: &'static str, path: Vec<String>, source: Source) -> Done<Module> {
         let mut tree = parser::parse(&source)?;
         let is_left_out =
             |item: &Item| path.is_empty() && engines::leaves_out_item(crate_name, item);
@@ -110,12 +106,12 @@ impl Module {
 }
 
 /// Reads a file below `top` that must be UTF-8.
-pub fn read_text(top: &Path, file: &Path) -> Result<String, Fault> {
+pub fn read_text(top: &Path, file: &Path) -> Done<String> {
     fs::read_to_string(top.join(file)).map_err(|error| Fault::of_file(file, error))
 }
 
 /// Returns the names of what is in a folder, in order.
-pub fn names_in(top: &Path, folder: &Path) -> Result<Vec<String>, Fault> {
+pub fn names_in(top: &Path, folder: &Path) -> Done<Vec<String>> {
     let entries = fs::read_dir(top.join(folder)).and_then(Iterator::collect::<Result<Vec<_>, _>>);
     let entries = entries.map_err(|error| Fault::of_file(folder, error))?;
     let names = entries.iter().map(|entry| entry.file_name().to_string_lossy().into_owned());
@@ -125,7 +121,7 @@ pub fn names_in(top: &Path, folder: &Path) -> Result<Vec<String>, Fault> {
 }
 
 // Returns the modules of a crate and their files.
-fn files(top: &Path, crate_name: &str) -> Result<BTreeMap<Vec<String>, PathBuf>, Fault> {
+fn files(top: &Path, crate_name: &str) -> Done<BTreeMap<Vec<String>, PathBuf>> {
     let mut files = BTreeMap::new();
     find(top, &Path::new("crates").join(crate_name).join("src"), &[], &mut files)?;
     Ok(files)
@@ -138,7 +134,7 @@ fn find(
     folder: &Path,
     path: &[String],
     files: &mut BTreeMap<Vec<String>, PathBuf>,
-) -> Result<(), Fault> {
+) -> Done<()> {
     for name in names_in(top, folder)?.iter().filter(|name| !name.starts_with('.')) {
         let file = folder.join(name);
         let below = |name: &str| [path, &[name.to_string()]].concat();

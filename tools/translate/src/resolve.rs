@@ -1,7 +1,7 @@
 //! What the names in a module stand for: its items, what its `use` lines import, and what is built in.
 
 use crate::modules::{CRATES, Module, Package};
-use crate::source::Fault;
+use crate::source::{Done, Fault};
 use crate::std_names;
 use crate::tree::{Import, Item, ItemKind, Name};
 use std::collections::BTreeMap;
@@ -50,7 +50,7 @@ type Scope = BTreeMap<(Namespace, String), Definition>;
 
 impl<'a> Scopes<'a> {
     /// Resolves all `use` lines. Refuses two items of one name, and imports of what is not there.
-    pub fn new(package: &'a Package) -> Result<Scopes<'a>, Fault> {
+    pub fn new(package: &'a Package) -> Done<Scopes<'a>> {
         let mut scopes = Scopes { package, modules: Vec::new() };
         for (number, module) in package.modules.iter().enumerate() {
             scopes.modules.push(own_items(package, number, module)?);
@@ -86,7 +86,7 @@ impl<'a> Scopes<'a> {
     }
 
     // Adds what is imported to the names of a module. Returns whether it was found.
-    fn add_import(&mut self, module: usize, import: &Import) -> Result<bool, Fault> {
+    fn add_import(&mut self, module: usize, import: &Import) -> Done<bool> {
         let names = import.names();
         let mut found = Vec::new();
         if import.is_all {
@@ -206,7 +206,7 @@ fn foreign(names: &[&str]) -> Definition {
 }
 
 // Returns what the items of a module declare.
-fn own_items(package: &Package, number: usize, module: &Module) -> Result<Scope, Fault> {
+fn own_items(package: &Package, number: usize, module: &Module) -> Done<Scope> {
     let mut scope = Scope::new();
     for (at, Item { name, kind, .. }) in module.tree.items.iter().enumerate() {
         let definition = match kind {

@@ -6,14 +6,14 @@ use crate::conditions::Tests;
 use crate::engines;
 use crate::modules::{CRATES, Module};
 use crate::parser::WRITER;
-use crate::source::{Fault, Span};
+use crate::source::{Done, Span};
 use crate::tree::{
     Attribute, AttributeKind, Function, GenericArgument, Import, Item, ItemKind, Name, Path,
 };
 use crate::visit::{self, Part};
 
 /// Returns the text of the file that a module becomes.
-pub fn print(module: &Module, tests: &Tests) -> Result<String, Fault> {
+pub fn print(module: &Module, tests: &Tests) -> Done<String> {
     let mut printer = Printer { module, tests, edits: Vec::new() };
     printer.run()?;
     let source = module.source.path.display();
@@ -29,7 +29,7 @@ struct Printer<'a> {
 }
 
 impl Printer<'_> {
-    fn run(&mut self) -> Result<(), Fault> {
+    fn run(&mut self) -> Done<()> {
         let Module { tree, left_out, crate_name, path, .. } = self.module;
         let left_out = left_out.iter().map(|item| &item.span);
         tree.hints.iter().chain(left_out).try_for_each(|span| self.comment(*span))?;
@@ -75,7 +75,7 @@ impl Printer<'_> {
     }
 
     // Makes a comment of a part: on each line if nothing else is on these lines, and otherwise between signs.
-    fn comment(&mut self, span: Span) -> Result<(), Fault> {
+    fn comment(&mut self, span: Span) -> Done<()> {
         let source = &self.module.source;
         let text = source.at(span);
         let before = source.text[..span.start].rsplit('\n').next().unwrap_or_default();
@@ -91,7 +91,7 @@ impl Printer<'_> {
         Ok(())
     }
 
-    fn attribute(&mut self, attribute: &Attribute, item: &Item) -> Result<(), Fault> {
+    fn attribute(&mut self, attribute: &Attribute, item: &Item) -> Done<()> {
         match &attribute.kind {
             AttributeKind::Tactic => self.comment(attribute.span),
             AttributeKind::Derive(names) => self.derive(attribute.span, names),
@@ -105,7 +105,7 @@ impl Printer<'_> {
     }
 
     // Leaves `Drop` out, which Rust does not derive.
-    fn derive(&mut self, span: Span, names: &[String]) -> Result<(), Fault> {
+    fn derive(&mut self, span: Span, names: &[String]) -> Done<()> {
         let kept: Vec<&str> = names.iter().map(String::as_str).filter(|it| *it != "Drop").collect();
         if kept.is_empty() {
             return self.comment(span);
@@ -116,7 +116,7 @@ impl Printer<'_> {
         Ok(())
     }
 
-    fn imports(&mut self, imports: &[Import]) -> Result<(), Fault> {
+    fn imports(&mut self, imports: &[Import]) -> Done<()> {
         let Some(first) = imports.first() else { return Ok(()) };
         match first.names()[..] {
             ["std", "simd", ..] => self.replace(first.path[0].span, "crate"),
@@ -143,7 +143,7 @@ impl Printer<'_> {
         }
     }
 
-    fn function(&mut self, item: &Item, function: &Function) -> Result<(), Fault> {
+    fn function(&mut self, item: &Item, function: &Function) -> Done<()> {
         for clause in &function.clauses {
             self.comment(clause.span)?;
         }
@@ -167,7 +167,7 @@ impl Printer<'_> {
         Ok(())
     }
 
-    fn item(&mut self, item: &Item) -> Result<(), Fault> {
+    fn item(&mut self, item: &Item) -> Done<()> {
         for attribute in &item.notes.attributes {
             self.attribute(attribute, item)?;
         }

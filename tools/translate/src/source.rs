@@ -25,6 +25,9 @@ pub struct Fault {
     pub reason: String,
 }
 
+/// What may be refused.
+pub type Done<T> = Result<T, Fault>;
+
 impl Span {
     /// Returns the part from the start of this one to the end of another.
     pub fn to(self, last: Span) -> Span {

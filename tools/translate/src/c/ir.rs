@@ -1,11 +1,10 @@
 //! The typed form between the trees and C. Control flow and effects are statements, and `lower` puts terms into the
 //! order of Rust. A generic function has one form, in which its parameters stay types.
 
-use crate::source::{Fault, Span};
+pub use crate::source::Done;
+use crate::source::Span;
 use crate::tree::BinaryOperator;
 use std::collections::BTreeMap;
-
-pub type Done<T> = Result<T, Fault>;
 
 /// An item of a module, or a member of an `impl` or a trait.
 #[derive(Clone, Copy, Debug, PartialEq, Eq, PartialOrd, Ord)]

@@ -88,12 +88,8 @@ fn broken_at(line: &str, wanted: usize) -> Option<(String, String)> {
                 opened.pop();
             }
             b' ' if at > start && at <= WIDTH && opened.len() == wanted => {
-                let is_break = bytes[at - 1] == b','
-                    || line[at..].starts_with(" && ")
-                    || line[at..].starts_with(" || ")
-                    || line[at..].starts_with(" ? ")
-                    || line[at..].starts_with(" : ");
-                if is_break {
+                let signs = [" && ", " || ", " ? ", " : "];
+                if bytes[at - 1] == b',' || signs.iter().any(|it| line[at..].starts_with(it)) {
                     found = Some((at, opened.last().copied().unwrap_or(start + 4)));
                 }
             }

@@ -47,11 +47,8 @@ impl<'a> Types<'a> {
                 (value, error) => format!("result_{value}_{error}"),
             },
             Type::Tuple(parts) => {
-                let parts: Vec<String> = parts
-                    .iter()
-                    .filter(|part| !self.world.is_zero(part))
-                    .map(|part| self.short(part))
-                    .collect();
+                let parts = parts.iter().filter(|part| !self.world.is_zero(part));
+                let parts: Vec<String> = parts.map(|part| self.short(part)).collect();
                 let kind = if parts.len() == 2 { "pair" } else { "tuple" };
                 format!("{kind}_{}", parts.join("_"))
             }

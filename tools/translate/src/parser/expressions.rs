@@ -2,7 +2,7 @@
 
 use super::{Parser, is_capital};
 use crate::lexer::Kind as TokenKind;
-use crate::source::{Fault, Span};
+use crate::source::{Done, Span};
 use crate::std_names::INTEGERS;
 use crate::tree::{
     Arm, BinaryOperator, Block, Expression, ExpressionKind as Kind, Let, Literal, LiteralKind,
@@ -15,7 +15,7 @@ const COMPARISON: u8 = 3;
 
 impl Parser<'_> {
     // Reads an expression. Ranges are none, except for those in an index.
-    pub(super) fn expression(&mut self) -> Result<Expression, Fault> {
+    pub(super) fn expression(&mut self) -> Done<Expression> {
         let start = self.span();
         let place = self.binary(1)?;
         let is_symbol = self.kind() == TokenKind::Symbol;
@@ -35,7 +35,7 @@ impl Parser<'_> {
         Ok(self.node(start, Kind::Assign { operator, place, value }))
     }
 
-    fn boxed(&mut self) -> Result<Box<Expression>, Fault> {
+    fn boxed(&mut self) -> Done<Box<Expression>> {
         self.expression().map(Box::new)
     }
 
@@ -47,8 +47,8 @@ impl Parser<'_> {
     fn with_structs<T>(
         &mut self,
         takes_structs: bool,
-        read: impl FnOnce(&mut Self) -> Result<T, Fault>,
-    ) -> Result<T, Fault> {
+        read: impl FnOnce(&mut Self) -> Done<T>,
+    ) -> Done<T> {
         let before = std::mem::replace(&mut self.takes_structs, takes_structs);
         let value = read(self);
         self.takes_structs = before;
@@ -57,7 +57,7 @@ impl Parser<'_> {
 
     // Reads what is between `[` and `]`: an index, or a range. Only here may an end be missing: a range without
     // its last end overflows in Rust, and ends in Rattle.
-    fn index(&mut self, receiver: Expression) -> Result<Kind, Fault> {
+    fn index(&mut self, receiver: Expression) -> Done<Kind> {
         let receiver = Box::new(receiver);
         let low = if self.is("..") { None } else { Some(Box::new(self.binary(1)?)) };
         match low {
@@ -74,7 +74,7 @@ impl Parser<'_> {
     }
 
     // Reads operators of this level and above. Comparisons in a row have no rule.
-    fn binary(&mut self, level: u8) -> Result<Expression, Fault> {
+    fn binary(&mut self, level: u8) -> Done<Expression> {
         let start = self.span();
         let mut value = self.cast()?;
         while let Some((operator, found)) = self.operator().filter(|next| next.1 >= level) {
@@ -93,7 +93,7 @@ impl Parser<'_> {
     }
 
     // Reads casts, which are to integers.
-    fn cast(&mut self) -> Result<Expression, Fault> {
+    fn cast(&mut self) -> Done<Expression> {
         let start = self.span();
         let mut value = self.unary()?;
         while self.eat("as") {
@@ -106,7 +106,7 @@ impl Parser<'_> {
         Ok(value)
     }
 
-    fn unary(&mut self) -> Result<Expression, Fault> {
+    fn unary(&mut self) -> Done<Expression> {
         let start = self.span();
         if self.eat_sign("&") {
             let is_mutable = self.eat("mut");
@@ -128,7 +128,7 @@ impl Parser<'_> {
     }
 
     // Reads the calls, fields, indices and `?` behind an expression.
-    fn expression_after(&mut self, mut value: Expression) -> Result<Expression, Fault> {
+    fn expression_after(&mut self, mut value: Expression) -> Done<Expression> {
         let start = value.span;
         loop {
             let kind = if self.eat("?") {
@@ -151,13 +151,13 @@ impl Parser<'_> {
     }
 
     // Reads the arguments of a call.
-    fn arguments(&mut self) -> Result<Vec<Expression>, Fault> {
+    fn arguments(&mut self) -> Done<Vec<Expression>> {
         self.expect("(")?;
         self.with_structs(true, |parser| parser.list(")", Self::expression))
     }
 
     // Reads what follows the point: a field, by its name or number, or a call of a method.
-    fn selection(&mut self, receiver: Box<Expression>) -> Result<Kind, Fault> {
+    fn selection(&mut self, receiver: Box<Expression>) -> Done<Kind> {
         if self.kind() == TokenKind::Integer && self.text().bytes().all(|it| it.is_ascii_digit()) {
             return Ok(Kind::Field { receiver, name: self.word() });
         }
@@ -174,7 +174,7 @@ impl Parser<'_> {
     }
 
     // Reads an expression without operators.
-    fn primary(&mut self) -> Result<Expression, Fault> {
+    fn primary(&mut self) -> Done<Expression> {
         let start = self.span();
         let kind = if self.is_literal() {
             Kind::Literal(self.literal()?)
@@ -197,7 +197,7 @@ impl Parser<'_> {
         Ok(self.node(start, kind))
     }
 
-    fn group_or_tuple(&mut self) -> Result<Kind, Fault> {
+    fn group_or_tuple(&mut self) -> Done<Kind> {
         let mut values = self.list(")", Self::expression)?;
         let has_comma = self.source.at(self.tokens[self.at - 2].span) == ",";
         if values.len() == 1 && !has_comma {
@@ -207,7 +207,7 @@ impl Parser<'_> {
     }
 
     // Reads `VALUE; LENGTH]`, or values and `]`.
-    fn array(&mut self) -> Result<Kind, Fault> {
+    fn array(&mut self) -> Done<Kind> {
         let mut length = None;
         let mut values = self.list("]", |parser| {
             let value = parser.expression()?;
@@ -227,7 +227,7 @@ impl Parser<'_> {
     }
 
     // Reads the length of an array: a number, or the name of a constant.
-    pub(super) fn length(&mut self) -> Result<Expression, Fault> {
+    pub(super) fn length(&mut self) -> Done<Expression> {
         let start = self.span();
         let kind = match self.kind() {
             TokenKind::Integer => Kind::Literal(self.literal()?),
@@ -237,7 +237,7 @@ impl Parser<'_> {
     }
 
     // Reads an expression that a keyword begins.
-    fn control(&mut self) -> Result<Kind, Fault> {
+    fn control(&mut self) -> Done<Kind> {
         let start = self.span();
         Ok(if self.eat("if") {
             self.if_()?
@@ -264,7 +264,7 @@ impl Parser<'_> {
         })
     }
 
-    fn if_(&mut self) -> Result<Kind, Fault> {
+    fn if_(&mut self) -> Done<Kind> {
         let (condition, then) = (self.condition()?, self.block()?);
         let otherwise = self.after("else", |parser| {
             let start = parser.span();
@@ -278,7 +278,7 @@ impl Parser<'_> {
     }
 
     // Reads a test or `let PATTERN = VALUE`. More tests behind a `let` have no rule.
-    fn condition(&mut self) -> Result<Box<Expression>, Fault> {
+    fn condition(&mut self) -> Done<Box<Expression>> {
         let start = self.span();
         self.with_structs(false, |parser| {
             if !parser.eat("let") {
@@ -292,7 +292,7 @@ impl Parser<'_> {
         })
     }
 
-    fn match_(&mut self) -> Result<Kind, Fault> {
+    fn match_(&mut self) -> Done<Kind> {
         let value = self.with_structs(false, Self::boxed)?;
         self.expect("{")?;
         let mut arms = Vec::new();
@@ -306,7 +306,7 @@ impl Parser<'_> {
         Ok(Kind::Match { value, arms })
     }
 
-    fn arm(&mut self) -> Result<Arm, Fault> {
+    fn arm(&mut self) -> Done<Arm> {
         let comments = self.comments();
         let (pattern, guard) = (self.pattern()?, self.after("if", Self::expression)?);
         self.expect("=>")?;
@@ -314,7 +314,7 @@ impl Parser<'_> {
     }
 
     // Reads `matches!(..)` or `write!(..)`. No other macro has a rule.
-    fn call_of_macro(&mut self) -> Result<Kind, Fault> {
+    fn call_of_macro(&mut self) -> Done<Kind> {
         let name = self.name()?;
         if !matches!(&*name.text, "matches" | "write") {
             return self.refuse_form(name.span, &format!("the macro `{}`", name.text));
@@ -336,7 +336,7 @@ impl Parser<'_> {
         Ok(kind)
     }
 
-    fn path_or_struct(&mut self) -> Result<Kind, Fault> {
+    fn path_or_struct(&mut self) -> Done<Kind> {
         let path = self.path(false)?;
         if !(is_capital(&path.last().name.text) && self.takes_structs && self.eat("{")) {
             return Ok(Kind::Path(path));
@@ -351,7 +351,7 @@ impl Parser<'_> {
     }
 
     // Reads what gives the other fields: a variable, a constant or `*self`. Rattle need not read more.
-    fn base(&mut self) -> Result<Box<Expression>, Fault> {
+    fn base(&mut self) -> Done<Box<Expression>> {
         let is_self = self.is("*") && self.is_ahead(1, "self");
         if is_self || self.is_name() && self.is_ahead(1, "}") {
             return self.unary().map(Box::new);
@@ -360,7 +360,7 @@ impl Parser<'_> {
     }
 
     // Reads a block. Items in it have no rule.
-    pub(super) fn block(&mut self) -> Result<Block, Fault> {
+    pub(super) fn block(&mut self) -> Done<Block> {
         let start = self.expect("{")?;
         self.with_structs(true, |parser| {
             let (mut statements, mut value) = (Vec::new(), None);
@@ -382,7 +382,7 @@ impl Parser<'_> {
     }
 
     // Reads a statement without its `;`.
-    fn statement(&mut self) -> Result<Expression, Fault> {
+    fn statement(&mut self) -> Done<Expression> {
         let start = self.span();
         if !self.eat("let") {
             return self.statement_expression();
@@ -398,7 +398,7 @@ impl Parser<'_> {
 
     // Reads an expression as a statement or the body of an arm: one that ends with a block goes on only with
     // `.` or `?`.
-    fn statement_expression(&mut self) -> Result<Expression, Fault> {
+    fn statement_expression(&mut self) -> Done<Expression> {
         if !self.is_one_of(&["if", "match", "while", "loop", "for", "{"]) {
             return self.expression();
         }

@@ -2,7 +2,7 @@
 
 use super::Parser;
 use crate::lexer::Kind;
-use crate::source::{Fault, Span};
+use crate::source::{Done, Span};
 use crate::std_names::{DERIVED, has};
 use crate::tree::{
     Attribute, AttributeKind, Clause, Field, Function, GenericKind, GenericParameter, Import, Item,
@@ -22,7 +22,7 @@ enum Place {
 
 impl Parser<'_> {
     // Reads a whole module. A hint to the prover for all of it may stand between its items.
-    pub(super) fn tree(mut self) -> Result<Tree, Fault> {
+    pub(super) fn tree(mut self) -> Done<Tree> {
         let mut tree = Tree::default();
         while self.kind() == Kind::InnerDoc {
             self.step();
@@ -43,7 +43,7 @@ impl Parser<'_> {
     }
 
     // Reads the documentation, the comments and the attributes before an item.
-    fn notes(&mut self) -> Result<Notes, Fault> {
+    fn notes(&mut self) -> Done<Notes> {
         let mut notes = Notes::default();
         loop {
             notes.comments.extend(self.comments());
@@ -59,7 +59,7 @@ impl Parser<'_> {
     }
 
     // Reads an attribute behind its `#`.
-    fn attribute(&mut self, start: Span) -> Result<Attribute, Fault> {
+    fn attribute(&mut self, start: Span) -> Done<Attribute> {
         self.expect("[")?;
         let name = self.name()?;
         let has_arguments = self.eat("(");
@@ -80,7 +80,7 @@ impl Parser<'_> {
         Ok(Attribute { span: self.since(start), kind })
     }
 
-    fn derived(&mut self) -> Result<Vec<String>, Fault> {
+    fn derived(&mut self) -> Done<Vec<String>> {
         let mut names = Vec::new();
         while names.is_empty() || self.eat(",") {
             if !has(DERIVED, self.text()) {
@@ -92,7 +92,7 @@ impl Parser<'_> {
     }
 
     // Steps over the arguments of a hint, which are names, paths and lists of them.
-    fn tactic(&mut self) -> Result<AttributeKind, Fault> {
+    fn tactic(&mut self) -> Done<AttributeKind> {
         let mut depth = 0;
         while depth > 0 || !self.is(")") {
             match self.text() {
@@ -108,7 +108,7 @@ impl Parser<'_> {
     }
 
     // Reads nothing, `pub` or `pub(crate)`.
-    fn visibility(&mut self) -> Result<Visibility, Fault> {
+    fn visibility(&mut self) -> Done<Visibility> {
         if !self.eat("pub") {
             return Ok(Visibility::Private);
         }
@@ -120,7 +120,7 @@ impl Parser<'_> {
         Ok(Visibility::Crate)
     }
 
-    fn item(&mut self, place: Place) -> Result<Item, Fault> {
+    fn item(&mut self, place: Place) -> Done<Item> {
         let (notes, start) = (self.notes()?, self.span());
         let is_of_trait = place == Place::Trait;
         let visibility = if is_of_trait { Visibility::Private } else { self.visibility()? };
@@ -167,12 +167,12 @@ impl Parser<'_> {
         Ok(item)
     }
 
-    fn refuse_notes(&self, notes: &Notes, item: Span) -> Result<(), Fault> {
+    fn refuse_notes(&self, notes: &Notes, item: Span) -> Done<()> {
         let is_noted = !notes.docs.is_empty() || !notes.attributes.is_empty();
         if is_noted { self.refuse_form(item, "documentation of this item") } else { Ok(()) }
     }
 
-    fn generics_of(&mut self, keyword: &str, name: &Name) -> Result<Vec<GenericParameter>, Fault> {
+    fn generics_of(&mut self, keyword: &str, name: &Name) -> Done<Vec<GenericParameter>> {
         let is_fmt = keyword == "fn" && name.text == "fmt";
         if is_fmt && !self.source.text[name.span.end..].starts_with(WRITER) {
             return self.refuse_form(name.span, &format!("a `fmt` without `{WRITER}`"));
@@ -185,7 +185,7 @@ impl Parser<'_> {
     }
 
     // Reads what follows the name and the generics of an item.
-    fn item_kind(&mut self, keyword: &str) -> Result<ItemKind, Fault> {
+    fn item_kind(&mut self, keyword: &str) -> Done<ItemKind> {
         let kind = match keyword {
             "struct" => return self.struct_(),
             "enum" => return self.enum_(),
@@ -211,7 +211,7 @@ impl Parser<'_> {
         Ok(kind)
     }
 
-    fn members(&mut self, place: Place) -> Result<Vec<Item>, Fault> {
+    fn members(&mut self, place: Place) -> Done<Vec<Item>> {
         self.expect("{")?;
         let mut members = Vec::new();
         while !self.eat("}") {
@@ -221,7 +221,7 @@ impl Parser<'_> {
     }
 
     /// Reads what follows `use`.
-    pub fn imports(&mut self) -> Result<Vec<Import>, Fault> {
+    pub fn imports(&mut self) -> Done<Vec<Import>> {
         let mut imports = Vec::new();
         let head = self.segment_name(true)?;
         self.import(vec![head], &mut imports)?;
@@ -229,7 +229,7 @@ impl Parser<'_> {
     }
 
     // Reads what follows a name of a path: `as NAME`, nothing, or `::` and more.
-    fn import(&mut self, mut path: Vec<Name>, imports: &mut Vec<Import>) -> Result<(), Fault> {
+    fn import(&mut self, mut path: Vec<Name>, imports: &mut Vec<Import>) -> Done<()> {
         if !self.eat("::") {
             let alias = self.after("as", Self::name)?;
             imports.push(Import { path, alias, is_all: false });
@@ -248,7 +248,7 @@ impl Parser<'_> {
     }
 
     // Reads what follows the name of a struct, which has named fields or none.
-    fn struct_(&mut self) -> Result<ItemKind, Fault> {
+    fn struct_(&mut self) -> Done<ItemKind> {
         let (mut fields, mut ghosts) = (Vec::new(), Vec::new());
         if self.eat(";") {
             return Ok(ItemKind::Struct { fields, ghosts });
@@ -271,14 +271,14 @@ impl Parser<'_> {
         Ok(ItemKind::Struct { fields, ghosts })
     }
 
-    fn named_field(&mut self) -> Result<Field, Fault> {
+    fn named_field(&mut self) -> Done<Field> {
         self.notes()?;
         let (visibility, name) = (self.visibility()?, self.name()?);
         self.expect(":")?;
         Ok(Field { visibility, name, annotation: self.type_()? })
     }
 
-    fn enum_(&mut self) -> Result<ItemKind, Fault> {
+    fn enum_(&mut self) -> Done<ItemKind> {
         self.expect("{")?;
         let variants = self.list("}", |parser| {
             parser.notes()?;
@@ -288,7 +288,7 @@ impl Parser<'_> {
     }
 
     // Reads the fields of a variant. A ghost item has no rule here.
-    fn fields(&mut self) -> Result<Vec<Field>, Fault> {
+    fn fields(&mut self) -> Done<Vec<Field>> {
         if self.eat("{") {
             return self.list("}", Self::named_field);
         }
@@ -304,7 +304,7 @@ impl Parser<'_> {
         Ok(fields.unwrap_or_default())
     }
 
-    fn implementation(&mut self) -> Result<ItemKind, Fault> {
+    fn implementation(&mut self) -> Done<ItemKind> {
         let first = self.type_()?;
         let (of, target) = match (first.kind, self.after("for", Self::type_)?) {
             (TypeKind::Path(of), Some(target)) => (Some(of), target),
@@ -315,7 +315,7 @@ impl Parser<'_> {
         Ok(ItemKind::Implementation { of, target, members })
     }
 
-    fn function(&mut self) -> Result<Function, Fault> {
+    fn function(&mut self) -> Done<Function> {
         self.expect("(")?;
         let mut is_first = true;
         let parameters = self.list(")", |parser| {
@@ -335,7 +335,7 @@ impl Parser<'_> {
     }
 
     // Reads `self`, `mut self`, `&self` or `&mut self`, if one comes next.
-    fn receiver(&mut self) -> Result<Option<Parameter>, Fault> {
+    fn receiver(&mut self) -> Done<Option<Parameter>> {
         let after_sign = usize::from(self.is("&"));
         let after_mut = after_sign + usize::from(self.is_ahead(after_sign, "mut"));
         if !self.is_ahead(after_mut, "self") {
@@ -353,7 +353,7 @@ impl Parser<'_> {
     }
 
     // Reads the clauses of a contract.
-    fn clauses(&mut self) -> Result<Vec<Clause>, Fault> {
+    fn clauses(&mut self) -> Done<Vec<Clause>> {
         let mut clauses = Vec::new();
         while self.is_one_of(&["requires", "ensures"]) {
             let (is_condition, start) = (self.is("requires"), self.step());
@@ -367,7 +367,7 @@ impl Parser<'_> {
     }
 
     // Reads a clause, and returns what is between its braces.
-    fn clause_text(&mut self) -> Result<Span, Fault> {
+    fn clause_text(&mut self) -> Done<Span> {
         if self.kind() != Kind::Clause {
             return self.refuse("a clause");
         }
@@ -377,7 +377,7 @@ impl Parser<'_> {
 
     // Reads what follows `ghost`. A trait declares such items, an `impl` defines them, and a module only imports
     // definitions.
-    fn ghost(&mut self, place: Place, item: &mut Item) -> Result<(), Fault> {
+    fn ghost(&mut self, place: Place, item: &mut Item) -> Done<()> {
         if self.ahead(1).kind == Kind::GhostPath {
             self.step();
             item.kind = self.ghost_import()?;
@@ -394,14 +394,14 @@ impl Parser<'_> {
     }
 
     // Reads `NAME: {..}`.
-    fn ghost_declaration(&mut self) -> Result<(), Fault> {
+    fn ghost_declaration(&mut self) -> Done<()> {
         self.step();
         self.expect(":")?;
         self.clause_text().map(|_| ())
     }
 
     // Reads `MODULE.{NAMES}`. A path without braces and `as` have no rule: each name must be seen.
-    fn ghost_import(&mut self) -> Result<ItemKind, Fault> {
+    fn ghost_import(&mut self) -> Done<ItemKind> {
         let path = self.text().trim().strip_suffix('}').and_then(|path| path.split_once(".{"));
         let (module, names) = path.unwrap_or_default();
         let names: Vec<String> = names.split(',').map(|name| name.trim().to_string()).collect();

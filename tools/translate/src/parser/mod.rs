@@ -7,7 +7,7 @@ mod types;
 pub use items::WRITER;
 
 use crate::lexer::{Kind, Language, Token, lex};
-use crate::source::{Fault, Source, Span};
+use crate::source::{Done, Source, Span};
 use crate::tree::{Name, Tree};
 
 // Words that are no names: those of Rust, also for later use, and those of Rattle.
@@ -21,7 +21,7 @@ const KEYWORDS: &[&str] = &[
 ];
 
 /// Reads the tree of a proved source.
-pub fn parse(source: &Source) -> Result<Tree, Fault> {
+pub fn parse(source: &Source) -> Done<Tree> {
     Parser::new(source, lex(source, Language::Rattle)?).tree()
 }
 
@@ -103,13 +103,13 @@ impl<'a> Parser<'a> {
     }
 
     /// Steps over a keyword or symbol, which must come next.
-    pub fn expect(&mut self, text: &str) -> Result<Span, Fault> {
+    pub fn expect(&mut self, text: &str) -> Done<Span> {
         let span = self.span();
         if self.eat(text) { Ok(span) } else { self.refuse(&format!("`{text}`")) }
     }
 
     /// Refuses the next token, in whose place there should be something else.
-    pub fn refuse<T>(&self, expected: &str) -> Result<T, Fault> {
+    pub fn refuse<T>(&self, expected: &str) -> Done<T> {
         let found = match self.kind() {
             Kind::End => "the end of the file".into(),
             _ => format!("`{}`", self.text().lines().next().unwrap_or_default()),
@@ -118,7 +118,7 @@ impl<'a> Parser<'a> {
     }
 
     // Refuses a form.
-    fn refuse_form<T>(&self, span: Span, form: &str) -> Result<T, Fault> {
+    fn refuse_form<T>(&self, span: Span, form: &str) -> Done<T> {
         Err(self.source.fault(span, format!("{form} is not known here")))
     }
 
@@ -133,7 +133,7 @@ impl<'a> Parser<'a> {
     }
 
     /// Reads a name that is no keyword.
-    pub fn name(&mut self) -> Result<Name, Fault> {
+    pub fn name(&mut self) -> Done<Name> {
         if self.is_name() { Ok(self.word()) } else { self.refuse("a name") }
     }
 
@@ -158,20 +158,12 @@ impl<'a> Parser<'a> {
     }
 
     // Reads something if a keyword or symbol comes next, which is before it.
-    fn after<T>(
-        &mut self,
-        text: &str,
-        read: impl FnOnce(&mut Self) -> Result<T, Fault>,
-    ) -> Result<Option<T>, Fault> {
+    fn after<T>(&mut self, text: &str, read: impl FnOnce(&mut Self) -> Done<T>) -> Done<Option<T>> {
         if self.eat(text) { read(self).map(Some) } else { Ok(None) }
     }
 
     // Reads what has commas between it, up to a sign.
-    fn list<T>(
-        &mut self,
-        end: &str,
-        mut item: impl FnMut(&mut Self) -> Result<T, Fault>,
-    ) -> Result<Vec<T>, Fault> {
+    fn list<T>(&mut self, end: &str, mut item: impl FnMut(&mut Self) -> Done<T>) -> Done<Vec<T>> {
         let mut items = Vec::new();
         while !self.eat_sign(end) {
             items.push(item(self)?);

@@ -2,7 +2,7 @@
 
 use super::{Parser, is_capital};
 use crate::lexer::Kind;
-use crate::source::Fault;
+use crate::source::Done;
 use crate::std_names::INTEGERS;
 use crate::tree::{
     GenericArgument, GenericKind, GenericParameter, Literal, LiteralKind, Name, Path, Pattern,
@@ -11,7 +11,7 @@ use crate::tree::{
 
 impl Parser<'_> {
     // Reads a type. Pointers, functions and objects have no rule.
-    pub(super) fn type_(&mut self) -> Result<Type, Fault> {
+    pub(super) fn type_(&mut self) -> Done<Type> {
         let start = self.span();
         let kind = if self.eat_sign("&") {
             self.lifetime();
@@ -40,7 +40,7 @@ impl Parser<'_> {
     }
 
     // Reads a path. Generic arguments stand directly behind a name of a type, and else behind `::`.
-    pub(super) fn path(&mut self, is_type: bool) -> Result<Path, Fault> {
+    pub(super) fn path(&mut self, is_type: bool) -> Done<Path> {
         let (start, mut segments) = (self.span(), Vec::new());
         loop {
             let name = self.segment_name(segments.is_empty())?;
@@ -61,13 +61,13 @@ impl Parser<'_> {
     }
 
     // Reads a name of a path. Only the first may be a keyword.
-    pub(super) fn segment_name(&mut self, is_first: bool) -> Result<Name, Fault> {
+    pub(super) fn segment_name(&mut self, is_first: bool) -> Done<Name> {
         let is_head = is_first && self.is_one_of(&["crate", "self", "Self"]);
         if is_head { Ok(self.word()) } else { self.name() }
     }
 
     // Reads the arguments behind `<`. Blocks have no rule.
-    pub(super) fn generic_arguments(&mut self) -> Result<Vec<GenericArgument>, Fault> {
+    pub(super) fn generic_arguments(&mut self) -> Done<Vec<GenericArgument>> {
         let arguments = self.list(">", |parser| {
             let is_literal = parser.is_one_of(&["true", "false"]) || parser.kind() == Kind::Integer;
             Ok(if parser.lifetime() {
@@ -82,7 +82,7 @@ impl Parser<'_> {
     }
 
     // Reads the parameters between `<` and `>`, if there are some. Defaults have no rule.
-    pub(super) fn generics(&mut self) -> Result<Vec<GenericParameter>, Fault> {
+    pub(super) fn generics(&mut self) -> Done<Vec<GenericParameter>> {
         let parameters = self.after("<", |parser| {
             parser.list(">", |parser| {
                 if parser.lifetime() {
@@ -103,7 +103,7 @@ impl Parser<'_> {
     }
 
     // Reads bounds with `+` between them. `where` and lifetimes have no rule.
-    pub(super) fn bounds(&mut self) -> Result<Vec<Path>, Fault> {
+    pub(super) fn bounds(&mut self) -> Done<Vec<Path>> {
         let mut bounds = vec![self.path(true)?];
         while self.eat("+") {
             bounds.push(self.path(true)?);
@@ -112,7 +112,7 @@ impl Parser<'_> {
     }
 
     // Reads patterns with `|` between them, or one.
-    pub(super) fn pattern(&mut self) -> Result<Pattern, Fault> {
+    pub(super) fn pattern(&mut self) -> Done<Pattern> {
         let (start, first) = (self.span(), self.single_pattern()?);
         if !self.is("|") {
             return Ok(first);
@@ -125,7 +125,7 @@ impl Parser<'_> {
     }
 
     // Reads a pattern without `|`.
-    pub(super) fn single_pattern(&mut self) -> Result<Pattern, Fault> {
+    pub(super) fn single_pattern(&mut self) -> Done<Pattern> {
         let start = self.span();
         // Checks refuse constants with small names.
         let is_binding = self.is_name() && !is_capital(self.text()) && !self.is_ahead(1, "::");
@@ -156,12 +156,12 @@ impl Parser<'_> {
     }
 
     // Reads what is in a tuple, a slice or a variant: a pattern or `..`.
-    fn element_pattern(&mut self) -> Result<Pattern, Fault> {
+    fn element_pattern(&mut self) -> Done<Pattern> {
         let span = self.span();
         if self.eat("..") { Ok(Pattern { span, kind: PatternKind::Rest }) } else { self.pattern() }
     }
 
-    fn path_pattern(&mut self) -> Result<PatternKind, Fault> {
+    fn path_pattern(&mut self) -> Done<PatternKind> {
         let path = self.path(false)?;
         if !self.eat("{") {
             let fields = self.after("(", |parser| parser.list(")", Self::element_pattern))?;
@@ -179,9 +179,9 @@ impl Parser<'_> {
     // Reads `NAME: VALUE` or `NAME`, with commas between, up to `..` or `}`.
     pub(super) fn fields_of<T>(
         &mut self,
-        value: impl Fn(&mut Self) -> Result<T, Fault>,
+        value: impl Fn(&mut Self) -> Done<T>,
         plain: impl Fn(&Name) -> T,
-    ) -> Result<Vec<(Name, T)>, Fault> {
+    ) -> Done<Vec<(Name, T)>> {
         let mut fields = Vec::new();
         while !self.is_one_of(&["..", "}"]) {
             let name = self.name()?;
@@ -200,7 +200,7 @@ impl Parser<'_> {
         kinds.contains(&self.kind()) || self.is_one_of(&["true", "false"])
     }
 
-    pub(super) fn literal(&mut self) -> Result<Literal, Fault> {
+    pub(super) fn literal(&mut self) -> Done<Literal> {
         let text = self.text();
         let kind = match self.kind() {
             Kind::Integer => integer(text),
