@@ -236,7 +236,6 @@ pub enum PatternKind {
     Literal(Literal),
     // `LOW..=HIGH`.
     Range { low: Literal, high: Literal },
-    Reference(Box<Pattern>),
     Tuple(Vec<Pattern>),
     Slice(Vec<Pattern>),
     // A variant, or a constant without fields.

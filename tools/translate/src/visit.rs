@@ -139,7 +139,6 @@ impl<'a> Parts<'a> {
                 self.0.push(Part::Local(name));
                 self.patterns(pattern.as_deref());
             }
-            PatternKind::Reference(part) => self.pattern(part),
             PatternKind::Tuple(parts) | PatternKind::Slice(parts) | PatternKind::Either(parts) => {
                 self.patterns(parts);
             }

@@ -80,6 +80,7 @@ pub fn shown(text: &str) -> String {
         ("<LRM>", "\u{200E}"),
         ("<RLO>", "\u{202E}"),
         ("<BOM>", "\u{FEFF}"),
+        ("<TAB>", "\t"),
     ];
     signs.iter().fold(text.to_string(), |text, (sign, character)| text.replace(sign, character))
 }

@@ -76,7 +76,7 @@ pub enum Statement {
     Evaluate(Term),
     If { condition: Term, then: Vec<Statement>, otherwise: Vec<Statement> },
     While { condition: Term, body: Vec<Statement> },
-    Return(Option<Term>),
+    Return(Term),
     Break,
     Continue,
 }
@@ -208,7 +208,7 @@ impl Type {
 pub fn each_term(body: &mut [Statement], call: &mut dyn FnMut(&mut Term) -> Done<()>) -> Done<()> {
     body.iter_mut().try_for_each(|statement| match statement {
         Statement::Declare { value: Some(value), .. }
-        | Statement::Return(Some(value))
+        | Statement::Return(value)
         | Statement::Evaluate(value) => call(value),
         Statement::Assign { place, value } => call(place).and_then(|()| call(value)),
         Statement::If { condition, then, otherwise } => {

@@ -48,14 +48,11 @@ pub fn print(body: &mut Body, operation: Operation, terms: &[Term], term: &Term)
     let joined = body.texts(terms)?.join(", ");
     let name = match (operation, own) {
         (Operation::Not, None) => return Ok(Text::new(format!("!{first}"), UNARY)),
-        (Operation::Not, Some(own)) if own.bits == 128 => format!("tk_{}_not", integer_name(own)),
         (Operation::Negate, Some(own)) if own.bits == 128 => {
             format!("tk_{}_negate", integer_name(own))
         }
-        (Operation::Not | Operation::Negate, Some(own)) => {
-            let sign = if operation == Operation::Not { "~" } else { "-" };
-            let text = Text::new(format!("{sign}{first}"), UNARY);
-            return Ok(if own.bits < 32 { cast_text(own, &text) } else { text });
+        (Operation::Negate, Some(own)) if own.bits >= 32 => {
+            return Ok(Text::new(format!("-{first}"), UNARY));
         }
         (Operation::TrailingZeros, Some(Integer { bits: bits @ (32 | 64), .. })) => {
             format!("tk_trailing_zeros_{bits}")
@@ -267,9 +264,6 @@ fn helper(printer: &mut Printer, operation: Operation, integer: Integer) -> Opti
         }
         Operation::SumFits => ("sum_fits", "bool", format!("!({})", less(&sum, "a"))),
         Operation::ProductFits if is_wide => return Some("tk_u128_product_fits".into()),
-        Operation::ProductFits => {
-            ("product_fits", "bool", format!("b == 0 || a <= {greatest} / b"))
-        }
         _ => return None,
     };
     let name = format!("tk_{name}_{kind}");

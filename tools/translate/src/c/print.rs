@@ -213,8 +213,7 @@ impl Body<'_, '_> {
                 self.inner(body)?;
                 self.line("}");
             }
-            Statement::Return(Some(term)) => self.with_term("return ", term, ";")?,
-            Statement::Return(None) => self.line("return;"),
+            Statement::Return(term) => self.with_term("return ", term, ";")?,
             Statement::Break => self.line("break;"),
             Statement::Continue => self.line("continue;"),
         }

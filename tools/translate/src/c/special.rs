@@ -323,12 +323,6 @@ fn fold(term: &mut Term) {
             let numbers = number(&terms[0]).zip(number(&terms[1]));
             numbers.and_then(|(left, right)| compared(*operator, left, right))
         }
-        TermKind::Choice(terms) => {
-            if let Some(value) = boolean(&terms[0]) {
-                *term = terms[if value { 1 } else { 2 }].clone();
-            }
-            return;
-        }
         _ => None,
     };
     if let Some(value) = known {

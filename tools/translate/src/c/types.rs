@@ -72,7 +72,6 @@ impl<'a> Types<'a> {
         Ok(match of {
             Type::Integer(integer) => integer_type(*integer),
             Type::Boolean => "bool".into(),
-            Type::Tuple(parts) if parts.is_empty() => "void".into(),
             Type::Array { element, .. } => format!("const {} *", self.name(element)?),
             Type::Pointer(target) => match &**target {
                 Type::Array { element, .. } => format!("{} *", self.name(element)?),
@@ -265,17 +264,15 @@ pub fn declared(of: &str, name: &str) -> String {
 
 pub fn integer_name(integer: Integer) -> String {
     match (integer.is_size, integer.is_signed) {
-        (true, false) => "size".into(),
-        (true, true) => "ptrdiff".into(),
-        (false, false) => format!("u{}", integer.bits),
-        (false, true) => format!("i{}", integer.bits),
+        (true, _) => "size".into(),
+        (_, false) => format!("u{}", integer.bits),
+        (_, true) => format!("i{}", integer.bits),
     }
 }
 
 pub fn integer_type(integer: Integer) -> String {
     match integer {
-        Integer { is_size: true, is_signed: false, .. } => "size_t".into(),
-        Integer { is_size: true, .. } => "ptrdiff_t".into(),
+        Integer { is_size: true, .. } => "size_t".into(),
         Integer { bits: 128, .. } => format!("tk_{}", integer_name(integer)),
         Integer { bits, is_signed: true, .. } => format!("int{bits}_t"),
         Integer { bits, .. } => format!("uint{bits}_t"),

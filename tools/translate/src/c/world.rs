@@ -373,14 +373,13 @@ fn position(item: &Item, name: &str) -> Option<usize> {
 /// Returns a type of integers by its name.
 pub fn integer(name: &str) -> Option<Type> {
     let (is_signed, bits) = (name.starts_with('i'), name.get(1..)?);
-    let is_size = bits == "size";
     let bits = match bits {
         "8" | "16" | "32" | "64" | "128" => bits.parse().ok()?,
-        "size" => 64,
+        _ if name == "usize" => return Some(Type::SIZE),
         _ => return None,
     };
     let is_known = is_signed || name.starts_with('u');
-    is_known.then_some(Type::Integer(Integer { bits, is_signed, is_size }))
+    is_known.then_some(Type::Integer(Integer { bits, is_signed, is_size: false }))
 }
 
 fn foreign_type(name: &str, arguments: &mut Vec<Type>) -> Option<Type> {

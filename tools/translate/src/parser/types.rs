@@ -131,8 +131,6 @@ impl Parser<'_> {
         let is_binding = self.is_name() && !is_capital(self.text()) && !self.is_ahead(1, "::");
         let kind = if self.eat("_") {
             PatternKind::Wildcard
-        } else if self.eat_sign("&") {
-            PatternKind::Reference(Box::new(self.single_pattern()?))
         } else if self.eat("(") {
             PatternKind::Tuple(self.list(")", Self::element_pattern)?)
         } else if self.eat("[") {

@@ -92,14 +92,6 @@ impl Lowering<'_> {
                 self.unify(element, other)?;
                 Operation::OfArray
             }
-            (
-                Type::Slice { element, is_mutable: true },
-                _,
-                Type::Slice { element: other, is_mutable: false },
-            ) => {
-                self.unify(element, other)?;
-                Operation::Shared
-            }
             (Type::Pointer(_), target, other)
                 if !matches!(other, Type::Pointer(_) | Type::Variable(_)) =>
             {

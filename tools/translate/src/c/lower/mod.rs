@@ -51,7 +51,6 @@ type Wanted<'t> = Option<&'t Type>;
 #[derive(Clone, Copy, Debug)]
 enum Target {
     Return,
-    Local(usize),
     Nothing,
 }
 
@@ -69,6 +68,9 @@ pub fn function(world: &World, id: Id) -> Done<Function> {
         return lowering.refuse("no function with a body");
     };
     let (types, result) = signature(world, id)?;
+    if result == Type::UNIT {
+        return lowering.refuse("a function without a result");
+    }
     lowering.result = result;
     let mut parameters = Vec::new();
     for generic in &world.item(id).generics {
@@ -81,9 +83,6 @@ pub fn function(world: &World, id: Id) -> Done<Function> {
         parameters.push(lowering.bind(&parameter.name.text, of, parameter.is_mutable));
     }
     lowering.block(body, Target::Return)?;
-    if let Some(Statement::Return(None)) = lowering.statements.last() {
-        lowering.statements.pop();
-    }
     lowering.finish(id, parameters)
 }
 
@@ -96,7 +95,7 @@ pub fn constant(world: &World, id: Id) -> Done<Term> {
     lowering.result = world.type_in(&lowering.place, annotation)?;
     lowering.to(value, Target::Return)?;
     match lowering.finish(id, Vec::new())?.body.as_slice() {
-        [Statement::Return(Some(term))] => Ok(term.clone()),
+        [Statement::Return(term)] => Ok(term.clone()),
         _ => Err(world.fault(id, value.span, "C: statements in a constant")),
     }
 }
@@ -258,9 +257,7 @@ impl<'a> Lowering<'a> {
             }
             ExpressionKind::Match { value, arms } => self.match_to(value, arms, target)?,
             ExpressionKind::Return(Some(value)) => self.to(value, Target::Return)?,
-            ExpressionKind::Return(None) => {
-                self.finish_value(Value::Tuple(Vec::new()), Target::Return)?;
-            }
+            ExpressionKind::Return(None) => return self.refuse("a `return` without a value"),
             ExpressionKind::Break => self.push(Statement::Break),
             ExpressionKind::While { condition, body } => {
                 let condition = self.alone("the condition of a loop", |it| {
@@ -283,12 +280,9 @@ impl<'a> Lowering<'a> {
                 self.assign(*operator, place, value)?;
             }
             _ => {
-                let wanted = match target {
-                    Target::Return => Some(self.result.clone()),
-                    Target::Local(local) => Some(self.locals[local].of.clone()),
-                    Target::Nothing => None,
-                };
-                let value = self.value(expression, wanted.as_ref())?;
+                let result = self.result.clone();
+                let wanted = matches!(target, Target::Return).then_some(&result);
+                let value = self.value(expression, wanted)?;
                 self.finish_value(value, target)?;
             }
         }
@@ -296,28 +290,13 @@ impl<'a> Lowering<'a> {
     }
 
     fn finish_value(&mut self, value: Value, target: Target) -> Done<()> {
-        let is_unit = matches!(&value, Value::Tuple(parts) if parts.is_empty());
         match (value, target) {
             (Value::Never, _) => {}
-            (_, Target::Nothing) if is_unit => {}
-            (_, Target::Return) if is_unit && self.result == Type::UNIT => {
-                self.push(Statement::Return(None));
-            }
+            (Value::Tuple(parts), Target::Nothing) if parts.is_empty() => {}
             (value, Target::Return) => {
                 let term = self.whole(value)?;
                 let term = self.coerce(term, &self.result.clone())?;
-                if self.result == Type::UNIT {
-                    self.push(Statement::Evaluate(term));
-                    self.push(Statement::Return(None));
-                } else {
-                    self.push(Statement::Return(Some(term)));
-                }
-            }
-            (value, Target::Local(local)) => {
-                let place = self.local(local);
-                let term = self.whole(value)?;
-                let value = self.coerce(term, &place.of)?;
-                self.push(Statement::Assign { place, value });
+                self.push(Statement::Return(term));
             }
             (value, Target::Nothing) => {
                 let term = self.whole(value)?;

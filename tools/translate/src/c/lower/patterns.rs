@@ -5,7 +5,7 @@ use crate::c::ir::{Id, Operation, Shape, Statement, Term, TermKind, Type};
 use crate::c::world::ERROR_KINDS;
 use crate::resolve::{Definition, Namespace};
 use crate::tree::{
-    Arm, BinaryOperator, Block, Expression, Literal, LiteralKind, Name, Path, Pattern, PatternKind,
+    Arm, BinaryOperator, Block, Expression, Literal, LiteralKind, Path, Pattern, PatternKind,
 };
 
 /// A name of a pattern, with the part that it stands for.
@@ -34,7 +34,6 @@ impl Lowering<'_> {
                 bindings.push(Binding { name, is_mutable: *is_mutable, value });
                 Ok((tests, bindings))
             }
-            PatternKind::Reference(inner) => self.matched(inner, value),
             PatternKind::Literal(literal) => {
                 let term = self.whole(value.clone())?;
                 Ok((vec![self.equals(term, literal)?], Vec::new()))
@@ -46,7 +45,7 @@ impl Lowering<'_> {
             PatternKind::Tuple(patterns) => self.matched_tuple(patterns, value),
             PatternKind::Slice(patterns) => self.matched_slice(patterns, value),
             PatternKind::Variant { path, fields } => self.matched_variant(path, fields, value),
-            PatternKind::Struct { path, fields } => self.matched_struct(path, fields, value),
+            PatternKind::Struct { .. } => self.refuse("this pattern has no rule"),
             PatternKind::Either(patterns) => self.matched_either(patterns, value),
         }
     }
@@ -219,23 +218,6 @@ impl Lowering<'_> {
 
     pub fn is(&self, term: Term, shape: Shape) -> Term {
         self.make(TermKind::Is(Box::new(term), shape), Type::Boolean)
-    }
-
-    fn matched_struct(
-        &mut self,
-        path: &Path,
-        patterns: &[(Name, Pattern)],
-        value: &Value,
-    ) -> Done<Matched> {
-        let (of, shape) = self.made_type(path)?;
-        let (tests, parts) = self.parts(&of, shape, value)?;
-        let mut pairs = Vec::new();
-        for (name, pattern) in patterns {
-            let part = parts.iter().find(|(own, _)| *own == name.text);
-            let Some((_, part)) = part else { return self.refuse("no such field") };
-            pairs.push((pattern, part.clone()));
-        }
-        self.matched_all(tests, pairs.into_iter())
     }
 
     // Each alternative may bind the same names to other parts.
@@ -438,11 +420,15 @@ impl Lowering<'_> {
         for branch in &mut branches {
             let parts = match std::mem::replace(&mut branch.value, Value::Never) {
                 Value::Tuple(parts) if is_tuple => parts,
+                Value::Never => Vec::new(),
                 value => vec![value],
             };
             std::mem::swap(&mut self.statements, &mut branch.statements);
             for (part, local) in parts.into_iter().zip(&places) {
-                self.finish_value(part, Target::Local(*local))?;
+                let place = self.local(*local);
+                let term = self.whole(part)?;
+                let value = self.coerce(term, &place.of)?;
+                self.push(Statement::Assign { place, value });
             }
             std::mem::swap(&mut self.statements, &mut branch.statements);
         }

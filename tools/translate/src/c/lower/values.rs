@@ -71,10 +71,6 @@ impl Lowering<'_> {
             ExpressionKind::If { condition, then, otherwise: Some(otherwise) } => {
                 return self.if_value(condition, then, otherwise, wanted);
             }
-            ExpressionKind::If { .. } => {
-                self.to(expression, Target::Nothing)?;
-                return Ok(Value::Tuple(Vec::new()));
-            }
             ExpressionKind::Match { value, arms } => return self.match_value(value, arms, wanted),
             ExpressionKind::Block(block) => {
                 self.scopes.push(Default::default());
@@ -362,7 +358,6 @@ impl Lowering<'_> {
     /// Returns a part of a slice, from an offset or its start to another or its end.
     pub fn part(&mut self, slice: Term, low: Option<Term>, high: Option<Term>) -> Done<Term> {
         let slice = match self.known(&slice.of) {
-            Type::Array { element, .. } => self.coerce(slice, &Type::slice(*element, false))?,
             Type::Slice { .. } => slice,
             _ => return self.refuse("a part of what is no slice"),
         };
@@ -407,7 +402,7 @@ impl Lowering<'_> {
             (None, _) => return self.refuse("`?` of an option in another function"),
             _ => return self.refuse("`?` of a result in another function"),
         };
-        self.push_if(leaves, vec![Statement::Return(Some(back))], Vec::new());
+        self.push_if(leaves, vec![Statement::Return(back)], Vec::new());
         Ok(value)
     }
 
