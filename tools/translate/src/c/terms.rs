@@ -77,11 +77,7 @@ pub fn print(body: &mut Body, term: &Term) -> Done<Text> {
             let [test, then] = [&texts[0], &texts[1]].map(|it| it.at(OR));
             Text::new(format!("{test} ? {then} : {}", texts[2].at(CHOICE)), CHOICE)
         }
-        TermKind::Address(inner) => match (&inner.kind, &inner.of) {
-            (TermKind::Follow(pointer), _) => print(body, pointer)?,
-            (_, Type::Array { .. }) => print(body, inner)?,
-            _ => Text::new(format!("&{}", print(body, inner)?.at(UNARY)), UNARY),
-        },
+        TermKind::Address(inner) => Text::new(format!("&{}", print(body, inner)?.at(UNARY)), UNARY),
         TermKind::Follow(inner) => match &inner.of {
             Type::Pointer(target) if matches!(**target, Type::Array { .. }) => print(body, inner)?,
             _ => Text::new(format!("*{}", print(body, inner)?.at(UNARY)), UNARY),
@@ -112,7 +108,6 @@ fn number(value: u128, hexadecimal: usize, of: &Type) -> Option<Text> {
         _ if value <= 0x7FFF_FFFF => digits,
         32 if !integer.is_signed => format!("{digits}u"),
         64 if !integer.is_signed => format!("UINT64_C({digits})"),
-        64 if value <= u128::MAX >> 65 => format!("INT64_C({digits})"),
         _ => return None,
     }))
 }
@@ -121,9 +116,7 @@ fn character(byte: u8) -> Text {
     Text::atom(match byte {
         b'\n' => "'\\n'".into(),
         b'\r' => "'\\r'".into(),
-        b'\t' => "'\\t'".into(),
-        b'\'' | b'\\' => format!("'\\{}'", char::from(byte)),
-        b' '..=b'~' => format!("'{}'", char::from(byte)),
+        b' '..=b'~' if !b"'\\".contains(&byte) => format!("'{}'", char::from(byte)),
         _ => byte.to_string(),
     })
 }

@@ -39,8 +39,6 @@ impl<'a> Types<'a> {
             Type::Slice { element, is_mutable } => {
                 format!("{}_{}", if *is_mutable { "room" } else { "slice" }, self.short(element))
             }
-            Type::Array { .. } => "chunk".into(),
-            Type::Pointer(target) => format!("at_{}", self.short(target)),
             Type::Option(value) => format!("option_{}", self.short(value)),
             Type::Result(value, error) => match (self.short(value), self.short(error).as_str()) {
                 (value, "error") => format!("result_{value}"),
@@ -61,9 +59,7 @@ impl<'a> Types<'a> {
                 name + &arguments.collect::<String>()
             }
             Type::ErrorKind => "int_error_kind".into(),
-            Type::Marker | Type::Merged => "nothing".into(),
-            Type::Parameter(name) => text::snake(name),
-            Type::Variable(_) => "unknown".into(),
+            _ => "unknown".into(),
         }
     }
 

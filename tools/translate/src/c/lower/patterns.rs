@@ -108,7 +108,6 @@ impl Lowering<'_> {
         let rest = patterns.iter().position(is_rest);
         let fixed = self.size((patterns.len() - usize::from(rest.is_some())) as u128);
         let tests = match rest {
-            Some(_) if patterns.len() == 1 => Vec::new(),
             Some(_) => vec![self.test(BinaryOperator::GreaterOrEqual, self.length(&slice), fixed)],
             None => vec![self.test(BinaryOperator::Equal, self.length(&slice), fixed)],
         };

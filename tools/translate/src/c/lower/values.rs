@@ -331,13 +331,7 @@ impl Lowering<'_> {
     }
 
     fn field(&mut self, receiver: &Expression, name: &str) -> Done<Value> {
-        let value = self.value(receiver, None)?;
-        let missing = || self.fault("no such field");
-        if let Value::Tuple(parts) = &value {
-            let number = name.parse::<usize>().map_err(|_| missing())?;
-            return parts.get(number).cloned().ok_or_else(missing);
-        }
-        let term = self.whole(value)?;
+        let term = self.term(receiver, None)?;
         let fields = self.fields_in(&self.followed(term), Shape::Plain)?;
         let field = fields.into_iter().find(|(own, _)| own == name);
         field.map(|(_, value)| value).ok_or_else(|| self.fault("no such field"))
