@@ -60,12 +60,7 @@ impl Lowering<'_> {
                 self.element(terms.remove(0), at, false)?
             }
             ExpressionKind::Part { receiver, low, high } => {
-                let ends = low.iter().chain(high).map(|it| (&**it, Some(Type::SIZE)));
-                let operands = std::iter::once((&**receiver, None)).chain(ends);
-                let mut terms = self.operands(operands)?.into_iter();
-                let outer = terms.next().ok_or_else(|| self.fault("no slice"))?;
-                let [low, high] = [low, high].map(|it| it.as_ref().and_then(|_| terms.next()));
-                self.part(outer, low, high)?
+                self.range(receiver, [low.as_deref(), high.as_deref()])?
             }
             ExpressionKind::Try(value) => return self.question(value),
             ExpressionKind::If { condition, then, otherwise: Some(otherwise) } => {
@@ -335,6 +330,16 @@ impl Lowering<'_> {
         let fields = self.fields_in(&self.followed(term), Shape::Plain)?;
         let field = fields.into_iter().find(|(own, _)| own == name);
         field.map(|(_, value)| value).ok_or_else(|| self.fault("no such field"))
+    }
+
+    // Evaluates `RECEIVER[LOW..HIGH]`.
+    fn range(&mut self, receiver: &Expression, ends: [Option<&Expression>; 2]) -> Done<Term> {
+        let offsets = ends.into_iter().flatten().map(|it| (it, Some(Type::SIZE)));
+        let terms = self.operands(std::iter::once((receiver, None)).chain(offsets))?;
+        let mut terms = terms.into_iter();
+        let outer = terms.next().ok_or_else(|| self.fault("no slice"))?;
+        let [low, high] = ends.map(|it| it.and_then(|_| terms.next()));
+        self.part(outer, low, high)
     }
 
     /// Returns the element of a slice or an array, which is there if that was tested.
