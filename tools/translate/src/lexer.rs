@@ -7,17 +7,13 @@ use crate::source::{Done, Source, Span};
 pub enum Kind {
     /// A name or a keyword.
     Name,
-    /// `'a`.
     Lifetime,
     /// A whole number, with its prefix and suffix.
     Integer,
-    /// `b'0'`.
     Byte,
     /// `'0'`, which only Rust has.
     Character,
-    /// `".."`.
     Text,
-    /// `b".."`.
     ByteText,
     /// An operator or a bracket, as long as it can be.
     Symbol,
@@ -29,7 +25,6 @@ pub enum Kind {
     Clause,
     /// What a `ghost use` imports, up to its `;`.
     GhostPath,
-    /// The end of the file.
     End,
 }
 

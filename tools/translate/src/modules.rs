@@ -33,7 +33,9 @@ impl Package {
     pub fn read(top: &Path) -> Done<Package> {
         let mut modules = Vec::new();
         for crate_name in CRATES {
-            for (path, file) in files(top, crate_name)? {
+            let mut files = BTreeMap::new();
+            find(top, &Path::new("crates").join(crate_name).join("src"), &[], &mut files)?;
+            for (path, file) in files {
                 if !engines::is_left_out(crate_name, &path) {
                     let file = engines::twin(crate_name, &path).unwrap_or(file);
                     let source = Source::new(&file, read_text(top, &file)?);
@@ -118,13 +120,6 @@ pub fn names_in(top: &Path, folder: &Path) -> Done<Vec<String>> {
     let mut names: Vec<String> = names.collect();
     names.sort();
     Ok(names)
-}
-
-// Returns the modules of a crate and their files.
-fn files(top: &Path, crate_name: &str) -> Done<BTreeMap<Vec<String>, PathBuf>> {
-    let mut files = BTreeMap::new();
-    find(top, &Path::new("crates").join(crate_name).join("src"), &[], &mut files)?;
-    Ok(files)
 }
 
 // Finds the sources in a folder and in the folders in it: the files with the ending `rt`. Editors and

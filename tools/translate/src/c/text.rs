@@ -31,16 +31,6 @@ pub fn snake(name: &str) -> String {
     made
 }
 
-/// Returns the name of a field of a tuple.
-pub fn ordinal(at: usize) -> String {
-    match at {
-        0 => "first".into(),
-        1 => "second".into(),
-        2 => "third".into(),
-        _ => format!("field_{at}"),
-    }
-}
-
 /// Returns a comment of C with the first paragraph of one of the source.
 pub fn comment(source: &Source, lines: &[Span], indent: &str) -> String {
     let lines = lines.iter().map(|it| source.at(*it).trim_start_matches('/').trim());

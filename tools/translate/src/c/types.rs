@@ -22,6 +22,9 @@ struct Layout {
     shapes: Vec<(Shape, Vec<Option<usize>>)>,
 }
 
+// The names of the fields of tuples.
+const ORDINALS: [&str; 3] = ["first", "second", "third"];
+
 // The names of types that are shorter in C.
 const RENAMED: [(&str, &str); 1] = [("AtoiSimdError", "error")];
 
@@ -147,7 +150,9 @@ impl<'a> Types<'a> {
                 }
                 let number = name.parse::<usize>().ok();
                 let name = match (number, shape) {
-                    (Some(number), Shape::Plain) => text::ordinal(number),
+                    (Some(number), Shape::Plain) => {
+                        ORDINALS.get(number).ok_or_else(|| self.unknown(&of))?.to_string()
+                    }
                     (Some(_), _) => self.short(&of),
                     (None, _) => text::local(&name),
                 };

@@ -6,7 +6,7 @@ use crate::resolve::{Definition, Namespace, Resolved, Scopes};
 use crate::source::{Fault, Source, Span};
 use crate::tree::{
     ExpressionKind, Field, Function, GenericArgument, GenericKind, GenericParameter, Item,
-    ItemKind, Literal, LiteralKind, Path, Segment, Type as TreeType, TypeKind,
+    ItemKind, Literal, LiteralKind, Path, Type as TreeType, TypeKind,
 };
 use std::collections::BTreeMap;
 
@@ -149,15 +149,6 @@ impl<'a> World<'a> {
         }
     }
 
-    /// Returns the types between `<` and `>`.
-    pub fn arguments(&self, place: &Place, segment: &Segment) -> Done<Vec<Type>> {
-        let types = segment.arguments.iter().filter_map(|argument| match argument {
-            GenericArgument::Type(argument) => Some(self.type_in(place, argument)),
-            _ => None,
-        });
-        types.collect()
-    }
-
     fn named_type(&self, place: &Place, path: &Path) -> Done<Type> {
         let source = &self.package.modules[place.module].source;
         let first = &path.segments[0].name.text;
@@ -171,7 +162,11 @@ impl<'a> World<'a> {
         }
         let unknown = || source.fault(path.span, "C: this type has no rule");
         let found = self.resolve(place.module, Namespace::Types, path).ok_or_else(unknown)?;
-        let mut arguments = self.arguments(place, path.last())?;
+        let arguments = path.last().arguments.iter().filter_map(|argument| match argument {
+            GenericArgument::Type(argument) => Some(self.type_in(place, argument)),
+            _ => None,
+        });
+        let mut arguments = arguments.collect::<Done<Vec<Type>>>()?;
         let id = match found.definition {
             Definition::Foreign(name) => {
                 return foreign_type(&name, &mut arguments).ok_or_else(unknown);

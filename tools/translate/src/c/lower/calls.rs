@@ -393,12 +393,10 @@ fn method_of(expression: &Expression) -> Option<&MethodCall> {
 // `u64::MAX` and so on.
 fn limit(of: &Type, name: &str) -> Option<u128> {
     let integer = of.integer()?;
-    let unsigned = u128::MAX >> (128 - integer.bits);
-    match (name, integer.is_signed) {
-        ("MAX", false) => Some(unsigned),
-        ("MAX", true) => Some(unsigned >> 1),
-        ("MIN", false) => Some(0),
-        ("MIN", true) => Some((unsigned >> 1) + 1),
+    let greatest = u128::MAX >> (128 - integer.bits + u32::from(integer.is_signed));
+    match name {
+        "MAX" => Some(greatest),
+        "MIN" => Some(if integer.is_signed { greatest + 1 } else { 0 }),
         _ => None,
     }
 }
