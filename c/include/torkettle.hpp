@@ -178,12 +178,12 @@ inline std::optional<std::pair<T, std::string_view>> json_integer(std::string_vi
 template <class T>
 struct item {
     // The number, which may have leading zeros, and a `+` or, if the type is signed, a `-`.
-    std::optional<T> value;
+    std::optional<T> value{};
     // `std::errc()` for a number. `std::errc::result_out_of_range` if the field begins with a number that is out of
     // range. `std::errc::invalid_argument` for any other field.
     std::errc error = std::errc();
     // The bytes of a field that is not a number, without the separator. Empty for a number.
-    std::string_view text;
+    std::string_view text{};
     // The index of the field, from 0, and the offset at which it begins.
     std::size_t index = 0;
     std::size_t offset = 0;
@@ -246,7 +246,7 @@ public:
 
     private:
         range *items = nullptr;
-        item<T> current;
+        item<T> current{};
     };
 
     // The fields of a text, which must stay as it is, with a separator between them. One more may follow the last. If
