@@ -250,8 +250,58 @@ static void check_long_columns(unsigned long texts)
     }
 }
 
-int main(void)
+/* The next text of so many digits, or false after the last one. */
+static int goes_on(char *digits, size_t count)
 {
+    while (count > 0 && digits[count - 1] == '9')
+        digits[--count] = '0';
+    if (count == 0)
+        return 0;
+    digits[count - 1]++;
+    return 1;
+}
+
+/* Every text of so many digits, with a minus or none before them, and in turn each byte behind them that is no digit. */
+static void check_all_of(size_t count, int has_minus)
+{
+    char text[24];
+    char *digits = text + has_minus;
+    unsigned behind = 0;
+    int64_t expected = 0;
+    memset(text, '7', sizeof text);
+    memset(digits, '0', count);
+    text[0] = has_minus ? '-' : '0';
+    do {
+        int64_t found = -1;
+        uint32_t small = 1;
+        size_t length = 0, small_length = 0;
+        behind = (behind + 1) % 246;
+        digits[count] = (char)(behind < '0' ? behind : behind + 10);
+        check(torkettle_parse_prefix_i64(text, sizeof text, TORKETTLE_SKIP_ZEROES, &found, &length) == TORKETTLE_OK &&
+                  found == (has_minus ? -expected : expected) && length == count + (size_t)has_minus,
+              "a number of i64", text, sizeof text);
+        if (!has_minus)
+            check(torkettle_parse_prefix_u32(text, sizeof text, 0, &small, &small_length) == TORKETTLE_OK &&
+                      small == (uint32_t)expected && small_length == count,
+                  "a number of u32", text, sizeof text);
+        expected++;
+    } while (goes_on(digits, count));
+}
+
+/* Every text of at most so many digits, or of a minus and one less. */
+static void check_all_numbers(size_t most)
+{
+    size_t count;
+    for (count = 1; count <= most; count++)
+        check_all_of(count, 0);
+    for (count = 1; count < most; count++)
+        check_all_of(count, 1);
+}
+
+/* An argument says how many digits the texts have of which all are read. Otherwise, it is 5. */
+int main(int count, char **arguments)
+{
+    check_all_numbers(count > 1 ? (size_t)atoi(arguments[1]) : 5);
     check_short_texts();
     check_longer_texts();
     check_short_columns();
