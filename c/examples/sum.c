@@ -88,12 +88,26 @@ static size_t length_of_lines(const char *text, size_t length)
     return length;
 }
 
-/* Skips what is left of a line that is too long. */
-static void skip_line(struct total *total, FILE *input)
+/* Says whether a text begins with a line that is too long, not counting its end, which is \n or \r\n. */
+static bool begins_with_too_long_a_line(const char *text, size_t length, bool has_ended)
 {
-    int byte = getc(input);
-    while (byte != EOF && byte != '\n')
-        byte = getc(input);
+    const char *end;
+    size_t line = length;
+    if (length <= LONGEST_LINE)
+        return false;
+    end = memchr(text, '\n', length);
+    if (end != NULL)
+        line = (size_t)(end - text);
+    if ((end != NULL || !has_ended) && line > 0 && text[line - 1] == '\r')
+        line--;
+    return line > LONGEST_LINE;
+}
+
+/* Skips a line that is too long, up to its line feed. `last` is the last byte that was read. */
+static void skip_line(struct total *total, int last, FILE *input)
+{
+    while (last != EOF && last != '\n')
+        last = getc(input);
     total->lines++;
     printf("line %zu is skipped: more than %zu bytes\n", total->lines, LONGEST_LINE);
 }
@@ -101,21 +115,23 @@ static void skip_line(struct total *total, FILE *input)
 /* Adds up the lines of a file. The last one may have no line feed. */
 static void add_file(struct total *total, FILE *input)
 {
-    static char text[LONGEST_LINE + 1];
+    static char text[LONGEST_LINE + 2];
     size_t length = 0;
     for (;;) {
-        const size_t room = LONGEST_LINE + 1 - length;
+        const size_t room = sizeof text - length;
         const size_t count = fread(text + length, 1, room < PIECE ? room : PIECE, input);
-        const size_t lines = count > 0 ? length_of_lines(text, length + count) : length;
+        size_t lines;
+        length += count;
+        if (begins_with_too_long_a_line(text, length, count == 0)) {
+            skip_line(total, (unsigned char)text[length - 1], input);
+            length = 0;
+        }
+        lines = count > 0 ? length_of_lines(text, length) : length;
         add_lines(total, text, lines);
         if (count == 0)
             return;
-        length += count - lines;
+        length -= lines;
         memmove(text, text + lines, length);
-        if (length > LONGEST_LINE) {
-            skip_line(total, input);
-            length = 0;
-        }
     }
 }
 
