@@ -73,7 +73,7 @@ pub fn from_ascii<T: Parse>(text: &[u8]) -> Result<T, IntError>
 ///
 /// # Errors
 ///
-/// The [kind](IntError::kind) is `Empty` if `text` is empty or only a sign, so that more input may help. It
+/// The [kind](IntError::kind) is `Empty` if `text` is empty or only a sign that `T` accepts: more input may help. It
 /// is `InvalidDigit` if another byte is where a digit must be, and `PosOverflow` or `NegOverflow` if the
 /// digits are out of range.
 #[inline(always)]
