@@ -2,6 +2,8 @@
 /*
  * Torkettle: decimal integers from text, for C99 and C++11.
  *
+ * SPDX-License-Identifier: MIT
+ *
  *     int64_t value;
  *     if (torkettle_parse_i64(text, length, 0, &value) == TORKETTLE_OK) ...
  *

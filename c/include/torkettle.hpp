@@ -1,3 +1,5 @@
+// SPDX-License-Identifier: MIT
+//
 // Torkettle for C++17: `torkettle::from_chars`, with the results of `std::from_chars`, integers of JSON, and ranges
 // over the numbers of a text. Nothing here throws or allocates, unless `std::from_chars` does.
 //
@@ -50,10 +52,15 @@ struct functions;
         {                                                                                                              \
             return torkettle_next_of_fields_##name(&state);                                                            \
         }                                                                                                              \
+        /* The values may be of `long long` where `int64_t` is `long`, so no access to them moves across the call. */  \
         static std::size_t read(fields &state, void *values, std::size_t count) noexcept                               \
         {                                                                                                              \
             using number = decltype(torkettle_found_##name::value);                                                    \
-            return torkettle_fields_##name##_read(&state, static_cast<number *>(values), count);                       \
+            std::size_t written;                                                                                       \
+            asm volatile("" : : "r"(values) : "memory");                                                               \
+            written = torkettle_fields_##name##_read(&state, static_cast<number *>(values), count);                    \
+            asm volatile("" : : "r"(values) : "memory");                                                               \
+            return written;                                                                                            \
         }                                                                                                              \
     };
 
@@ -200,8 +207,8 @@ class range {
     static_assert(is_integer<T>, "T is an integer type that std::from_chars takes");
 
 public:
-    // An input iterator. It reads on in the range that it was made by, and is equal to `end()` when nothing is left. What
-    // a loop calls is inlined, so that its item stays in registers.
+    // An input iterator. It reads on in the range that it was made by, and is equal to `end()` when nothing is left.
+    // What a loop calls is inlined, so that its item stays in registers.
     class iterator {
     public:
         using iterator_category = std::input_iterator_tag;

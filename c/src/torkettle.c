@@ -1,5 +1,6 @@
 /* Made by .ci/translate from the proved sources and c/interface. Do not edit. */
 /* Torkettle for C99 and C++11: what torkettle.h declares. Compile this file with your program. */
+/* SPDX-License-Identifier: MIT */
 #define TORKETTLE_SOURCE_
 #include "torkettle.h"
 
@@ -8514,8 +8515,8 @@ static tk_error tk_error_again(const torkettle_error *error, tk_bytes text)
     return tk_error_invalid64(error->value_low, error->count, rest);
 }
 
-size_t torkettle_error_text(char *buffer, size_t size, const torkettle_error *error, const char *text, size_t length)
-    TORKETTLE_NOEXCEPT
+size_t torkettle_error_text(char *buffer, size_t size, const torkettle_error *error, const char *text,
+                            size_t length) TORKETTLE_NOEXCEPT
 {
     uint8_t message[400];
     size_t written = 0, at;

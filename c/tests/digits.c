@@ -261,7 +261,8 @@ static int goes_on(char *digits, size_t count)
     return 1;
 }
 
-/* Every text of so many digits, with a minus or none before them, and in turn each byte behind them that is no digit. */
+/* Every text of so many digits, with a minus or none before them, and in turn each byte behind them that is no digit.
+ */
 static void check_all_of(size_t count, int has_minus)
 {
     char text[24];
