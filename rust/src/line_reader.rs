@@ -236,7 +236,8 @@ impl<R: Read> LineReader<R> {
         Ok(Some(Numbers { fields, too_long, text, end, position: &mut self.position }))
     }
 
-    /// Returns the next line. At the end of the input, returns `None`.
+    /// Returns the next line. At the end of the input, which is the first read of no bytes, returns `None`, and does
+    /// not read again. What precedes it is a line even without a line feed.
     ///
     /// ```
     /// use torkettle::column::LineReader;
@@ -308,9 +309,11 @@ impl<R: Read> LineReader<R> {
             *self.forgotten.get_or_insert(0) += self.read;
             self.read = 0;
         } else if self.read == self.text.len() {
-            let room = FIRST_ROOM.max(2 * self.read);
             // The end of a line takes up to two bytes.
-            self.text.resize(room.min(self.longest_line.saturating_add(2)), 0);
+            let room = FIRST_ROOM.max(2 * self.read).min(self.longest_line.saturating_add(2));
+            // `resize` alone might reserve twice as much.
+            self.text.reserve_exact(room - self.text.len());
+            self.text.resize(room, 0);
         }
     }
 
