@@ -3,19 +3,13 @@
 //!
 //! `TORKETTLE_FIELDS` sets how many fields are generated for `read`.
 
-#![allow(dead_code)]
-
-#[path = "../../tools/common/src/random.rs"]
-mod random;
-#[path = "../../tools/compare/src/texts.rs"]
-mod texts;
-
-use random::Random;
 use std::fmt::Debug;
 use std::panic::catch_unwind;
 use std::str::FromStr;
 use torkettle::column::{Column, ColumnError, FieldError, Fields, is_separator};
 use torkettle::{AtoiSimdError, Parse};
+use torkettle_common::random::Random;
+use torkettle_common::texts;
 
 const FIELDS: usize = 1_000_000;
 

@@ -2,19 +2,14 @@
 //!
 //! `TORKETTLE_TEXTS` sets how many texts are generated.
 
-#[path = "../../tools/common/src/random.rs"]
-#[allow(dead_code)]
-mod random;
-#[path = "../../tools/compare/src/texts.rs"]
-mod texts;
-
-use random::Random;
 use std::error::Error;
 use std::fmt::Debug;
 use std::num::IntErrorKind::{self, Empty, InvalidDigit};
 use std::num::ParseIntError;
 use std::str::FromStr;
 use torkettle::{IntError, Parse, from_ascii, from_ascii_prefix};
+use torkettle_common::random::Random;
+use torkettle_common::texts;
 
 // Each is read as one of the twelve types.
 const TEXTS: usize = 2_000_000;

@@ -3,18 +3,12 @@
 //!
 //! `TORKETTLE_TEXTS` sets how many texts are generated. Each of the twelve types is asked about each.
 
-#![allow(dead_code)]
-
-#[path = "../../tools/common/src/random.rs"]
-mod random;
-#[path = "../../tools/compare/src/texts.rs"]
-mod texts;
-
-use random::Random;
 use std::fmt::Debug;
 use std::str::FromStr;
 use torkettle::Parse;
 use torkettle::formats::json_integer;
+use torkettle_common::random::Random;
+use torkettle_common::texts;
 
 const TEXTS: usize = 25_000;
 

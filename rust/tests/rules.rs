@@ -5,25 +5,8 @@
 //! `TORKETTLE_TEXTS` sets how many texts are generated. Every call, type and choice of flags is asked
 //! about each of them.
 
-// The texts, the rules and the calls are those of `tools/compare`, which uses more of them.
-#![allow(dead_code)]
-
-#[path = "../../tools/compare/src/answer.rs"]
-mod answer;
 #[path = "../../tools/compare/exports/ask.rs"]
 mod ask;
-#[path = "../../tools/common/src/integer.rs"]
-mod integer;
-#[path = "../../tools/compare/src/question.rs"]
-mod question;
-#[path = "../../tools/common/src/random.rs"]
-mod random;
-#[path = "../../tools/compare/src/rules.rs"]
-mod rules;
-#[path = "../../tools/compare/src/standard.rs"]
-mod standard;
-#[path = "../../tools/compare/src/texts.rs"]
-mod texts;
 
 mod calls {
     #[cfg(feature = "lanes")]
@@ -32,8 +15,9 @@ mod calls {
     pub use torkettle::*;
 }
 
-use question::Question;
-use random::Random;
+use torkettle_common::question::Question;
+use torkettle_common::random::Random;
+use torkettle_common::{rules, standard, texts};
 
 // With 210 questions about each, these are more than five million results.
 const TEXTS: usize = 25_000;

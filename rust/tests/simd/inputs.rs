@@ -1,8 +1,8 @@
 //! The lanes on which operations are compared: half of them are ends of ranges, and the others are
 //! random.
 
-use crate::random::Random;
 use std::array::from_fn;
+use torkettle_common::random::Random;
 
 const PAIRS: usize = 20_000;
 

@@ -10,8 +10,5 @@ mod by_arrays;
 mod by_core;
 mod by_target;
 mod inputs;
-#[path = "../../../tools/common/src/random.rs"]
-#[allow(dead_code)]
-mod random;
 #[path = "../../src/simd/mod.rs"]
 mod simd;

@@ -1,6 +1,7 @@
-//! What `compare` and `bench` share: how they read arguments, a cache outside the repository, and what
-//! builds the Cargo package and the original there.
+//! What the tools share: how they read arguments, a cache outside the repository, and what builds the Cargo package and
+//! the original there. What `compare` and the package's tests share: random texts, and what each call should answer.
 
+pub mod answer;
 pub mod arguments;
 pub mod cache;
 pub mod cargo;
@@ -10,8 +11,12 @@ pub mod integer;
 pub mod object;
 pub mod original;
 pub mod package;
+pub mod question;
 pub mod random;
+pub mod rules;
 pub mod stamp;
+pub mod standard;
+pub mod texts;
 
 /// One of the two forms in which the library has each function.
 #[derive(Clone, Copy, PartialEq, Eq)]

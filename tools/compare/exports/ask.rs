@@ -1,11 +1,11 @@
 //! Exports a single function, which makes any call of a Rust crate with the interface of the
-//! original. `tools/compare` writes a crate around this file, in which `calls` is the crate or its module
-//! `lanes`. The files `answer` and `question` are its own, and `integer` is from `tools/common`.
+//! original. `tools/compare` and `rust/tests/rules.rs` have it as a module beside `calls`, which is the crate or its
+//! module `lanes`.
 
-use crate::answer::{Answer, RawAnswer};
 use crate::calls::{self, AtoiSimdError, Parse, ParseNeg};
-use crate::integer::{Bits, Integer};
-use crate::question::{Call, Question};
+use torkettle_common::answer::{Answer, RawAnswer};
+use torkettle_common::integer::{Bits, Integer};
+use torkettle_common::question::{Call, Question};
 
 /// Writes to `answer` what one call returns for a text. `call` and `integer` are the numbers of a
 /// `Call` and of an `Integer`. The first argument has no meaning here.

@@ -1,11 +1,11 @@
 //! How the exports are asked.
 
-use crate::answer::{Answer, RawAnswer};
-use crate::question::Question;
 use std::ffi::c_void;
 use std::path::Path;
 use torkettle_common::Form;
+use torkettle_common::answer::{Answer, RawAnswer};
 use torkettle_common::object::Object;
+use torkettle_common::question::Question;
 
 // The order of the arguments is: whether it is a call of `lanes`, the numbers of the call and of
 // the type, both flags, the address and the length of the text, and the answer.

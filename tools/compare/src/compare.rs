@@ -1,15 +1,16 @@
 //! The comparison of the answers of our builds with the rules, with `str::parse`, with the
 //! original, and with each other.
 
-use crate::answer::Answer;
 use crate::answers::Answers;
-use crate::question::Question;
-use crate::random::Random;
-use crate::{original, rules, standard, texts};
+use crate::original;
 use std::collections::BTreeMap;
 use std::fmt;
 use std::time::{Duration, Instant};
 use torkettle_common::Form;
+use torkettle_common::answer::Answer;
+use torkettle_common::question::Question;
+use torkettle_common::random::Random;
+use torkettle_common::{rules, standard, texts};
 
 // The largest number of differences that are printed. All differences are counted.
 const PRINTED: u64 = 20;

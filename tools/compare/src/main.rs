@@ -6,23 +6,16 @@
 //! docs/DIFFERENCES.md does not name, 2 if something that was asked for cannot be done, and 0
 //! otherwise.
 
-mod answer;
 mod answers;
 mod arguments;
 mod compare;
 mod kit;
 mod original;
-mod question;
-mod rules;
 mod sides;
-mod standard;
-mod texts;
 
 use arguments::{Arguments, USAGE};
 use compare::{Counts, Other, Sides};
 use std::process::ExitCode;
-// `rust/tests` compiles some of the modules with modules of these names.
-use torkettle_common::{integer, random};
 
 fn main() -> ExitCode {
     torkettle_common::arguments::run(USAGE, |words| run(&Arguments::read(words)?))

@@ -3,9 +3,9 @@
 //! Two of them show here. The others need a text of more than 4294967295 digits, a debug build, or
 //! vector instructions.
 
-use crate::answer::Answer;
-use crate::question::Question;
-use crate::rules;
+use torkettle_common::answer::Answer;
+use torkettle_common::question::Question;
+use torkettle_common::rules;
 
 /// Whether the crate is compared in its portable configuration. Other processors than x86-64 have
 /// vector instructions that the crate always uses.
@@ -69,10 +69,10 @@ fn expected(question: &Question, text: &[u8]) -> (Answer, &'static str) {
 #[cfg(test)]
 mod tests {
     use super::{Kind, kind_of};
-    use crate::answer::Answer;
-    use crate::integer::Integer;
-    use crate::question::{Call, Question};
-    use crate::rules;
+    use torkettle_common::answer::Answer;
+    use torkettle_common::integer::Integer;
+    use torkettle_common::question::{Call, Question};
+    use torkettle_common::rules;
 
     // How an answer of ours to `parse_prefix::<u8, false, true>(text)` compares with one of theirs.
     fn compared(text: &[u8], ours: Answer, theirs: Answer) -> Kind {

@@ -14,6 +14,7 @@ use torkettle_common::cargo::{Dependency, Generated, Kind};
 use torkettle_common::command::{print_left_out, run};
 use torkettle_common::original;
 use torkettle_common::package::{PACKAGE, Package};
+use torkettle_common::stamp::Stamp;
 
 /// What the kit compiles.
 pub const KIT: &str = "the kit's build";
@@ -74,7 +75,8 @@ fn of_package(arguments: &Arguments, cache: &Cache) -> Result<[Ours; 2], String>
             Form::Words => (dependency.clone(), "use torkettle as calls;\n"),
             Form::Lanes => (dependency.clone().with_feature("lanes"), LANES),
         };
-        let object = generated(dependency, head, kind, &flags).shared_object(cache, "package")?;
+        let object =
+            generated(cache, dependency, head, kind, &flags)?.shared_object(cache, "package")?;
         Ok::<Ours, String>(Ours { build, form, answers: Answers::open(&object)? })
     };
     Ok([open(Form::Words)?, open(Form::Lanes)?])
@@ -90,20 +92,24 @@ const LANES: &str = "mod calls {
 fn of_original(cache: &Cache, dependency: Dependency) -> Result<Answers, String> {
     let flags = if IS_PORTABLE { "-C target-cpu=x86-64" } else { "" };
     let head = "use atoi_simd as calls;\n";
-    let generated = generated(dependency, head, Kind::SharedObject, flags);
+    let generated = generated(cache, dependency, head, Kind::SharedObject, flags)?;
     Answers::open(&generated.shared_object(cache, "original")?)
 }
 
 // A crate that exports the function that makes any call of another crate.
-fn generated(dependency: Dependency, head: &str, kind: Kind, flags: &str) -> Generated {
-    let modules = "mod answer;\nmod ask;\nmod integer;\nmod question;\n";
-    let file = |name, text: &str| (name, text.to_string());
+fn generated(
+    cache: &Cache,
+    dependency: Dependency,
+    head: &str,
+    kind: Kind,
+    flags: &str,
+) -> Result<Generated, String> {
+    let folder = cache.repository().join("tools/common");
+    let contents = Stamp::new().with_folder(&folder)?;
+    let common = Dependency::of_folder("torkettle_common", "torkettle_common", &folder, contents);
     let files = vec![
-        file("lib.rs", &format!("#![allow(dead_code, unused_imports)]\n{head}{modules}")),
-        file("ask.rs", include_str!("../exports/ask.rs")),
-        file("answer.rs", include_str!("answer.rs")),
-        file("integer.rs", include_str!("../../common/src/integer.rs")),
-        file("question.rs", include_str!("question.rs")),
+        ("lib.rs", format!("#![allow(dead_code, unused_imports)]\n{head}mod ask;\n")),
+        ("ask.rs", include_str!("../exports/ask.rs").to_string()),
     ];
-    Generated { kind, dependencies: vec![dependency], files, flags: flags.to_string() }
+    Ok(Generated { kind, dependencies: vec![dependency, common], files, flags: flags.to_string() })
 }
