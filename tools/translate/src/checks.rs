@@ -5,8 +5,7 @@ use crate::parser::is_capital;
 use crate::resolve::{Definition, Namespace, Scopes};
 use crate::source::{Done, Source, Span};
 use crate::std_names::{self, has};
-use crate::tree::{Field, GenericKind, GenericParameter, Import, Item, ItemKind, Name, Path};
-use crate::visit::{self, Part, Role};
+use crate::tree::*;
 use std::collections::BTreeSet;
 
 // Our methods that are called. No type of `std` has a method of such a name.
@@ -22,9 +21,7 @@ pub fn check(package: &Package, scopes: &Scopes) -> Done<()> {
     for (module, found) in package.modules.iter().enumerate() {
         let (source, members, locals) = (&found.source, &members, Vec::new());
         let mut names = Names { scopes, module, source, members, locals };
-        for part in found.tree.items.iter().flat_map(visit::parts) {
-            names.part(part)?;
-        }
+        found.tree.items.iter().try_for_each(|item| names.item(item))?;
     }
     Ok(())
 }
@@ -84,25 +81,37 @@ struct Names<'a> {
 }
 
 impl Names<'_> {
-    fn part(&mut self, part: Part) -> Done<()> {
-        match part {
-            Part::Item(item) => return self.item(item),
-            Part::Path(path, role) if !self.is_known(path, role) => return self.refuse(path.span),
-            Part::Method(name) if !self.is_known_method(&name.text) => {
-                return self.refuse(name.span);
-            }
-            Part::Local(name) if self.hides(&name.text) => return self.refuse(name.span),
-            Part::Local(name) => self.locals.last_mut().into_iter().for_each(|scope| {
-                scope.push(name.text.clone());
-            }),
-            Part::Enter => self.locals.push(Vec::new()),
-            Part::Leave => drop(self.locals.pop()),
-            Part::Path(..) | Part::Method(_) => {}
-        }
+    fn item(&mut self, item: &Item) -> Done<()> {
+        self.declaration(item)?;
+        self.locals.push(Vec::new());
+        item.mentions.iter().try_for_each(|mention| self.mention(mention))?;
+        item.members().iter().try_for_each(|member| self.item(member))?;
+        self.locals.pop();
         Ok(())
     }
 
-    fn item(&self, item: &Item) -> Done<()> {
+    fn mention(&mut self, mention: &Mention) -> Done<()> {
+        match mention {
+            Mention::Path(path, role) if !self.is_known(path, *role) => self.refuse(path.span),
+            Mention::Method(name) if !self.is_known_method(&name.text) => self.refuse(name.span),
+            Mention::Local(name) if self.hides(&name.text) => self.refuse(name.span),
+            Mention::Local(name) => {
+                self.locals.last_mut().into_iter().for_each(|it| it.push(name.text.clone()));
+                Ok(())
+            }
+            Mention::Enter => {
+                self.locals.push(Vec::new());
+                Ok(())
+            }
+            Mention::Leave => {
+                self.locals.pop();
+                Ok(())
+            }
+            Mention::Path(..) | Mention::Method(_) => Ok(()),
+        }
+    }
+
+    fn declaration(&self, item: &Item) -> Done<()> {
         match &item.kind {
             ItemKind::Use(imports) => return imports.iter().try_for_each(|it| self.import(it)),
             ItemKind::Implementation { of, .. } => return self.implementation(of, item),
@@ -169,7 +178,7 @@ impl Names<'_> {
     fn implementation(&self, of: &Option<Path>, item: &Item) -> Done<()> {
         let is_own = |path: &Path| self.is_own_trait(&path.names());
         let is_open = |parameter: &&GenericParameter| match &parameter.kind {
-            GenericKind::Type(bounds) => !bounds.iter().any(is_own),
+            GenericKind::Type(bound) => !bound.as_ref().is_some_and(is_own),
             GenericKind::Constant(_) => false,
         };
         match item.generics.iter().find(is_open) {

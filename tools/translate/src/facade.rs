@@ -2,7 +2,7 @@
 //! no export may be a module, all names of one, or another name of something. What is proved of a trait holds
 //! for our own types alone, so users must not be able to implement one.
 
-use crate::lexer::{Kind, Language, Token, lex};
+use crate::lexer::Kind;
 use crate::modules::CRATES;
 use crate::parser::Parser;
 use crate::resolve::{Definition, Namespace, Scopes};
@@ -28,7 +28,7 @@ pub struct Export {
 /// Reads what the facade exports. It names the proved crates only in `use proved::CRATE::NAME;` and
 /// `use proved::CRATE::{NAME, ..};`, where `crate::` may be in front. Its items are modules and exports.
 pub fn exports(source: &Source) -> Done<Vec<Export>> {
-    let parser = Parser::new(source, lex(source, Language::Rust)?);
+    let parser = Parser::new(source)?;
     let mut facade = Facade { source, parser, exports: Vec::new() };
     facade.items(true)?;
     Ok(facade.exports)
@@ -167,49 +167,53 @@ pub fn check(source: &Source, exports: &[Export], scopes: &Scopes) -> Done<()> {
 fn is_item(definition: &Definition, exports: &[Export], scopes: &Scopes) -> bool {
     match scopes.item(definition).map(|item| &item.kind) {
         Some(ItemKind::Function(_) | ItemKind::Struct { .. } | ItemKind::Enum(_)) => true,
-        Some(ItemKind::Trait { bounds, .. }) => is_sealed(definition, bounds, exports, scopes),
+        Some(ItemKind::Trait { bound: Some(bound), .. }) => {
+            is_sealed(definition, bound, exports, scopes)
+        }
         _ => false,
     }
 }
 
 // Whether users cannot implement a trait: it has a supertrait of ours that is not exported, so that no path of
 // theirs names it.
-fn is_sealed(of: &Definition, bounds: &[Path], exports: &[Export], scopes: &Scopes) -> bool {
+fn is_sealed(of: &Definition, bound: &Path, exports: &[Export], scopes: &Scopes) -> bool {
     let Definition::Item { module, .. } = of else { return false };
-    let is_hidden = |path: &Path| {
-        let Some(found) = scopes.resolve(*module, Namespace::Types, &path.names()) else {
-            return false;
-        };
-        let is_exported = |export: &Export| {
-            let other = scopes.in_root(export.crate_name, Namespace::Types, &export.name.text);
-            other == Some(&found.definition)
-        };
-        scopes.item(&found.definition).is_some() && !exports.iter().any(is_exported)
+    let Some(found) = scopes.resolve(*module, Namespace::Types, &bound.names()) else {
+        return false;
     };
-    bounds.iter().any(is_hidden)
+    let is_exported = |export: &Export| {
+        let other = scopes.in_root(export.crate_name, Namespace::Types, &export.name.text);
+        other == Some(&found.definition)
+    };
+    scopes.item(&found.definition).is_some() && !exports.iter().any(is_exported)
 }
 
-/// Refuses a hand-written file that is not the facade if it names the proved crates: it could export what is
-/// in them, or call it where its conditions do not hold.
+/// Refuses a hand-written file that is not the facade if it names the proved crates: it could export what is in
+/// them, or call it where its conditions do not hold. It is read by words, as no grammar of ours knows all of Rust:
+/// no comment or text can hide one. A file that it takes in must be a file of Rust in the same folder.
 pub fn check_other(source: &Source) -> Done<()> {
-    let tokens = lex(source, Language::Rust)?;
-    check_files(source, &tokens)?;
-    match tokens.iter().find(|token| source.at(token.span) == "proved") {
-        Some(token) => Err(source.fault(token.span, "`proved` outside of the facade")),
-        None => Ok(()),
+    let mut start = 0;
+    for line in source.text.split_inclusive('\n') {
+        let span = Span { start, end: start + line.len() };
+        let is_part = |character: char| character.is_alphanumeric() || character == '_';
+        for word in line.split(|character| !is_part(character)) {
+            match word {
+                "proved" => return Err(source.fault(span, "`proved` outside of the facade")),
+                "include" => return Err(source.fault(span, "a file that is not read here")),
+                "path" if !is_plain_path(line.trim()) => {
+                    return Err(source.fault(span, "a file that is not read here"));
+                }
+                _ => {}
+            }
+        }
+        start = span.end;
     }
+    Ok(())
 }
 
-// Refuses what takes in a file that may not be read here: one in another folder, or of another kind.
-fn check_files(source: &Source, tokens: &[Token]) -> Done<()> {
-    let is_read = |file: &str| file.ends_with(".rs\"") && !file.contains(['/', '\\']);
-    let is_unread = |tokens: &[Token]| match [0, 1, 2].map(|at| source.at(tokens[at].span)) {
-        ["include", "!", _] => true,
-        ["path", "=", file] => !is_read(file) || file.starts_with("\"."),
-        _ => false,
-    };
-    match tokens.windows(3).find(|tokens| is_unread(tokens)) {
-        Some(tokens) => Err(source.fault(tokens[0].span, "a file that is not read here")),
-        None => Ok(()),
-    }
+// Whether a line is `#[path = "NAME.rs"]`.
+fn is_plain_path(line: &str) -> bool {
+    let name = line.strip_prefix("#[path = \"").and_then(|rest| rest.strip_suffix(".rs\"]"));
+    let is_part = |character: char| character.is_ascii_alphanumeric() || character == '_';
+    name.is_some_and(|name| name.chars().all(is_part))
 }

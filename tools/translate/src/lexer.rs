@@ -1,18 +1,15 @@
-//! Reads the tokens of a text. What is no token of its language is refused.
+//! Reads the tokens of a source. What is no token of Rattle is refused.
 
 use crate::source::{Done, Source, Span};
 
-/// What the texts of both languages consist of.
 #[derive(Clone, Copy, Debug, PartialEq, Eq)]
 pub enum Kind {
     /// A name or a keyword.
     Name,
     Lifetime,
-    /// A whole number, with its prefix and suffix.
+    /// A whole number. The parser refuses prefixes and suffixes that it does not know.
     Integer,
     Byte,
-    /// `'0'`, which only Rust has.
-    Character,
     Text,
     ByteText,
     /// An operator or a bracket, as long as it can be.
@@ -21,7 +18,7 @@ pub enum Kind {
     Doc,
     /// A line that documents the file, `//! ..`.
     InnerDoc,
-    /// A clause of Rattle, from its `{` to the `}` that closes it.
+    /// A clause, from its `{` to the `}` that closes it.
     Clause,
     /// What a `ghost use` imports, up to its `;`.
     GhostPath,
@@ -36,13 +33,6 @@ pub struct Token {
     pub comments: Vec<Span>,
 }
 
-/// What a text is written in. Only Rattle has clauses and ghost items. Only Rust has comments between signs.
-#[derive(Clone, Copy, Debug, PartialEq, Eq)]
-pub enum Language {
-    Rattle,
-    Rust,
-}
-
 // The longer symbols first, of which a shorter one is the start.
 const SYMBOLS: &[&str] = &[
     "<<=", ">>=", "..=", "...", "->", "=>", "::", "..", "&&", "||", "==", "!=", "<=", ">=", "+=",
@@ -54,21 +44,17 @@ const SINGLE: &str = "+-*/%&|^!=<>.,;:#(){}[]?@$~";
 const RAW: &[&str] = &["r", "br", "cr", "c"];
 
 // These marks make a text look like another.
-const MARKS: &[char] = &[
-    '\u{200E}', '\u{200F}', '\u{202A}', '\u{202B}', '\u{202C}', '\u{202D}', '\u{202E}', '\u{2066}',
-    '\u{2067}', '\u{2068}', '\u{2069}', '\u{FEFF}',
-];
+const MARKS: &str = "\u{200E}\u{200F}\u{202A}\u{202B}\u{202C}\u{202D}\u{202E}\u{2066}\u{2067}\u{2068}\u{2069}\u{FEFF}";
 
 /// Returns all tokens, of which the last is the end.
-pub fn lex(source: &Source, language: Language) -> Done<Vec<Token>> {
-    let lexer = Lexer { source, language, at: 0, tokens: Vec::new(), comments: Vec::new() };
+pub fn lex(source: &Source) -> Done<Vec<Token>> {
+    let lexer = Lexer { source, at: 0, tokens: Vec::new(), comments: Vec::new() };
     lexer.check_characters()?;
     lexer.run()
 }
 
 struct Lexer<'a> {
     source: &'a Source,
-    language: Language,
     at: usize,
     tokens: Vec<Token>,
     // The comments behind the last token.
@@ -77,10 +63,8 @@ struct Lexer<'a> {
 
 impl<'a> Lexer<'a> {
     fn run(mut self) -> Done<Vec<Token>> {
-        while self.skip_space()? {
-            let text = self.token()?;
-            match text {
-                _ if self.language == Language::Rust => {}
+        while !self.skip_space().is_empty() {
+            match self.token()? {
                 "requires" | "ensures" => self.contract()?,
                 "ghost" => self.ghost()?,
                 _ => {}
@@ -92,19 +76,11 @@ impl<'a> Lexer<'a> {
 
     // Refuses control characters and invisible marks, also in comments and texts.
     fn check_characters(&self) -> Done<()> {
-        let text = &self.source.text;
-        let is_known = |character: char| match character {
-            '\n' | ' ' => true,
-            '\t' => self.language == Language::Rust,
-            _ => {
-                character.is_ascii_graphic()
-                    || !character.is_control() && !MARKS.contains(&character)
-            }
-        };
-        match text.char_indices().find(|(_, character)| !is_known(*character)) {
-            Some((at, character)) => {
+        let is_unknown = |it: char| it != '\n' && it.is_control() || MARKS.contains(it);
+        match self.source.text.char_indices().find(|(_, character)| is_unknown(*character)) {
+            Some((start, character)) => {
                 let reason = format!("the character U+{:04X}", u32::from(character));
-                Err(self.source.fault(Span { start: at, end: at + 1 }, reason))
+                Err(self.source.fault(Span { start, end: start + 1 }, reason))
             }
             None => Ok(()),
         }
@@ -126,63 +102,40 @@ impl<'a> Lexer<'a> {
         self.source.at(span)
     }
 
-    // Skips spaces, ends of lines and comments. Returns whether a token follows.
-    fn skip_space(&mut self) -> Done<bool> {
+    // Skips spaces, ends of lines and comments, and returns what follows them.
+    fn skip_space(&mut self) -> &'a str {
         loop {
-            let rest = self.rest();
-            let length = match rest.chars().next() {
-                None => return Ok(false),
-                Some(' ' | '\n' | '\t') => 1,
-                Some('/') if rest.starts_with("//") && !is_doc(rest) => {
-                    self.note(line_length(rest))
-                }
-                Some('/') if rest.starts_with("/*") => {
-                    let length = self.length_between_signs()?;
-                    self.note(length)
-                }
-                Some(_) => return Ok(true),
-            };
-            self.at += length;
-        }
-    }
-
-    // Notes a comment of this length.
-    fn note(&mut self, length: usize) -> usize {
-        self.comments.push(Span { start: self.at, end: self.at + length });
-        length
-    }
-
-    // The length of a comment between signs. In Rust, one may hold others, which are refused.
-    fn length_between_signs(&self) -> Done<usize> {
-        if self.language == Language::Rattle {
-            return self.refuse("a comment between `/*` and `*/`");
-        }
-        match self.rest()[2..].split_once("*/") {
-            None => self.refuse("a comment without its end"),
-            Some((text, _)) if text.contains("/*") => self.refuse("a comment in a comment"),
-            Some((text, _)) => Ok(text.len() + 4),
+            let rest = self.rest().trim_start_matches([' ', '\n']);
+            self.at = self.source.text.len() - rest.len();
+            // Four slashes document nothing.
+            let is_doc = rest.starts_with("///") && !rest.starts_with("////");
+            if !rest.starts_with("//") || rest.starts_with("//!") || is_doc {
+                return rest;
+            }
+            let end = self.at + line_length(rest);
+            self.comments.push(Span { start: self.at, end });
+            self.at = end;
         }
     }
 
     // Reads a token, and returns its text.
     fn token(&mut self) -> Done<&'a str> {
         let rest = self.rest();
-        let first = rest.chars().next().unwrap_or(' ');
         let name = name_length(rest);
         if RAW.contains(&&rest[..name]) && rest[name..].starts_with(['"', '#']) {
             return self.refuse("a raw text, a raw name or a text of C");
         }
-        Ok(match first {
-            '/' if rest.starts_with("//!") => self.push(Kind::InnerDoc, line_length(rest)),
-            '/' if rest.starts_with("///") => self.push(Kind::Doc, line_length(rest)),
-            '"' => self.quoted(Kind::Text, 0)?,
-            'b' if rest[1..].starts_with('"') => self.quoted(Kind::ByteText, 1)?,
-            'b' if rest[1..].starts_with('\'') => self.quoted(Kind::Byte, 1)?,
-            '\'' if is_character(rest) => self.quoted(Kind::Character, 0)?,
-            '\'' if name_length(&rest[1..]) > 0 => {
+        Ok(match rest.as_bytes() {
+            [b'/', b'/', b'!', ..] => self.push(Kind::InnerDoc, line_length(rest)),
+            [b'/', b'/', ..] => self.push(Kind::Doc, line_length(rest)),
+            [b'/', b'*', ..] => return self.refuse("a comment between `/*` and `*/`"),
+            [b'"', ..] => self.quoted(Kind::Text, 0)?,
+            [b'b', b'"', ..] => self.quoted(Kind::ByteText, 1)?,
+            [b'b', b'\'', ..] => self.quoted(Kind::Byte, 1)?,
+            [b'\'', ..] if name_length(&rest[1..]) > 0 => {
                 self.push(Kind::Lifetime, 1 + name_length(&rest[1..]))
             }
-            '0'..='9' => self.number(name)?,
+            [b'0'..=b'9', ..] => self.number(name)?,
             _ if name > 0 => self.push(Kind::Name, name),
             _ => self.symbol()?,
         })
@@ -191,10 +144,9 @@ impl<'a> Lexer<'a> {
     // Reads a whole number. Behind a point, it is the name of a field.
     fn number(&mut self, length: usize) -> Done<&'a str> {
         let is_field = self.tokens.last().is_some_and(|last| self.source.at(last.span) == ".");
-        let mut rest = self.rest()[length..].chars();
-        let has_point = rest.next() == Some('.');
-        let is_method = rest.next().is_some_and(|next| next == '.' || is_name_start(next));
-        if has_point && !is_method && !is_field && self.language == Language::Rattle {
+        let after = self.rest()[length..].strip_prefix('.');
+        let is_name = |it: char| it.is_ascii_alphabetic() || it == '_';
+        if !is_field && after.is_some_and(|it| !it.starts_with('.') && !it.starts_with(is_name)) {
             return self.refuse("a number that is not whole");
         }
         Ok(self.push(Kind::Integer, length))
@@ -211,16 +163,15 @@ impl<'a> Lexer<'a> {
         }
     }
 
-    // Reads a text, byte or character whose first quote is at `from`.
+    // Reads a text or byte whose first quote is at `from`.
     fn quoted(&mut self, kind: Kind, from: usize) -> Done<&'a str> {
-        let rest = self.rest();
-        let quote = rest.as_bytes()[from];
-        let mut bytes = rest.bytes().enumerate().skip(from + 1);
+        let rest = self.rest().as_bytes();
+        let mut bytes = rest.iter().enumerate().skip(from + 1);
         while let Some((offset, byte)) = bytes.next() {
             match byte {
-                b'\\' => drop(bytes.next()),
-                b'\n' if self.language == Language::Rattle => break,
-                _ if byte == quote => return Ok(self.push(kind, offset + 1)),
+                b'\\' => _ = bytes.next(),
+                b'\n' => break,
+                _ if *byte == rest[from] => return Ok(self.push(kind, offset + 1)),
                 _ => {}
             }
         }
@@ -229,8 +180,7 @@ impl<'a> Lexer<'a> {
 
     // Reads the name of a clause, if it has one, and the clause.
     fn contract(&mut self) -> Done<()> {
-        self.skip_space()?;
-        let name = name_length(self.rest());
+        let name = name_length(self.skip_space());
         if name > 0 {
             self.push(Kind::Name, name);
         }
@@ -239,26 +189,20 @@ impl<'a> Lexer<'a> {
 
     // Reads what follows `ghost`: `use PATH;`, `NAME: {..}` or `NAME = {..}`.
     fn ghost(&mut self) -> Done<()> {
-        self.skip_space()?;
-        match self.push(Kind::Name, name_length(self.rest())) {
-            "use" => self.ghost_path(),
-            "" => self.refuse("a ghost item without a name"),
-            _ => {
-                self.skip_space()?;
-                if !self.rest().starts_with([':', '=']) {
-                    return self.refuse("a ghost item without `:` or `=`");
-                }
-                self.push(Kind::Symbol, 1);
-                self.clause()
-            }
+        let name = name_length(self.skip_space());
+        if self.push(Kind::Name, name) == "use" {
+            return self.ghost_path();
         }
+        if name == 0 || !self.skip_space().starts_with([':', '=']) {
+            return self.refuse("a ghost item without `:` or `=`");
+        }
+        self.push(Kind::Symbol, 1);
+        self.clause()
     }
 
     // Reads the path of a `ghost use`. The parser reads the `;` behind it.
     fn ghost_path(&mut self) -> Done<()> {
-        self.skip_space()?;
-        let rest = self.rest();
-        let Some((path, _)) = rest.split_once(';') else {
+        let Some((path, _)) = self.skip_space().split_once(';') else {
             return self.refuse("a `ghost use` without `;`");
         };
         if ["--", "{-", "//", "\"", "\\", "«"].iter().any(|start| path.contains(start)) {
@@ -271,8 +215,7 @@ impl<'a> Lexer<'a> {
     // Reads a clause. It is not Rust: its names may have any characters. Rattle's comments, escapes, and
     // quotes that could hide a brace are refused, so that its braces are those that Rattle counts.
     fn clause(&mut self) -> Done<()> {
-        self.skip_space()?;
-        let rest = self.rest();
+        let rest = self.skip_space();
         if !rest.starts_with('{') {
             return self.refuse("a clause without `{`");
         }
@@ -303,22 +246,8 @@ impl<'a> Lexer<'a> {
     }
 }
 
-// Whether a comment documents something. Four slashes document nothing.
-fn is_doc(rest: &str) -> bool {
-    rest.starts_with("//!") || rest.starts_with("///") && !rest.starts_with("////")
-}
-
 fn line_length(rest: &str) -> usize {
     rest.find('\n').unwrap_or(rest.len())
-}
-
-// Whether a single quote begins a character, and no lifetime.
-fn is_character(rest: &str) -> bool {
-    rest[1..].starts_with('\\') || rest.chars().nth(2) == Some('\'')
-}
-
-fn is_name_start(character: char) -> bool {
-    character.is_ascii_alphabetic() || character == '_'
 }
 
 // Returns the length of the name or number at the start of `rest`, or 0.

@@ -17,7 +17,6 @@ pub mod rust;
 pub mod source;
 pub mod std_names;
 pub mod tree;
-pub mod visit;
 
 use modules::{Package, names_in, read_text};
 use resolve::Scopes;

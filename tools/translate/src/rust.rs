@@ -7,10 +7,7 @@ use crate::engines;
 use crate::modules::{CRATES, Module};
 use crate::parser::WRITER;
 use crate::source::{Done, Span};
-use crate::tree::{
-    Attribute, AttributeKind, Function, GenericArgument, Import, Item, ItemKind, Name, Path,
-};
-use crate::visit::{self, Part};
+use crate::tree::*;
 
 /// Returns the text of the file that a module becomes.
 pub fn print(module: &Module, tests: &Tests) -> Done<String> {
@@ -37,17 +34,7 @@ impl Printer<'_> {
             if path.is_empty() && engines::needs_lanes(crate_name, item) {
                 self.insert(item.span.start, "#[cfg(feature = \"lanes\")] ");
             }
-            if item.is_model() {
-                self.comment(item.span)?;
-                continue;
-            }
-            for part in visit::parts(item) {
-                match part {
-                    Part::Item(item) => self.item(item)?,
-                    Part::Path(path, _) => self.path(path),
-                    _ => {}
-                }
-            }
+            self.item(item)?;
         }
         Ok(())
     }
@@ -168,6 +155,15 @@ impl Printer<'_> {
     }
 
     fn item(&mut self, item: &Item) -> Done<()> {
+        if item.is_model() {
+            return self.comment(item.span);
+        }
+        for mention in &item.mentions {
+            if let Mention::Path(path, _) = mention {
+                self.path(path);
+            }
+        }
+        item.members().iter().try_for_each(|member| self.item(member))?;
         for attribute in &item.notes.attributes {
             self.attribute(attribute, item)?;
         }

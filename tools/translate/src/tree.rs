@@ -10,6 +10,19 @@ pub struct Tree {
     pub items: Vec<Item>,
 }
 
+/// A part of a tree, and its place in the source.
+#[derive(Clone, Debug)]
+pub struct Node<K> {
+    pub span: Span,
+    pub kind: K,
+}
+
+pub type Attribute = Node<AttributeKind>;
+pub type Type = Node<TypeKind>;
+pub type Literal = Node<LiteralKind>;
+pub type Pattern = Node<PatternKind>;
+pub type Expression = Node<ExpressionKind>;
+
 #[derive(Clone, Debug)]
 pub struct Name {
     pub text: String,
@@ -22,12 +35,6 @@ pub struct Notes {
     pub docs: Vec<Span>,
     pub comments: Vec<Span>,
     pub attributes: Vec<Attribute>,
-}
-
-#[derive(Clone, Debug)]
-pub struct Attribute {
-    pub span: Span,
-    pub kind: AttributeKind,
 }
 
 #[derive(Clone, Debug, PartialEq, Eq)]
@@ -54,6 +61,36 @@ pub struct Item {
     pub name: Name,
     pub generics: Vec<GenericParameter>,
     pub kind: ItemKind,
+    /// The names in it, without those in its members, in the order in which Rust reads them.
+    pub mentions: Vec<Mention>,
+}
+
+/// A name in an item, or where the scope of its local names begins or ends.
+#[derive(Clone, Debug)]
+pub enum Mention {
+    Path(Path, Role),
+    // The name of a method that is called.
+    Method(Name),
+    // A local name is declared: a variable, or a parameter, also a generic one.
+    Local(Name),
+    Enter,
+    Leave,
+}
+
+/// What a path stands for.
+#[derive(Clone, Copy, Debug, PartialEq, Eq)]
+pub enum Role {
+    Type,
+    Bound,
+    /// The trait of an `impl`.
+    Trait,
+    /// A variant or a constant in a pattern.
+    Pattern,
+    /// A struct, or a variant with named fields, that is made or taken apart.
+    Struct,
+    /// What is called.
+    Callee,
+    Value,
 }
 
 #[derive(Clone, Copy, Debug, PartialEq, Eq)]
@@ -67,42 +104,26 @@ pub enum Visibility {
 /// Traits hold ghost items, constants and functions; an `impl` also holds names of types.
 #[derive(Clone, Debug)]
 pub enum ItemKind {
-    /// `use PATHS;`, all of which begin with the same name.
+    // `use PATHS;`, all of which begin with the same name.
     Use(Vec<Import>),
-    /// `mod NAME;`.
+    // `mod NAME;`.
     Module,
-    /// A constant or a static. It has no value in a trait.
-    Constant {
-        annotation: Type,
-        value: Option<Expression>,
-    },
-    /// Another name of a type, or an associated type of an `impl`.
+    // A constant or a static. It has no value in a trait.
+    Constant { annotation: Type, value: Option<Expression> },
+    // Another name of a type, or an associated type of an `impl`.
     Alias(Type),
-    /// A struct, and the parts of its ghost items.
-    Struct {
-        fields: Vec<Field>,
-        ghosts: Vec<Span>,
-    },
+    // A struct, and the parts of its ghost items.
+    Struct { fields: Vec<Field>, ghosts: Vec<Span> },
     Enum(Vec<Variant>),
-    /// A trait with its supertraits.
-    Trait {
-        bounds: Vec<Path>,
-        members: Vec<Item>,
-    },
-    /// `impl OF for TARGET`, or `impl TARGET`.
-    Implementation {
-        of: Option<Path>,
-        target: Type,
-        members: Vec<Item>,
-    },
+    // A trait with its supertrait.
+    Trait { bound: Option<Path>, members: Vec<Item> },
+    // `impl OF for TARGET`, or `impl TARGET`.
+    Implementation { of: Option<Path>, target: Type, members: Vec<Item> },
     Function(Function),
-    /// An item of a trait or an `impl` that only proofs read.
+    // An item of a trait or an `impl` that only proofs read.
     Ghost,
-    /// `ghost use MODULE.{NAMES};`.
-    GhostUse {
-        module: String,
-        names: Vec<String>,
-    },
+    // `ghost use MODULE.{NAMES};`.
+    GhostUse { module: String, names: Vec<String> },
 }
 
 /// One path of a `use`, of which the last name is imported, by another name, or as all that is in it.
@@ -161,15 +182,9 @@ pub struct GenericParameter {
 
 #[derive(Clone, Debug)]
 pub enum GenericKind {
-    /// A type, and the traits that bound it.
-    Type(Vec<Path>),
+    /// A type, and the trait that bounds it.
+    Type(Option<Path>),
     Constant(Type),
-}
-
-#[derive(Clone, Debug)]
-pub struct Type {
-    pub span: Span,
-    pub kind: TypeKind,
 }
 
 #[derive(Clone, Debug)]
@@ -202,27 +217,14 @@ pub enum GenericArgument {
     Constant(Literal),
 }
 
-#[derive(Clone, Debug)]
-pub struct Literal {
-    pub span: Span,
-    pub kind: LiteralKind,
-}
-
 #[derive(Clone, Debug, PartialEq, Eq)]
 pub enum LiteralKind {
     Boolean(bool),
-    // A whole number, and the type that its suffix names.
-    Integer { value: u128, suffix: Option<String> },
+    Integer(u128),
     Byte(u8),
     // The bytes of a text.
     Text(Vec<u8>),
     ByteText(Vec<u8>),
-}
-
-#[derive(Clone, Debug)]
-pub struct Pattern {
-    pub span: Span,
-    pub kind: PatternKind,
 }
 
 #[derive(Clone, Debug)]
@@ -259,12 +261,6 @@ pub struct Block {
 pub struct Statement {
     pub comments: Vec<Span>,
     pub expression: Expression,
-}
-
-#[derive(Clone, Debug)]
-pub struct Expression {
-    pub span: Span,
-    pub kind: ExpressionKind,
 }
 
 #[derive(Clone, Debug)]
@@ -305,8 +301,6 @@ pub enum ExpressionKind {
     Closure { parameters: Vec<Pattern>, body: Box<Expression> },
     // `matches!(VALUE, PATTERN)`.
     Matches { value: Box<Expression>, pattern: Pattern },
-    // `write!(WRITER, "..")`.
-    Write(Box<Expression>),
     Return(Option<Box<Expression>>),
     Break,
     // A statement, or what a condition is: `let PATTERN: ANNOTATION = VALUE else OTHERWISE`.

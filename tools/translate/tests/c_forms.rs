@@ -1,29 +1,8 @@
 //! The C of each form, and what is refused.
 
-use crate::common::{TOP, c};
+use crate::common::{TOP, c, joined};
 use std::path::Path;
 use torkettle_translate::c::made;
-
-const FORMS: &str = include_str!("c_forms.txt");
-
-// The C of a source stands among other types and functions.
-#[test]
-fn each_form_has_its_c() {
-    for form in FORMS.split("\n> ").skip(1) {
-        let mut parts = form.split("\n= ");
-        let source = parts.next().unwrap();
-        let made = joined(&c(source, false).unwrap_or_else(|fault| panic!("{source}: {fault}")));
-        for part in parts {
-            assert!(made.contains(&joined(part)), "{source}\nis\n{made}\nand not\n{part}");
-        }
-    }
-}
-
-// Returns the words of a text, without the places of functions.
-fn joined(text: &str) -> String {
-    let lines = text.lines().filter(|line| !line.starts_with("/* atoi_core/lib.rt:"));
-    lines.flat_map(str::split_whitespace).collect::<Vec<_>>().join(" ")
-}
 
 // Operators that are proved not to overflow assert it, and wrapping ones do not.
 #[test]

@@ -4,83 +4,58 @@ use std::path::Path;
 use torkettle_translate::c::{self, world::World};
 use torkettle_translate::modules::{CRATES, Module, Package};
 use torkettle_translate::resolve::Scopes;
-use torkettle_translate::source::{Fault, Source};
+use torkettle_translate::source::{Done, Source};
 use torkettle_translate::translate;
 
 /// The top of the repository.
 pub const TOP: &str = concat!(env!("CARGO_MANIFEST_DIR"), "/../..");
 
-/// Returns a module. Its file is `CRATE/PATH.rt` below `crates`, without the folder `src`.
-pub fn module(file: &str, text: &str) -> Result<Module, Fault> {
-    let names: Vec<&str> = file.trim_end_matches(".rt").split('/').collect();
-    let crate_name = CRATES.into_iter().find(|name| *name == names[0]).unwrap();
-    let path = names[1..].iter().filter(|name| **name != "lib").map(|name| name.to_string());
-    Module::new(crate_name, path.collect(), Source::new(Path::new(file), text.into()))
+/// Returns the facade and the package of this repository.
+pub fn repository() -> (Source, Package) {
+    let facade = std::fs::read_to_string(Path::new(TOP).join("rust/src/lib.rs")).unwrap();
+    (Source::new(Path::new("lib.rs"), facade), Package::read(Path::new(TOP)).unwrap())
 }
 
-/// Makes the Rust of modules. Crates that are not named are empty. Returns the Rust of the last one.
-pub fn rust(facade: &str, files: &[(&str, &str)]) -> Result<String, String> {
+/// Returns a package of modules. The file of each is `CRATE/PATH.rt`, without the folder `src`. Crates that are not
+/// named are empty.
+fn package(files: &[(&str, &str)]) -> Done<Package> {
     let mut modules = Vec::new();
-    for (file, text) in files {
-        modules.push(module(file, text).map_err(|fault| fault.to_string())?);
-    }
-    for name in CRATES {
-        if !modules.iter().any(|module| module.crate_name == name) {
-            modules.insert(0, module(&format!("{name}/lib.rt"), "").unwrap());
+    for crate_name in CRATES {
+        let of_crate = files.iter().filter(|(file, _)| file.starts_with(crate_name));
+        let empty = (format!("{crate_name}/lib.rt"), "");
+        let root = (empty.0.as_str(), empty.1);
+        let is_there = of_crate.clone().any(|(file, _)| *file == root.0);
+        for (file, text) in of_crate.chain((!is_there).then_some(&root)) {
+            let names = file.trim_end_matches(".rt").split('/').skip(1);
+            let path = names.filter(|name| *name != "lib").map(String::from).collect();
+            modules.push(Module::new(
+                crate_name,
+                path,
+                Source::new(Path::new(file), text.to_string()),
+            )?);
         }
     }
-    let last = modules.last().unwrap().rust_file();
-    let package = Package::new(modules).map_err(|fault| fault.to_string())?;
+    Package::new(modules)
+}
+
+/// Makes the Rust of a package, and returns that of its last file.
+pub fn rust(facade: &str, files: &[(&str, &str)]) -> Done<String> {
     let facade = Source::new(Path::new("lib.rs"), facade.into());
-    let made = translate(&facade, &package).map_err(|fault| fault.to_string())?;
-    Ok(made[&last].split_once(" */ ").unwrap().1.into())
+    let made = translate(&facade, &package(files)?)?;
+    let last = files[files.len() - 1].0.replace("/lib.rt", "/mod.rs").replace(".rt", ".rs");
+    Ok(made[&Path::new("rust/src/proved").join(last)].split_once(" */ ").unwrap().1.into())
 }
 
 /// Makes the C of the function `f` of a source of `atoi_core`, for `u32` if it is generic, and of all that it calls.
-pub fn c(text: &str, is_checked: bool) -> Result<String, String> {
-    let modules = CRATES.map(|name| (name, if name == "atoi_core" { text } else { "" }));
-    let modules = modules.map(|(name, text)| module(&format!("{name}/lib.rt"), text));
-    let modules: Result<Vec<Module>, Fault> = modules.into_iter().collect();
-    let made = modules.and_then(Package::new).and_then(|package| {
-        let scopes = Scopes::new(&package)?;
-        let world = World::new(&package, &scopes);
-        c::print(&world, &[("atoi_core", "f")], &[], &["u32"], is_checked)
-    });
-    made.map(|made| made.1).map_err(|fault| fault.to_string())
+pub fn c(text: &str, is_checked: bool) -> Done<String> {
+    let package = package(&[("atoi_core/lib.rt", text)])?;
+    let scopes = Scopes::new(&package)?;
+    let world = World::new(&package, &scopes);
+    Ok(c::print(&world, &[("atoi_core", "f")], &[], &["u32"], is_checked)?.1)
 }
 
-/// Makes the Rust of a source of `atoi_core`, in which `mod` may declare one module.
-pub fn core(text: &str) -> Result<String, String> {
-    let name = text.strip_prefix("mod ").and_then(|rest| rest.split(';').next());
-    let file = name.map(|name| format!("atoi_core/{name}.rt"));
-    let files: Vec<_> = file.iter().map(|file| (file.as_str(), "")).collect();
-    rust("", &[files, vec![("atoi_core/lib.rt", text)]].concat())
-}
-
-/// Checks that each source of a list is refused at its line, for its reason.
-pub fn assert_refused(list: &str, make: impl Fn(&str) -> Result<String, String>) {
-    for row in list.lines().skip(1).filter(|row| !row.starts_with('#')) {
-        let [line, reason, source] = row.split('\t').collect::<Vec<_>>()[..] else {
-            panic!("{row}")
-        };
-        let fault = make(&shown(source)).expect_err(row);
-        let start = format!("atoi_core/lib.rt:{line}: ");
-        assert!(fault.starts_with(&start) && fault.contains(reason), "{row}: {fault}");
-    }
-}
-
-/// Puts characters in place of what stands for them.
-pub fn shown(text: &str) -> String {
-    let signs = [
-        ("⏎", "\n"),
-        ("<CR>", "\r"),
-        ("<FF>", "\x0C"),
-        ("<VT>", "\x0B"),
-        ("<NBSP>", "\u{A0}"),
-        ("<LRM>", "\u{200E}"),
-        ("<RLO>", "\u{202E}"),
-        ("<BOM>", "\u{FEFF}"),
-        ("<TAB>", "\t"),
-    ];
-    signs.iter().fold(text.to_string(), |text, (sign, character)| text.replace(sign, character))
+/// Returns the words of a text, without the places of functions.
+pub fn joined(text: &str) -> String {
+    let lines = text.lines().filter(|line| !line.starts_with("/* atoi_core/lib.rt:"));
+    lines.flat_map(str::split_whitespace).collect::<Vec<_>>().join(" ")
 }

@@ -1,90 +1,59 @@
-//! Which conditions of the sources become tests in Rust, and which are refused.
+//! Conditions in each place of the proved sources.
 
-use crate::common::{rust, shown};
+use crate::common::repository;
+use torkettle_translate::modules::Module;
+use torkettle_translate::resolve::Scopes;
+use torkettle_translate::source::Source;
+use torkettle_translate::tree::{Item, Visibility};
+use torkettle_translate::{conditions, facade};
 
-const LIST: &str = include_str!("conditions.txt");
-
-// What stands for a letter in the list.
-const PARTS: [(&str, &str); 9] = [
-    (
-        "%i",
-        "ghost use Rattle.std.specs.Prelude.{◌≡◌, true, IsFalse, ◌+◌, ◌<◌, ◌^◌, length};
-        ghost use Rattle.atoi_column.specs.Fields.{is_separator};
-        ghost use Rattle.atoi_core.specs.Digit.{decimal_table, is_digit};\n",
-    ),
-    ("%o", "ghost use Rattle.atoi_column.specs.Others.{is_separator};"),
-    ("%m", "use std::marker::{Model, PhantomData};\nimpl Model for A {"),
-    ("%s", "requires { is_separator separator ≡ true }"),
-    ("%d", "requires same { IsFalse (is_digit decimal_table byte) }"),
-    (
-        "%f",
-        "requires { (index + length self.rest < 2 ^ 64) × (place + length self.rest < 2 ^ 64) }",
-    ),
-    (
-        "%S",
-        "assert!(crate::column::is_separator(separator), \"a sign or a digit separates fields\");",
-    ),
-    ("%D", "assert!(!byte.is_ascii_digit(), \"a digit is to follow the number\");"),
-    (
-        "%F",
-        "assert!(self.rest.len() <= usize::MAX - index, \"the fields have too many indices\"); \
-        assert!(self.rest.len() <= usize::MAX - place, \"the fields end above usize::MAX\");",
-    ),
-];
-
-// The Rust of a source of a crate, of which `exported` is exported of `atoi_lanes`.
-fn made(crate_name: &str, source: &str) -> Result<String, String> {
-    let file = format!("{crate_name}/lib.rt");
-    let fast = if crate_name == "atoi_fast" { "" } else { "pub struct A { b: u8 }" };
-    let mut files = vec![("atoi_fast/lib.rt", fast), ("atoi_core/lib.rt", "pub fn exported() {}")];
-    let facade = match crate_name {
-        "atoi_core" => "mod proved {}",
-        _ => "mod proved {}\npub use proved::atoi_core::{exported};",
+// The functions of a module: where a condition of each can stand, and whether users can call it.
+fn functions(module: &Module, exported: &[&str]) -> Vec<(usize, bool)> {
+    let is_inner = ["atoi_core", "atoi_fast", "atoi_lanes"].contains(&module.crate_name);
+    let found = |item: &Item, is_free: bool| {
+        let end = item.function()?.body.as_ref().map_or(item.span.end - 1, |body| body.span.start);
+        let is_exported = !is_inner || exported.contains(&item.name.text.as_str());
+        Some((end, !is_free || item.visibility == Visibility::Public && is_exported))
     };
-    files.retain(|(other, _)| *other != file);
-    files.push((&file, source));
-    rust(facade, &files)
+    let items = module.tree.items.iter();
+    let all = items.flat_map(|item| {
+        let members = item.members().iter().map(|member| found(member, false));
+        std::iter::once(found(item, true)).chain(members)
+    });
+    all.flatten().collect()
 }
 
+// A condition that nothing tests, planted on each function in turn. Of those that users cannot call, the proofs
+// of the callers show it.
 #[test]
-fn each_condition_is_tested_where_users_call_or_refused() {
-    for row in LIST.lines().filter(|row| !row.starts_with('#')) {
-        let filled = PARTS.iter().fold(shown(row), |row, (sign, part)| row.replace(sign, part));
-        let [crate_name, verdict, source] = filled.splitn(3, '\t').collect::<Vec<_>>()[..] else {
-            panic!("{row}")
-        };
-        match (made(crate_name, source), verdict.strip_prefix("= ")) {
-            (Ok(made), Some(end)) => assert!(made.ends_with(end), "{row}: {made}"),
-            (Err(fault), None) => assert!(fault.contains(verdict), "{row}: {fault}"),
-            (made, _) => panic!("{row}: {made:?}"),
+fn each_planted_condition_is_refused_where_users_call() {
+    let (facade, mut package) = repository();
+    let exports = facade::exports(&facade).unwrap();
+    let exported: Vec<&str> = exports.iter().map(|export| export.name.text.as_str()).collect();
+    let (mut refused, mut taken) = (0, 0);
+    for number in 0..package.modules.len() {
+        let before = package.modules[number].clone();
+        let functions = functions(&before, &exported);
+        let lines = before.source.text.lines().map(|line| line.trim_start());
+        let lines =
+            lines.map(|line| line.trim_start_matches("pub ").trim_start_matches("pub(crate) "));
+        assert_eq!(lines.filter(|line| line.starts_with("fn ")).count(), functions.len());
+        for (end, is_callable) in functions {
+            let (head, tail) = before.source.text.split_at(end);
+            let text = format!("{head} requires {{ 0 ≡ 1 }} {tail}");
+            let source = Source { text, ..before.source.clone() };
+            package.modules[number] =
+                Module::new(before.crate_name, before.path.clone(), source).unwrap();
+            let scopes = Scopes::new(&package).unwrap();
+            let line = 1 + head.matches('\n').count();
+            let fault = conditions::tests(&package, &scopes, &exported).err();
+            let place = fault.map(|fault| (fault.file, fault.line));
+            let expected = is_callable.then(|| (before.source.path.clone(), Some(line)));
+            assert_eq!(place, expected, "line {line} of {}", before.source.path.display());
+            *if is_callable { &mut refused } else { &mut taken } += 1;
         }
+        package.modules[number] = before;
     }
-}
-
-// The methods whose conditions need no test, where they are, with one condition more, and as public ones.
-#[test]
-fn known_conditions_of_methods_stay_comments() {
-    let methods = [
-        "fn read_part(from: u8) requires { from + most ≤\n length values.old } {}",
-        "fn read_plain(from: u8) requires { from + most ≤ length values.old } {}",
-        "fn read_guessed(from: u8) requires { from ≤ length values.old } {}",
-    ];
-    let fields = format!("struct Fields; impl Fields {{ {} }}", methods.join(" "));
-    let files = [("atoi_column/lib.rt", "mod fields;"), ("atoi_column/fields.rt", fields.as_str())];
-    assert!(rust("", &files).is_ok());
-    let traits = [
-        ("engine", "pub trait Engine { fn prefix_64() requires { IsBound64 limit bound } {} }"),
-        ("number", "pub trait Number { fn from_pos() requires { value ≤ GREATEST }; }"),
-    ];
-    for (module, text) in traits {
-        let (root, file) = (format!("mod {module};"), format!("atoi_core/{module}.rt"));
-        assert!(rust("", &[("atoi_core/lib.rt", &root), (&file, text)]).is_ok(), "{module}");
-    }
-    let more = "struct Fields; impl Fields { fn read_part() requires { from + most ≤ length values.old } \
-        requires { 0 < 1 } {} }";
-    let public = "struct Fields; impl Fields { pub fn read_part() requires { from + most ≤ length values.old } {} }";
-    for text in [more, public] {
-        let files = [("atoi_column/lib.rt", "mod fields;"), ("atoi_column/fields.rt", text)];
-        assert!(rust("", &files).is_err_and(|fault| fault.contains("nothing tests")), "{text}");
-    }
+    println!("{refused} conditions refused, {taken} of functions that users cannot call");
+    assert!(refused > 100 && taken > 50);
 }

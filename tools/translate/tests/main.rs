@@ -4,6 +4,4 @@ mod c_forms;
 mod common;
 mod conditions;
 mod forms;
-mod grammar;
 mod package;
-mod rust;

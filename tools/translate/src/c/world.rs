@@ -140,10 +140,9 @@ impl<'a> World<'a> {
             },
             TypeKind::Slice(_) => Err(source.fault(tree.span, "C: a slice without a reference")),
             TypeKind::Array { element, length } => match &length.kind {
-                ExpressionKind::Literal(Literal {
-                    kind: LiteralKind::Integer { value, .. },
-                    ..
-                }) => Ok(Type::Array { element: boxed(element)?, length: *value }),
+                ExpressionKind::Literal(Literal { kind: LiteralKind::Integer(length), .. }) => {
+                    Ok(Type::Array { element: boxed(element)?, length: *length })
+                }
                 _ => Err(source.fault(tree.span, "C: the length of this array")),
             },
         }
@@ -296,13 +295,12 @@ impl<'a> World<'a> {
 
     // Finds a member of a trait or of those before it.
     fn member_of_trait(&self, id: Id, of: &Type, name: &str) -> Option<(Id, Bindings)> {
-        let ItemKind::Trait { bounds, .. } = &self.item(id).kind else { return None };
+        let ItemKind::Trait { bound, .. } = &self.item(id).kind else { return None };
         if let Some(member) = position(self.item(id), name) {
             let bindings = Bindings::from([("Self".to_string(), of.clone())]);
             return Some((Id { member: Some(member), ..id }, bindings));
         }
-        let mut bounds = bounds.iter().filter_map(|path| self.trait_of(id.module, path));
-        bounds.find_map(|bound| self.member_of_trait(bound, of, name))
+        self.member_of_trait(self.trait_of(id.module, bound.as_ref()?)?, of, name)
     }
 
     // The trait of an `impl`.

@@ -1,13 +1,11 @@
 //! Expressions and statements, by precedence as in Rust.
 
+use super::types::binding;
 use super::{Parser, is_capital};
 use crate::lexer::Kind as TokenKind;
 use crate::source::{Done, Span};
 use crate::std_names::INTEGERS;
-use crate::tree::{
-    Arm, BinaryOperator, Block, Expression, ExpressionKind as Kind, Let, Literal, LiteralKind,
-    MethodCall, Path, Statement, UnaryOperator,
-};
+use crate::tree::{BinaryOperator as Operator, ExpressionKind as Kind, *};
 
 // The level above `&&` and `||`, which mean something else behind `let PATTERN =`.
 const ABOVE_AND: u8 = 3;
@@ -18,16 +16,15 @@ impl Parser<'_> {
     pub(super) fn expression(&mut self) -> Done<Expression> {
         let start = self.span();
         let place = self.binary(1)?;
-        let is_symbol = self.kind() == TokenKind::Symbol;
-        let operator = match self.text().strip_suffix('=').filter(|_| is_symbol) {
-            Some("") => None,
-            Some(sign) => match operator(sign) {
-                Some((operator, level)) if level > COMPARISON => Some(operator),
-                _ => return Ok(place),
-            },
-            None => return Ok(place),
+        let operator = self.is("+=").then_some(Operator::Add);
+        if operator.is_none() && !self.is("=") {
+            return Ok(place);
+        }
+        let is_place = match &place.kind {
+            Kind::Unary { operator, .. } => *operator == UnaryOperator::Dereference,
+            kind => matches!(kind, Kind::Path(_) | Kind::Field { .. } | Kind::Index { .. }),
         };
-        if !is_place(&place) {
+        if !is_place {
             return self.refuse("an operator: nothing is assigned to this");
         }
         self.step();
@@ -39,38 +36,24 @@ impl Parser<'_> {
         self.expression().map(Box::new)
     }
 
-    fn node(&self, start: Span, kind: Kind) -> Expression {
-        Expression { span: self.since(start), kind }
-    }
-
-    // Reads something in which `NAME {` begins a struct or not.
-    fn with_structs<T>(
-        &mut self,
-        takes_structs: bool,
-        read: impl FnOnce(&mut Self) -> Done<T>,
-    ) -> Done<T> {
-        let before = std::mem::replace(&mut self.takes_structs, takes_structs);
-        let value = read(self);
-        self.takes_structs = before;
-        value
-    }
-
     // Reads what is between `[` and `]`: an index, or a range. Only here may an end be missing: a range without
     // its last end overflows in Rust, and ends in Rattle.
     fn index(&mut self, receiver: Expression) -> Done<Kind> {
         let receiver = Box::new(receiver);
-        let low = if self.is("..") { None } else { Some(Box::new(self.binary(1)?)) };
+        let low = self.unless(&[".."], Self::end_of_range)?;
         match low {
             Some(index) if self.eat("]") => Ok(Kind::Index { receiver, index }),
-            low => {
-                if !self.eat("..") {
-                    return self.refuse("`]` or `..`");
-                }
-                let high = if self.is("]") { None } else { Some(Box::new(self.binary(1)?)) };
+            low if self.eat("..") => {
+                let high = self.unless(&["]"], Self::end_of_range)?;
                 self.expect("]")?;
                 Ok(Kind::Part { receiver, low, high })
             }
+            _ => self.refuse("`]` or `..`"),
         }
+    }
+
+    fn end_of_range(&mut self) -> Done<Box<Expression>> {
+        self.binary(1).map(Box::new)
     }
 
     // Reads operators of this level and above. Comparisons in a row have no rule.
@@ -88,7 +71,7 @@ impl Parser<'_> {
         Ok(value)
     }
 
-    fn operator(&self) -> Option<(BinaryOperator, u8)> {
+    fn operator(&self) -> Option<(Operator, u8)> {
         if self.kind() == TokenKind::Symbol { operator(self.text()) } else { None }
     }
 
@@ -113,16 +96,16 @@ impl Parser<'_> {
             let operand = Box::new(self.unary()?);
             return Ok(self.node(start, Kind::Borrow { is_mutable, operand }));
         }
-        let operator = if self.eat("!") {
-            UnaryOperator::Not
-        } else if self.eat("-") {
-            UnaryOperator::Negate
-        } else if self.eat("*") {
-            UnaryOperator::Dereference
-        } else {
-            let value = self.primary()?;
-            return self.expression_after(value);
+        let operator = match self.text() {
+            "!" => UnaryOperator::Not,
+            "-" => UnaryOperator::Negate,
+            "*" => UnaryOperator::Dereference,
+            _ => {
+                let value = self.primary()?;
+                return self.expression_after(value);
+            }
         };
+        self.step();
         let operand = Box::new(self.unary()?);
         Ok(self.node(start, Kind::Unary { operator, operand }))
     }
@@ -133,16 +116,13 @@ impl Parser<'_> {
         loop {
             let kind = if self.eat("?") {
                 Kind::Try(Box::new(value))
-            } else if self.is("(") {
-                // Who calls a value need not meet the conditions of its function.
-                let Kind::Path(function) = value.kind else {
-                    return self.refuse("an operator: a value cannot be called");
-                };
-                Kind::Call { function, arguments: self.arguments()? }
             } else if self.eat("[") {
                 self.with_structs(true, |parser| parser.index(value))?
             } else if self.eat(".") {
                 self.selection(Box::new(value))?
+            } else if self.is("(") {
+                // Who calls a value need not meet the conditions of its function.
+                return self.refuse("an operator: a value cannot be called");
             } else {
                 return Ok(value);
             };
@@ -153,7 +133,7 @@ impl Parser<'_> {
     // Reads the arguments of a call.
     fn arguments(&mut self) -> Done<Vec<Expression>> {
         self.expect("(")?;
-        self.with_structs(true, |parser| parser.list(")", Self::expression))
+        self.list(")", Self::expression)
     }
 
     // Reads what follows the point: a field, by its name or number, or a call of a method.
@@ -169,6 +149,7 @@ impl Parser<'_> {
         if generics.is_none() && !self.is("(") {
             return Ok(Kind::Field { receiver, name });
         }
+        self.mentions.push(Mention::Method(name.clone()));
         let (generics, arguments) = (generics.unwrap_or_default(), self.arguments()?);
         Ok(Kind::Method(MethodCall { receiver, name, generics, arguments }))
     }
@@ -179,18 +160,17 @@ impl Parser<'_> {
         let kind = if self.is_literal() {
             Kind::Literal(self.literal()?)
         } else if self.eat("(") {
-            self.with_structs(true, Self::group_or_tuple)?
+            self.group_or_tuple()?
         } else if self.eat("[") {
-            self.with_structs(true, Self::array)?
+            self.array()?
         } else if self.is("{") {
             Kind::Block(self.block()?)
-        } else if self.eat_sign("|") {
-            let parameters = self.list("|", Self::single_pattern)?;
-            Kind::Closure { parameters, body: self.boxed()? }
+        } else if self.eat("|") {
+            self.scope(Self::closure)?
         } else if self.is_name() && self.is_ahead(1, "!") {
-            self.call_of_macro()?
-        } else if self.is_name() || self.is_one_of(&["self", "Self", "crate"]) {
-            self.path_or_struct()?
+            self.scope(Self::matches)?
+        } else if self.is_name() || self.is("self") || self.is("Self") {
+            self.name_or_call()?
         } else {
             self.control()?
         };
@@ -231,9 +211,16 @@ impl Parser<'_> {
         let start = self.span();
         let kind = match self.kind() {
             TokenKind::Integer => Kind::Literal(self.literal()?),
-            _ => Kind::Path(self.path(false)?),
+            _ => Kind::Path(self.path(Role::Value)?),
         };
         Ok(self.node(start, kind))
+    }
+
+    // Reads what follows the `|` of a closure, which has one parameter without a type.
+    fn closure(&mut self) -> Done<Kind> {
+        let parameters = vec![binding(self.local()?)];
+        self.expect("|")?;
+        Ok(Kind::Closure { parameters, body: self.boxed()? })
     }
 
     // Reads an expression that a keyword begins.
@@ -244,19 +231,22 @@ impl Parser<'_> {
         } else if self.eat("match") {
             self.match_()?
         } else if self.eat("while") {
-            Kind::While { condition: self.condition()?, body: self.block()? }
+            let condition = self.with_structs(false, Self::boxed)?;
+            Kind::While { condition, body: self.block()? }
         } else if self.eat("loop") {
-            let forever = Literal { span: start, kind: LiteralKind::Boolean(true) };
+            let forever = self.node(start, LiteralKind::Boolean(true));
             let condition = Box::new(self.node(start, Kind::Literal(forever)));
             Kind::While { condition, body: self.block()? }
         } else if self.eat("for") {
-            let pattern = self.pattern()?;
+            let (pattern, bound) = self.apart(Self::pattern)?;
             self.expect("in")?;
             let value = self.with_structs(false, Self::boxed)?;
-            Kind::For { pattern, value, body: self.block()? }
+            self.scope(|parser| {
+                parser.mentions.extend(bound);
+                Ok(Kind::For { pattern, value, body: parser.block()? })
+            })?
         } else if self.eat("return") {
-            let is_alone = self.is_one_of(&[";", "}", ",", ")"]);
-            Kind::Return(if is_alone { None } else { Some(self.boxed()?) })
+            Kind::Return(self.unless(&[";", "}", ",", ")"], Self::boxed)?)
         } else if self.eat("break") {
             Kind::Break
         } else {
@@ -265,7 +255,8 @@ impl Parser<'_> {
     }
 
     fn if_(&mut self) -> Done<Kind> {
-        let (condition, then) = (self.condition()?, self.block()?);
+        // The block has the names that the condition binds.
+        let (condition, then) = self.scope(|parser| Ok((parser.condition()?, parser.block()?)))?;
         let otherwise = self.after("else", |parser| {
             let start = parser.span();
             let kind = match parser.eat("if") {
@@ -284,9 +275,10 @@ impl Parser<'_> {
             if !parser.eat("let") {
                 return parser.boxed();
             }
-            let pattern = parser.pattern()?;
+            let (pattern, bound) = parser.apart(Self::pattern)?;
             parser.expect("=")?;
             let value = parser.binary(ABOVE_AND)?;
+            parser.mentions.extend(bound);
             let found = Let { pattern, annotation: None, value, otherwise: None };
             Ok(Box::new(parser.node(start, Kind::Let(Box::new(found)))))
         })
@@ -297,7 +289,7 @@ impl Parser<'_> {
         self.expect("{")?;
         let mut arms = Vec::new();
         while !self.eat("}") {
-            let arm = self.with_structs(true, Self::arm)?;
+            let arm = self.scope(Self::arm)?;
             if !self.eat(",") && !self.is("}") && !is_block_like(&arm.body) {
                 return self.refuse("`,` or `}`");
             }
@@ -313,41 +305,48 @@ impl Parser<'_> {
         Ok(Arm { comments, pattern, guard, body: self.statement_expression()? })
     }
 
-    // Reads `matches!(..)` or `write!(..)`. No other macro has a rule.
-    fn call_of_macro(&mut self) -> Done<Kind> {
-        let name = self.name()?;
-        if !matches!(&*name.text, "matches" | "write") {
-            return self.refuse_form(name.span, &format!("the macro `{}`", name.text));
+    // Reads `matches!(VALUE, PATTERN)`. No other macro has a rule.
+    fn matches(&mut self) -> Done<Kind> {
+        if !self.is("matches") {
+            return self.refuse_form(self.span(), &format!("the macro `{}`", self.text()));
         }
+        self.step();
         self.expect("!")?;
         self.expect("(")?;
-        let value = self.with_structs(true, Self::boxed)?;
+        let value = self.boxed()?;
         self.expect(",")?;
-        let kind = if name.text == "matches" {
-            Kind::Matches { value, pattern: self.pattern()? }
-        } else {
-            let format = self.literal()?;
-            if !has_plain_places(&format) {
-                return self.refuse_form(format.span, "this format");
-            }
-            Kind::Write(value)
-        };
+        let pattern = self.pattern()?;
         self.expect(")")?;
-        Ok(kind)
+        Ok(Kind::Matches { value, pattern })
     }
 
-    fn path_or_struct(&mut self) -> Done<Kind> {
-        let path = self.path(false)?;
+    // Reads a path, a call of a function by its path, or a struct.
+    fn name_or_call(&mut self) -> Done<Kind> {
+        let path = self.path(Role::Value)?;
+        if self.is("(") {
+            self.set_role(Role::Callee);
+            return Ok(Kind::Call { function: path, arguments: self.arguments()? });
+        }
         if !(is_capital(&path.last().name.text) && self.takes_structs && self.eat("{")) {
             return Ok(Kind::Path(path));
         }
-        let fields = self.fields_of(Self::expression, |name| Expression {
-            span: name.span,
-            kind: Kind::Path(Path::of(name.clone())),
-        })?;
+        self.set_role(Role::Struct);
+        let fields = self.fields_of(Self::field)?;
         let base = self.after("..", Self::base)?;
         self.expect("}")?;
         Ok(Kind::Struct { path, fields, base })
+    }
+
+    // Reads `NAME: VALUE` or `NAME`.
+    fn field(&mut self) -> Done<(Name, Expression)> {
+        if self.is_ahead(1, ":") {
+            let name = self.name()?;
+            self.step();
+            return Ok((name, self.expression()?));
+        }
+        let start = self.span();
+        let path = self.path(Role::Value)?;
+        Ok((path.last().name.clone(), self.node(start, Kind::Path(path))))
     }
 
     // Reads what gives the other fields: a variable, a constant or `*self`. Rattle need not read more.
@@ -362,23 +361,25 @@ impl Parser<'_> {
     // Reads a block. Items in it have no rule.
     pub(super) fn block(&mut self) -> Done<Block> {
         let start = self.expect("{")?;
-        self.with_structs(true, |parser| {
-            let (mut statements, mut value) = (Vec::new(), None);
-            let mut comments = parser.comments();
-            while !parser.is("}") {
-                let expression = parser.statement()?;
-                if !matches!(expression.kind, Kind::Let(_)) && parser.is("}") {
-                    value = Some(Box::new(expression));
-                } else if parser.eat(";") || is_block_like(&expression) {
-                    statements.push(Statement { comments, expression });
-                    comments = parser.comments();
-                } else {
-                    return parser.refuse("`;`, `}` or an operator");
-                }
+        self.scope(|parser| parser.statements(start))
+    }
+
+    fn statements(&mut self, start: Span) -> Done<Block> {
+        let (mut statements, mut value) = (Vec::new(), None);
+        let mut comments = self.comments();
+        while !self.is("}") {
+            let expression = self.statement()?;
+            if !matches!(expression.kind, Kind::Let(_)) && self.is("}") {
+                value = Some(Box::new(expression));
+            } else if self.eat(";") || is_block_like(&expression) {
+                statements.push(Statement { comments, expression });
+                comments = self.comments();
+            } else {
+                return self.refuse("`;`, `}` or an operator");
             }
-            parser.expect("}")?;
-            Ok(Block { span: parser.since(start), statements, value, comments })
-        })
+        }
+        self.expect("}")?;
+        Ok(Block { span: self.since(start), statements, value, comments })
     }
 
     // Reads a statement without its `;`.
@@ -387,11 +388,12 @@ impl Parser<'_> {
         if !self.eat("let") {
             return self.statement_expression();
         }
-        let pattern = self.pattern()?;
+        let (pattern, bound) = self.apart(Self::pattern)?;
         let annotation = self.after(":", Self::type_)?;
         self.expect("=")?;
         let value = self.expression()?;
         let otherwise = self.after("else", Self::block)?;
+        self.mentions.extend(bound);
         let found = Let { pattern, annotation, value, otherwise };
         Ok(self.node(start, Kind::Let(Box::new(found))))
     }
@@ -414,49 +416,27 @@ fn is_block_like(expression: &Expression) -> bool {
     is_loop || matches!(kind, Kind::Block(_) | Kind::If { .. } | Kind::Match { .. })
 }
 
-// Whether something can be assigned to this.
-fn is_place(expression: &Expression) -> bool {
-    let is_pointed = |operator| operator == UnaryOperator::Dereference;
-    match expression.kind {
-        Kind::Unary { operator, .. } => is_pointed(operator),
-        ref kind => matches!(kind, Kind::Path(_) | Kind::Field { .. } | Kind::Index { .. }),
-    }
-}
-
-// Whether each place of a format is `{NAME}`. Both languages print these alike.
-fn has_plain_places(format: &Literal) -> bool {
-    let LiteralKind::Text(text) = &format.kind else { return false };
-    let text = String::from_utf8_lossy(text);
-    let is_part = |character: char| character.is_ascii_lowercase() || character == '_';
-    let is_plain = |part: &str| match part.split_once('}') {
-        Some((name, rest)) => !name.is_empty() && name.chars().all(is_part) && !rest.contains('}'),
-        None => false,
-    };
-    let (first, places) = text.split_once('{').unwrap_or((&text, ""));
-    !first.contains('}') && (places.is_empty() || places.split('{').all(is_plain))
-}
-
 // Returns an operator between two values, and its level. A higher one binds more tightly.
-fn operator(sign: &str) -> Option<(BinaryOperator, u8)> {
+fn operator(sign: &str) -> Option<(Operator, u8)> {
     Some(match sign {
-        "||" => (BinaryOperator::Or, 1),
-        "&&" => (BinaryOperator::And, 2),
-        "==" => (BinaryOperator::Equal, COMPARISON),
-        "!=" => (BinaryOperator::NotEqual, COMPARISON),
-        "<" => (BinaryOperator::Less, COMPARISON),
-        ">" => (BinaryOperator::Greater, COMPARISON),
-        "<=" => (BinaryOperator::LessOrEqual, COMPARISON),
-        ">=" => (BinaryOperator::GreaterOrEqual, COMPARISON),
-        "|" => (BinaryOperator::BitOr, 4),
-        "^" => (BinaryOperator::BitXor, 5),
-        "&" => (BinaryOperator::BitAnd, 6),
-        "<<" => (BinaryOperator::ShiftLeft, 7),
-        ">>" => (BinaryOperator::ShiftRight, 7),
-        "+" => (BinaryOperator::Add, 8),
-        "-" => (BinaryOperator::Subtract, 8),
-        "*" => (BinaryOperator::Multiply, 9),
-        "/" => (BinaryOperator::Divide, 9),
-        "%" => (BinaryOperator::Remainder, 9),
+        "||" => (Operator::Or, 1),
+        "&&" => (Operator::And, 2),
+        "==" => (Operator::Equal, COMPARISON),
+        "!=" => (Operator::NotEqual, COMPARISON),
+        "<" => (Operator::Less, COMPARISON),
+        ">" => (Operator::Greater, COMPARISON),
+        "<=" => (Operator::LessOrEqual, COMPARISON),
+        ">=" => (Operator::GreaterOrEqual, COMPARISON),
+        "|" => (Operator::BitOr, 4),
+        "^" => (Operator::BitXor, 5),
+        "&" => (Operator::BitAnd, 6),
+        "<<" => (Operator::ShiftLeft, 7),
+        ">>" => (Operator::ShiftRight, 7),
+        "+" => (Operator::Add, 8),
+        "-" => (Operator::Subtract, 8),
+        "*" => (Operator::Multiply, 9),
+        "/" => (Operator::Divide, 9),
+        "%" => (Operator::Remainder, 9),
         _ => return None,
     })
 }

@@ -4,10 +4,7 @@ use super::Parser;
 use crate::lexer::Kind;
 use crate::source::{Done, Span};
 use crate::std_names::{DERIVED, has};
-use crate::tree::{
-    Attribute, AttributeKind, Clause, Field, Function, GenericKind, GenericParameter, Import, Item,
-    ItemKind, Name, Notes, Parameter, Path, Tree, Type, TypeKind, Variant, Visibility,
-};
+use crate::tree::*;
 
 /// The generics of a `fmt`. In Rattle, a formatter has its writer as a type parameter, which Rust leaves out.
 pub const WRITER: &str = "<W: fmt::Write>";
@@ -20,7 +17,7 @@ enum Place {
     Implementation,
 }
 
-impl Parser<'_> {
+impl<'a> Parser<'a> {
     // Reads a whole module. A hint to the prover for all of it may stand between its items.
     pub(super) fn tree(mut self) -> Done<Tree> {
         let mut tree = Tree::default();
@@ -62,39 +59,35 @@ impl Parser<'_> {
     fn attribute(&mut self, start: Span) -> Done<Attribute> {
         self.expect("[")?;
         let name = self.name()?;
-        let has_arguments = self.eat("(");
-        let kind = match (name.text.as_str(), has_arguments) {
+        let kind = match (&*name.text, self.eat("(")) {
             ("inline", false) => AttributeKind::Inline,
-            ("inline", true) if self.eat("always") => AttributeKind::AlwaysInline,
-            ("inline", true) if self.eat("never") => AttributeKind::NeverInline,
             ("cold", false) => AttributeKind::Cold,
-            ("doc", true) if self.eat("hidden") => AttributeKind::Hidden,
-            ("derive", true) => AttributeKind::Derive(self.derived()?),
+            ("inline", true) if self.eat("always") => self.closed(AttributeKind::AlwaysInline)?,
+            ("inline", true) if self.eat("never") => self.closed(AttributeKind::NeverInline)?,
+            ("doc", true) if self.eat("hidden") => self.closed(AttributeKind::Hidden)?,
+            ("derive", true) => AttributeKind::Derive(self.list(")", Self::derived)?),
             ("tactic", true) => self.tactic()?,
             (other, _) => return self.refuse_form(start, &format!("the attribute `{other}`")),
         };
-        if has_arguments {
-            self.expect(")")?;
-        }
         self.expect("]")?;
-        Ok(Attribute { span: self.since(start), kind })
+        Ok(self.node(start, kind))
     }
 
-    fn derived(&mut self) -> Done<Vec<String>> {
-        let mut names = Vec::new();
-        while names.is_empty() || self.eat(",") {
-            if !has(DERIVED, self.text()) {
-                return self.refuse("a trait that Rust derives as Rattle does");
-            }
-            names.push(self.name()?.text);
+    fn closed(&mut self, kind: AttributeKind) -> Done<AttributeKind> {
+        self.expect(")").map(|_| kind)
+    }
+
+    fn derived(&mut self) -> Done<String> {
+        if !has(DERIVED, self.text()) {
+            return self.refuse("a trait that Rust derives as Rattle does");
         }
-        Ok(names)
+        Ok(self.word().text)
     }
 
     // Steps over the arguments of a hint, which are names, paths and lists of them.
     fn tactic(&mut self) -> Done<AttributeKind> {
-        let mut depth = 0;
-        while depth > 0 || !self.is(")") {
+        let mut depth = 1;
+        while depth > 0 {
             match self.text() {
                 "(" => depth += 1,
                 ")" => depth -= 1,
@@ -107,28 +100,50 @@ impl Parser<'_> {
         Ok(AttributeKind::Tactic)
     }
 
-    // Reads nothing, `pub` or `pub(crate)`.
-    fn visibility(&mut self) -> Done<Visibility> {
-        if !self.eat("pub") {
+    // Reads nothing, `pub` or `pub(crate)`. In a trait, only the first has a rule.
+    fn visibility(&mut self, place: Place) -> Done<Visibility> {
+        if place == Place::Trait || !self.eat("pub") {
             return Ok(Visibility::Private);
         }
-        if !self.eat("(") {
-            return Ok(Visibility::Public);
-        }
-        self.expect("crate")?;
-        self.expect(")")?;
-        Ok(Visibility::Crate)
+        let is_narrow = self.after("(", |parser| {
+            parser.expect("crate")?;
+            parser.expect(")")
+        })?;
+        Ok(if is_narrow.is_some() { Visibility::Crate } else { Visibility::Public })
     }
 
     fn item(&mut self, place: Place) -> Done<Item> {
+        let outer = std::mem::take(&mut self.mentions);
         let (notes, start) = (self.notes()?, self.span());
-        let is_of_trait = place == Place::Trait;
-        let visibility = if is_of_trait { Visibility::Private } else { self.visibility()? };
-        let keyword = self.text();
-        let is_known = match keyword {
+        let visibility = self.visibility(place)?;
+        let keyword = self.keyword(place, visibility)?;
+        let name = match keyword {
+            "use" | "impl" => Name { text: String::new(), span: start },
+            "ghost" => self.word(),
+            _ => self.name()?,
+        };
+        let generics = match (keyword, &*name.text) {
+            ("fn", "fmt") => self.writer()?,
+            ("fn" | "impl" | "struct" | "enum" | "trait" | "type", _) => self.generics()?,
+            _ => Vec::new(),
+        };
+        let kind = self.item_kind(keyword, &name.text, place)?;
+        let mentions = std::mem::replace(&mut self.mentions, outer);
+        let span = self.since(start);
+        let item = Item { span, notes, visibility, name, generics, kind, mentions };
+        // Documentation of what becomes a comment would move to the next item.
+        if keyword == "ghost" || keyword == "use" || item.is_model() {
+            self.refuse_notes(&item.notes, start)?;
+        }
+        Ok(item)
+    }
+
+    // Reads the keyword of an item that may stand in this place.
+    fn keyword(&mut self, place: Place, visibility: Visibility) -> Done<&'a str> {
+        let is_known = match self.text() {
             "ghost" => visibility == Visibility::Private,
             "fn" | "const" => true,
-            "type" => !is_of_trait,
+            "type" => place != Place::Trait,
             "use" | "mod" | "static" | "struct" | "enum" | "trait" | "impl" => {
                 place == Place::Module
             }
@@ -140,31 +155,7 @@ impl Parser<'_> {
                 _ => "a function, a constant or a ghost item",
             });
         }
-        self.step();
-        let mut item = Item {
-            span: start,
-            notes,
-            visibility,
-            name: Name { text: String::new(), span: start },
-            generics: Vec::new(),
-            kind: ItemKind::Ghost,
-        };
-        if keyword == "ghost" {
-            self.ghost(place, &mut item)?;
-        } else {
-            if !matches!(keyword, "use" | "impl") {
-                item.name = self.name()?;
-            }
-            item.generics = self.generics_of(keyword, &item.name)?;
-            item.kind = self.item_kind(keyword)?;
-        }
-        item.span = self.since(start);
-        // Documentation of what becomes a comment would move to the next item.
-        let is_ghost = matches!(item.kind, ItemKind::Ghost | ItemKind::GhostUse { .. });
-        if is_ghost || item.is_model() || keyword == "use" {
-            self.refuse_notes(&item.notes, start)?;
-        }
-        Ok(item)
+        Ok(self.source.at(self.step()))
     }
 
     fn refuse_notes(&self, notes: &Notes, item: Span) -> Done<()> {
@@ -172,29 +163,32 @@ impl Parser<'_> {
         if is_noted { self.refuse_form(item, "documentation of this item") } else { Ok(()) }
     }
 
-    fn generics_of(&mut self, keyword: &str, name: &Name) -> Done<Vec<GenericParameter>> {
-        let is_fmt = keyword == "fn" && name.text == "fmt";
-        if is_fmt && !self.source.text[name.span.end..].starts_with(WRITER) {
-            return self.refuse_form(name.span, &format!("a `fmt` without `{WRITER}`"));
+    // Steps over the generics of a `fmt`.
+    fn writer(&mut self) -> Done<Vec<GenericParameter>> {
+        if !self.source.text[self.end..].starts_with(WRITER) {
+            return self.refuse(&format!("`{WRITER}`"));
         }
-        let mut generics = self.generics()?;
-        if is_fmt {
-            generics[0].kind = GenericKind::Type(Vec::new());
+        self.expect("<")?;
+        self.local()?;
+        while !self.eat(">") {
+            self.step();
         }
-        Ok(generics)
+        Ok(Vec::new())
     }
 
     // Reads what follows the name and the generics of an item.
-    fn item_kind(&mut self, keyword: &str) -> Done<ItemKind> {
+    fn item_kind(&mut self, keyword: &str, name: &str, place: Place) -> Done<ItemKind> {
         let kind = match keyword {
             "struct" => return self.struct_(),
             "enum" => return self.enum_(),
-            "fn" => return Ok(ItemKind::Function(self.function()?)),
-            "trait" => {
-                let bounds = self.after(":", Self::bounds)?.unwrap_or_default();
-                return Ok(ItemKind::Trait { bounds, members: self.members(Place::Trait)? });
-            }
+            "fn" => return self.function(),
             "impl" => return self.implementation(),
+            "trait" => {
+                let bound = self.bound()?;
+                return Ok(ItemKind::Trait { bound, members: self.members(Place::Trait)? });
+            }
+            "ghost" if name == "use" => self.ghost_import()?,
+            "ghost" => self.ghost(place)?,
             "use" => ItemKind::Use(self.imports()?),
             "mod" => ItemKind::Module,
             "type" => {
@@ -223,7 +217,8 @@ impl Parser<'_> {
     /// Reads what follows `use`.
     pub fn imports(&mut self) -> Done<Vec<Import>> {
         let mut imports = Vec::new();
-        let head = self.segment_name(true)?;
+        let is_crate = self.is("crate");
+        let head = if is_crate { self.word() } else { self.name()? };
         self.import(vec![head], &mut imports)?;
         Ok(imports)
     }
@@ -254,26 +249,26 @@ impl Parser<'_> {
             return Ok(ItemKind::Struct { fields, ghosts });
         }
         self.expect("{")?;
-        while !self.eat("}") {
-            let (notes, start) = (self.notes()?, self.span());
-            if self.eat("ghost") {
-                self.refuse_notes(&notes, start)?;
-                self.ghost_declaration()?;
-                self.eat(",");
-                ghosts.push(self.since(start));
-                continue;
+        self.list("}", |parser| {
+            let (notes, start) = (parser.notes()?, parser.span());
+            if !parser.eat("ghost") {
+                fields.push(parser.named_field()?);
+                return Ok(());
             }
-            fields.push(self.named_field()?);
-            if !self.eat(",") && !self.is("}") {
-                return self.refuse("`,` or `}`");
-            }
-        }
+            parser.refuse_notes(&notes, start)?;
+            parser.step();
+            parser.ghost(Place::Trait)?;
+            // The comma behind it becomes a comment, too.
+            let end = if parser.is(",") { parser.span().end } else { parser.end };
+            ghosts.push(Span { end, ..start });
+            Ok(())
+        })?;
         Ok(ItemKind::Struct { fields, ghosts })
     }
 
     fn named_field(&mut self) -> Done<Field> {
         self.notes()?;
-        let (visibility, name) = (self.visibility()?, self.name()?);
+        let (visibility, name) = (self.visibility(Place::Module)?, self.name()?);
         self.expect(":")?;
         Ok(Field { visibility, name, annotation: self.type_()? })
     }
@@ -292,64 +287,65 @@ impl Parser<'_> {
         if self.eat("{") {
             return self.list("}", Self::named_field);
         }
-        let mut number = 0..;
-        let fields = self.after("(", |parser| {
-            parser.list(")", |parser| {
-                let annotation = parser.type_()?;
-                let text = number.next().unwrap_or(0).to_string();
-                let name = Name { text, span: annotation.span };
-                Ok(Field { visibility: Visibility::Private, name, annotation })
-            })
-        })?;
-        Ok(fields.unwrap_or_default())
+        let types = self.after("(", |parser| parser.list(")", Self::type_))?.unwrap_or_default();
+        let field = |(number, annotation): (usize, Type)| {
+            let name = Name { text: number.to_string(), span: annotation.span };
+            Field { visibility: Visibility::Private, name, annotation }
+        };
+        Ok(types.into_iter().enumerate().map(field).collect())
     }
 
     fn implementation(&mut self) -> Done<ItemKind> {
         let first = self.type_()?;
-        let (of, target) = match (first.kind, self.after("for", Self::type_)?) {
-            (TypeKind::Path(of), Some(target)) => (Some(of), target),
-            (_, Some(_)) => return self.refuse_form(first.span, "an `impl` of no trait"),
-            (kind, None) => (None, Type { span: first.span, kind }),
+        if !self.eat("for") {
+            let members = self.members(Place::Implementation)?;
+            return Ok(ItemKind::Implementation { of: None, target: first, members });
+        }
+        self.set_role(Role::Trait);
+        let TypeKind::Path(of) = first.kind else {
+            return self.refuse_form(first.span, "an `impl` of no trait");
         };
-        let members = self.members(Place::Implementation)?;
-        Ok(ItemKind::Implementation { of, target, members })
+        let (target, members) = (self.type_()?, self.members(Place::Implementation)?);
+        Ok(ItemKind::Implementation { of: Some(of), target, members })
     }
 
-    fn function(&mut self) -> Done<Function> {
+    fn function(&mut self) -> Done<ItemKind> {
         self.expect("(")?;
         let mut is_first = true;
         let parameters = self.list(")", |parser| {
-            let receiver = if is_first { parser.receiver()? } else { None };
-            is_first = false;
-            if let Some(receiver) = receiver {
-                return Ok(receiver);
-            }
-            let (is_mutable, name) = (parser.eat("mut"), parser.name()?);
-            parser.expect(":")?;
-            Ok(Parameter { name, is_mutable, annotation: parser.type_()? })
+            let is_receiver = std::mem::take(&mut is_first) && parser.is_receiver();
+            if is_receiver { parser.receiver() } else { parser.parameter() }
         })?;
         let output = self.after("->", Self::type_)?;
         let clauses = self.clauses()?;
         let body = if self.eat(";") { None } else { Some(self.block()?) };
-        Ok(Function { parameters, output, clauses, body })
+        Ok(ItemKind::Function(Function { parameters, output, clauses, body }))
     }
 
-    // Reads `self`, `mut self`, `&self` or `&mut self`, if one comes next.
-    fn receiver(&mut self) -> Done<Option<Parameter>> {
-        let after_sign = usize::from(self.is("&"));
-        let after_mut = after_sign + usize::from(self.is_ahead(after_sign, "mut"));
-        if !self.is_ahead(after_mut, "self") {
-            return Ok(None);
-        }
+    fn parameter(&mut self) -> Done<Parameter> {
+        let (is_mutable, name) = (self.eat("mut"), self.name()?);
+        self.expect(":")?;
+        let annotation = self.type_()?;
+        self.mentions.push(Mention::Local(name.clone()));
+        Ok(Parameter { name, is_mutable, annotation })
+    }
+
+    // Whether `self`, `mut self`, `&self` or `&mut self` comes next.
+    fn is_receiver(&self) -> bool {
+        let before = usize::from(self.is("&"));
+        self.is_ahead(before + usize::from(self.is_ahead(before, "mut")), "self")
+    }
+
+    fn receiver(&mut self) -> Done<Parameter> {
         let (is_reference, is_mutable) = (self.eat("&"), self.eat("mut"));
         let name = self.word();
-        let (span, own) = (name.span, Name { text: "Self".into(), span: name.span });
-        let mut kind = TypeKind::Path(Path::of(own));
+        let own = Path::of(Name { text: "Self".into(), span: name.span });
+        let mut annotation = Type { span: name.span, kind: TypeKind::Path(own) };
         if is_reference {
-            kind = TypeKind::Reference { is_mutable, target: Box::new(Type { span, kind }) };
+            let kind = TypeKind::Reference { is_mutable, target: Box::new(annotation) };
+            annotation = Type { span: name.span, kind };
         }
-        let is_mutable = is_mutable && !is_reference;
-        Ok(Some(Parameter { name, is_mutable, annotation: Type { span, kind } }))
+        Ok(Parameter { name, is_mutable: is_mutable && !is_reference, annotation })
     }
 
     // Reads the clauses of a contract.
@@ -375,29 +371,16 @@ impl Parser<'_> {
         Ok(Span { start: start + 1, end: end - 1 })
     }
 
-    // Reads what follows `ghost`. A trait declares such items, an `impl` defines them, and a module only imports
-    // definitions.
-    fn ghost(&mut self, place: Place, item: &mut Item) -> Done<()> {
-        if self.ahead(1).kind == Kind::GhostPath {
-            self.step();
-            item.kind = self.ghost_import()?;
-        } else if place == Place::Trait {
-            self.ghost_declaration()?;
-        } else if place == Place::Implementation {
-            item.name = self.word();
-            self.expect("=")?;
-            self.clause_text()?;
-        } else {
-            return self.refuse("`use`");
-        }
-        self.expect(";").map(|_| ())
-    }
-
-    // Reads `NAME: {..}`.
-    fn ghost_declaration(&mut self) -> Done<()> {
-        self.step();
-        self.expect(":")?;
-        self.clause_text().map(|_| ())
+    // Reads what follows the name of a ghost item. A trait or a struct declares it, an `impl` defines it, and a
+    // module only imports definitions.
+    fn ghost(&mut self, place: Place) -> Done<ItemKind> {
+        self.expect(match place {
+            Place::Module => "use",
+            Place::Trait => ":",
+            Place::Implementation => "=",
+        })?;
+        self.clause_text()?;
+        Ok(ItemKind::Ghost)
     }
 
     // Reads `MODULE.{NAMES}`. A path without braces and `as` have no rule: each name must be seen.

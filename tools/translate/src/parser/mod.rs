@@ -6,9 +6,9 @@ mod types;
 
 pub use items::WRITER;
 
-use crate::lexer::{Kind, Language, Token, lex};
+use crate::lexer::{Kind, Token, lex};
 use crate::source::{Done, Source, Span};
-use crate::tree::{Name, Tree};
+use crate::tree::{Mention, Name, Node, Role, Tree};
 
 // Words that are no names: those of Rust, also for later use, and those of Rattle.
 const KEYWORDS: &[&str] = &[
@@ -22,7 +22,7 @@ const KEYWORDS: &[&str] = &[
 
 /// Reads the tree of a proved source.
 pub fn parse(source: &Source) -> Done<Tree> {
-    Parser::new(source, lex(source, Language::Rattle)?).tree()
+    Parser::new(source)?.tree()
 }
 
 /// A place in the tokens of a source.
@@ -34,12 +34,15 @@ pub struct Parser<'a> {
     end: usize,
     // Whether `NAME {` begins a struct. Otherwise it is a name before a block.
     takes_structs: bool,
+    // The names of the item that is read.
+    mentions: Vec<Mention>,
 }
 
 impl<'a> Parser<'a> {
     /// Begins at the first token. The last token is the end.
-    pub fn new(source: &'a Source, tokens: Vec<Token>) -> Parser<'a> {
-        Parser { source, tokens, at: 0, end: 0, takes_structs: true }
+    pub fn new(source: &'a Source) -> Done<Parser<'a>> {
+        let tokens = lex(source)?;
+        Ok(Parser { source, tokens, at: 0, end: 0, takes_structs: true, mentions: Vec::new() })
     }
 
     // The token after as many others, or the end.
@@ -91,8 +94,7 @@ impl<'a> Parser<'a> {
         is_next
     }
 
-    // Steps over a sign if it comes next, also as the first half of a symbol: `>` of `>>`, `&` of `&&`, `|`
-    // of `||`.
+    // Steps over a sign if it comes next, also as the first half of a symbol: `>` of `>>`, `&` of `&&`.
     fn eat_sign(&mut self, sign: &str) -> bool {
         let is_half = self.kind() == Kind::Symbol && self.text() == sign.repeat(2);
         if is_half {
@@ -125,6 +127,11 @@ impl<'a> Parser<'a> {
     // What was read from `start` on.
     fn since(&self, start: Span) -> Span {
         Span { start: start.start, end: self.end }
+    }
+
+    // Makes a part of the tree of what was read from `start` on.
+    fn node<K>(&self, start: Span, kind: K) -> Node<K> {
+        Node { span: self.since(start), kind }
     }
 
     // Whether a name that is no keyword comes next.
@@ -162,16 +169,64 @@ impl<'a> Parser<'a> {
         if self.eat(text) { read(self).map(Some) } else { Ok(None) }
     }
 
+    // Reads something that may be left out before one of these keywords or symbols.
+    fn unless<T>(&mut self, ends: &[&str], read: fn(&mut Self) -> Done<T>) -> Done<Option<T>> {
+        if self.is_one_of(ends) { Ok(None) } else { read(self).map(Some) }
+    }
+
     // Reads what has commas between it, up to a sign.
     fn list<T>(&mut self, end: &str, mut item: impl FnMut(&mut Self) -> Done<T>) -> Done<Vec<T>> {
-        let mut items = Vec::new();
-        while !self.eat_sign(end) {
-            items.push(item(self)?);
-            if !self.eat(",") && !self.text().starts_with(end) {
-                return self.refuse(&format!("`,` or `{end}`"));
+        self.with_structs(true, |parser| {
+            let mut items = Vec::new();
+            while !parser.eat_sign(end) {
+                items.push(item(parser)?);
+                if !parser.eat(",") && !parser.text().starts_with(end) {
+                    return parser.refuse(&format!("`,` or `{end}`"));
+                }
             }
+            Ok(items)
+        })
+    }
+
+    // Reads something in which `NAME {` begins a struct or not.
+    fn with_structs<T>(
+        &mut self,
+        takes_structs: bool,
+        read: impl FnOnce(&mut Self) -> Done<T>,
+    ) -> Done<T> {
+        let before = std::mem::replace(&mut self.takes_structs, takes_structs);
+        let value = read(self);
+        self.takes_structs = before;
+        value
+    }
+
+    // Reads something that has a scope of local names, and braces around what is not its condition.
+    fn scope<T>(&mut self, read: impl FnOnce(&mut Self) -> Done<T>) -> Done<T> {
+        self.mentions.push(Mention::Enter);
+        let value = self.with_structs(true, read)?;
+        self.mentions.push(Mention::Leave);
+        Ok(value)
+    }
+
+    // Reads something, and returns the names in it apart: Rust reads them later.
+    fn apart<T>(&mut self, read: fn(&mut Self) -> Done<T>) -> Done<(T, Vec<Mention>)> {
+        let before = std::mem::take(&mut self.mentions);
+        let value = read(self)?;
+        Ok((value, std::mem::replace(&mut self.mentions, before)))
+    }
+
+    // Reads the name of a variable or a parameter.
+    fn local(&mut self) -> Done<Name> {
+        let name = self.name()?;
+        self.mentions.push(Mention::Local(name.clone()));
+        Ok(name)
+    }
+
+    // Says what the path stands for that was read last.
+    fn set_role(&mut self, role: Role) {
+        if let Some(Mention::Path(_, last)) = self.mentions.last_mut() {
+            *last = role;
         }
-        Ok(items)
     }
 }
 

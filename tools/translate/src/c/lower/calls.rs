@@ -341,7 +341,7 @@ impl Lowering<'_> {
     fn chunk(&mut self, slice: Term, operation: Operation, call: &MethodCall) -> Done<Value> {
         let length = match call.generics.as_slice() {
             [GenericArgument::Constant(literal)] => match literal.kind {
-                LiteralKind::Integer { value, .. } => value,
+                LiteralKind::Integer(value) => value,
                 _ => return self.no_method(),
             },
             _ => return self.refuse("the number of bytes is not written"),

@@ -2,7 +2,6 @@
 
 use super::{Branch, Done, Lowering, Target, Value, Wanted};
 use crate::c::ir::{Operation, Shape, Statement, Term, TermKind, Type};
-use crate::c::world::integer;
 use crate::tree::{
     self, BinaryOperator, Expression, ExpressionKind, Literal, LiteralKind, Name, Path, TypeKind,
     UnaryOperator,
@@ -91,13 +90,11 @@ impl Lowering<'_> {
             LiteralKind::Text(bytes) | LiteralKind::ByteText(bytes) => {
                 (TermKind::Text(bytes.clone()), Type::slice(Type::BYTE, false))
             }
-            LiteralKind::Integer { value, suffix } => {
-                let suffix = suffix.as_ref().and_then(|it| integer(it));
+            LiteralKind::Integer(value) => {
                 let wanted = wanted.map(|it| self.known(it));
                 let wanted = wanted.filter(|it| matches!(it, Type::Integer(_)));
-                let of = suffix.or(wanted).unwrap_or_else(|| self.fresh(true));
+                let of = wanted.unwrap_or_else(|| self.fresh(true));
                 let digits = self.source.at(literal.span).strip_prefix("0x").unwrap_or_default();
-                let digits = digits.split(['u', 'i']).next().unwrap_or_default();
                 let hexadecimal = digits.chars().filter(|it| *it != '_').count();
                 (TermKind::Number { value: *value, hexadecimal }, of)
             }
