@@ -113,10 +113,9 @@ pub use proved::atoi_simd::{
 /// [readme]: https://docs.rs/crate/torkettle/latest
 /// [recipes]: crate::recipes
 /// [cut]: crate::recipes#a-buffer-that-ends-within-a-number
-/// [one digit]: crate::recipes#text-in-which-most-numbers-have-one-digit
 /// [error recipes]: crate::recipes#errors-for--anyhow-and-serde
-/// [rows]: crate::recipes#a-row-with-a-fixed-number-of-cells
-/// [spaces]: crate::recipes#several-spaces-between-columns
+/// [spaces]: crate::recipes#spaces-blank-cells-and-several-separators
+/// [differences]: https://docs.rs/crate/torkettle/latest/source/docs/DIFFERENCES.md
 /// [threads]: https://docs.rs/crate/torkettle/latest/source/rust/examples/threads.rs
 ///
 #[cfg_attr(all(doc, not(doctest)), doc = include_str!("../../docs/GUIDE.md"))]
@@ -126,6 +125,7 @@ pub mod guide {}
 ///
 /// [guide]: crate::guide
 /// [lanes]: crate::guide#lanes
+/// [rejected]: https://docs.rs/crate/torkettle/latest/source/docs/DECISIONS.md
 ///
 #[cfg_attr(all(doc, not(doctest)), doc = include_str!("../../docs/RECIPES.md"))]
 pub mod recipes {}
@@ -143,6 +143,7 @@ pub mod recipes {}
 /// [flags]: crate::guide#choose-the-flags
 /// [functions]: crate::guide#parse-a-number
 /// [lanes]: crate::guide#lanes
+/// [readme]: https://docs.rs/crate/torkettle/latest
 ///
 #[cfg_attr(all(doc, not(doctest)), doc = include_str!("../../docs/SPECIFICATION.md"))]
 pub mod specification {}

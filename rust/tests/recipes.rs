@@ -1,10 +1,9 @@
 //! The recipes of docs/RECIPES.md, and what they return for more texts than the page shows.
 
 use std::num::{IntErrorKind, NonZero, ParseFloatError, ParseIntError, Wrapping};
-use torkettle::column::Fields;
 use torkettle::formats::{canonical, digits_then, fixed_width};
 use torkettle::{
-    AtoiSimdError, IntError, Parse, from_ascii, from_ascii_prefix, parse, parse_pos, parse_prefix,
+    AtoiSimdError, IntError, from_ascii, from_ascii_prefix, parse, parse_pos, parse_prefix,
 };
 
 #[test]
@@ -148,28 +147,6 @@ fn amounts_with_two_digits_after_the_point() {
 }
 
 #[test]
-fn the_greatest_number_in_place_of_one_out_of_range() {
-    fn seconds(text: &[u8]) -> Result<u32, IntError> {
-        let only_digits = text.iter().all(u8::is_ascii_digit);
-        match from_ascii(text) {
-            Err(error) if error.kind() == IntErrorKind::PosOverflow && only_digits => Ok(u32::MAX),
-            result => result,
-        }
-    }
-
-    assert_eq!(seconds(b"99999999999"), Ok(u32::MAX));
-    assert!(seconds(b"99999999999s").is_err());
-
-    for text in ["0", "4294967294", "4294967295", "4294967296"] {
-        let expected = text.parse::<u64>().unwrap().min(u32::MAX.into());
-        assert_eq!(seconds(text.as_bytes()).map(u64::from), Ok(expected));
-    }
-    for text in ["", "-1", "-99999999999", "x", "9 "] {
-        assert!(seconds(text.as_bytes()).is_err(), "{text:?}");
-    }
-}
-
-#[test]
 fn errors_for_anyhow() {
     // In place of `anyhow::Error`, which has the same conversion.
     #[derive(Debug)]
@@ -218,33 +195,6 @@ fn errors_for_serde() {
 }
 
 #[test]
-fn a_text_for_users() {
-    fn reason(text: &[u8], error: AtoiSimdError<'_>) -> String {
-        match (error, error.offset_in(text)) {
-            (AtoiSimdError::Empty, _) => "no digit".to_string(),
-            (AtoiSimdError::Invalid64(..) | AtoiSimdError::Invalid128(..), Some(offset)) => {
-                format!("unexpected byte at byte {offset}")
-            }
-            _ => "number out of range".to_string(),
-        }
-    }
-
-    let text = b"-12x";
-    let error = parse::<i32, true, true>(text).unwrap_err();
-    assert_eq!(reason(text, error), "unexpected byte at byte 3");
-
-    fn check<T: Parse + std::fmt::Debug>(text: &[u8], expected: &str) {
-        let error = parse::<T, true, true>(text).map(drop).unwrap_err();
-        assert_eq!(reason(text, error), expected);
-    }
-    check::<u8>(b"", "no digit");
-    check::<u8>(b"-5", "no digit");
-    check::<u8>(b"0256", "number out of range");
-    check::<u64>(b"99999999999999999999999", "number out of range");
-    check::<i128>(b"-00000000000000000000000007 ", "unexpected byte at byte 27");
-}
-
-#[test]
 fn errors_of_std() {
     fn parse_as_std(text: &str) -> Result<u32, ParseIntError> {
         parse::<u32, true, true>(text.as_bytes()).or_else(|_| text.parse())
@@ -252,49 +202,6 @@ fn errors_of_std() {
 
     for text in ["7", "+7", "", "-", "4294967296", "7 "] {
         assert_eq!(parse_as_std(text), text.parse());
-    }
-}
-
-#[test]
-fn a_text_that_moves() {
-    struct Port {
-        number: u16,
-        text: Vec<u8>,
-    }
-
-    fn port(text: Vec<u8>) -> Option<Port> {
-        let number = parse::<u16, true, true>(&text).ok()?;
-        Some(Port { number, text })
-    }
-
-    let found = port(b"8080".to_vec()).unwrap();
-    assert_eq!((found.number, &found.text[..]), (8080, &b"8080"[..]));
-    assert!(port(b"80x".to_vec()).is_none());
-    // The error of `from_ascii` does not borrow, so here the text can move at once.
-    let text = b"8080".to_vec();
-    let found = from_ascii(&text).map(|number| Port { number, text }).unwrap();
-    assert_eq!((found.number, &found.text[..]), (8080, &b"8080"[..]));
-}
-
-#[test]
-fn a_fixed_width_of_a_short_text() {
-    // Reads a status such as 404. `Ok(None)` asks for more input.
-    fn status(text: &[u8]) -> Result<Option<(u16, &[u8])>, &'static str> {
-        match fixed_width(text, 3) {
-            Some(found) => Ok(Some(found)),
-            None if text.len() < 3 && text.iter().all(u8::is_ascii_digit) => Ok(None),
-            None => Err("no three digits"),
-        }
-    }
-
-    assert_eq!(status(b"404 Not Found"), Ok(Some((404, &b" Not Found"[..]))));
-    assert_eq!(status(b"40"), Ok(None));
-
-    for text in [&b""[..], b"4"] {
-        assert_eq!(status(text), Ok(None));
-    }
-    for text in [&b"x"[..], b"4x", b"40x", b"-40", b" 404"] {
-        assert_eq!(status(text), Err("no three digits"));
     }
 }
 
@@ -317,17 +224,22 @@ fn types_of_std_around_an_integer() {
 }
 
 #[test]
-fn a_row_with_a_fixed_number_of_cells() {
-    // Returns the numbers of a row such as `1,2,3`. The row `1,2,` has three cells, of which the last is empty.
-    fn row(line: &[u8]) -> Option<[u32; 3]> {
-        let mut fields = Fields::new(line, b',');
-        let row = [fields.next()?.ok()?, fields.next()?.ok()?, fields.next()?.ok()?];
-        (fields.next().is_none() && !line.ends_with(b",")).then_some(row)
+fn cells_of_which_some_are_blank() {
+    // Returns the cells of a row such as `1, ,-3`. A blank cell is `None`.
+    fn cells(row: &[u8]) -> Result<Vec<Option<i64>>, IntError> {
+        let cell = |text: &[u8]| match text.trim_ascii() {
+            [] => Ok(None),
+            text => from_ascii(text).map(Some),
+        };
+        row.split(|byte| matches!(byte, b',' | b';')).map(cell).collect()
     }
 
-    assert_eq!(row(b"1,2,3"), Some([1, 2, 3]));
-    for line in [&b"1,2"[..], b"1,2,", b",2,3", b"1,2,3,", b"1,2,3,4", b"1,2,x"] {
-        assert_eq!(row(line), None);
+    assert_eq!(cells(b"1, ;-3"), Ok(vec![Some(1), None, Some(-3)]));
+
+    assert_eq!(cells(b"1,2,"), Ok(vec![Some(1), Some(2), None]));
+    assert_eq!(cells(b""), Ok(vec![None]));
+    for row in [&b"1,x"[..], b"1 2", b"1,-", b"1,\0,2"] {
+        assert!(cells(row).is_err());
     }
 }
 
