@@ -125,7 +125,6 @@ pub mod guide {}
 ///
 /// [guide]: crate::guide
 /// [lanes]: crate::guide#lanes
-/// [rejected]: https://docs.rs/crate/torkettle/latest/source/docs/DECISIONS.md
 ///
 #[cfg_attr(all(doc, not(doctest)), doc = include_str!("../../docs/RECIPES.md"))]
 pub mod recipes {}

@@ -1,10 +1,8 @@
 //! The recipes of docs/RECIPES.md, and what they return for more texts than the page shows.
 
-use std::num::{IntErrorKind, NonZero, ParseFloatError, ParseIntError, Wrapping};
+use std::num::{IntErrorKind, NonZero, ParseFloatError, ParseIntError};
 use torkettle::formats::{canonical, digits_then, fixed_width};
-use torkettle::{
-    AtoiSimdError, IntError, from_ascii, from_ascii_prefix, parse, parse_pos, parse_prefix,
-};
+use torkettle::{IntError, from_ascii, from_ascii_prefix, parse_pos};
 
 #[test]
 fn a_buffer_that_ends_within_a_number() {
@@ -197,7 +195,7 @@ fn errors_for_serde() {
 #[test]
 fn errors_of_std() {
     fn parse_as_std(text: &str) -> Result<u32, ParseIntError> {
-        parse::<u32, true, true>(text.as_bytes()).or_else(|_| text.parse())
+        from_ascii(text.as_bytes()).or_else(|_| text.parse())
     }
 
     for text in ["7", "+7", "", "-", "4294967296", "7 "] {
@@ -211,12 +209,7 @@ fn types_of_std_around_an_integer() {
         from_ascii(text).ok().and_then(NonZero::new)
     }
 
-    fn checksum(text: &[u8]) -> Result<Wrapping<u32>, IntError> {
-        from_ascii(text).map(Wrapping)
-    }
-
     assert_eq!(workers(b"8"), NonZero::new(8));
-    assert_eq!(checksum(b"8"), Ok(Wrapping(8)));
 
     for text in ["0", "+8", "-1", "x", "", "4294967295", "4294967296"] {
         assert_eq!(workers(text.as_bytes()), text.parse().ok(), "{text:?}");
@@ -241,22 +234,4 @@ fn cells_of_which_some_are_blank() {
     for row in [&b"1,x"[..], b"1 2", b"1,-", b"1,\0,2"] {
         assert!(cells(row).is_err());
     }
-}
-
-#[test]
-fn a_number_at_the_start_by_a_test_for_one_digit() {
-    fn number_at(text: &[u8]) -> Result<(u32, usize), AtoiSimdError<'_>> {
-        match text {
-            [digit @ b'0'..=b'9', next, ..] if !next.is_ascii_digit() => {
-                Ok((u32::from(digit - b'0'), 1))
-            }
-            _ => parse_prefix::<u32, true, true>(text),
-        }
-    }
-
-    for text in ["7,8", "70,8", "7", "+7,", "4294967295;", "0,", "x", "", "7x"] {
-        let text = text.as_bytes();
-        assert_eq!(number_at(text), parse_prefix::<u32, true, true>(text));
-    }
-    assert_eq!(number_at(b"9 "), Ok((9, 1)));
 }
