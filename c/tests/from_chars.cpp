@@ -1,6 +1,6 @@
 // Compares torkettle::from_chars, torkettle::parse, torkettle::canonical and torkettle::json_integer with
-// std::from_chars, for each integer type: every text of at most two bytes, and generated texts. Compares other bases
-// and types, which std::from_chars reads.
+// std::from_chars, for each integer type and, of from_chars, for what it leaves to that. Each text ends where memory ends
+// that may be read. Tests what of the header has to compile, and what must not.
 //
 //     from_chars [TEXTS]
 #include "texts.hpp"
@@ -10,11 +10,14 @@
 #include <cstdint>
 #include <cstdio>
 #include <cstdlib>
+#include <memory>
 #include <string>
 #include <string_view>
 #include <type_traits>
 #include <utility>
-#include <vector>
+#if __cplusplus >= 202002L
+#include <ranges>
+#endif
 
 namespace {
 
@@ -22,6 +25,13 @@ std::uint64_t calls = 0;
 std::uint64_t accepted = 0;
 std::uint64_t out_of_range = 0;
 std::uint64_t differences = 0;
+
+void require(bool is_right, const char *what, std::string_view text)
+{
+    calls++;
+    if (!is_right && differences++ < 10)
+        std::fprintf(stderr, "%s differs for \"%.*s\"\n", what, static_cast<int>(text.size()), text.data());
+}
 
 // The length of the number that a text begins with in JSON, without a fraction and an exponent, or 0.
 std::size_t json_length(std::string_view text)
@@ -49,20 +59,7 @@ bool is_json(std::string_view text)
            found->second.size() == text.size() - length;
 }
 
-// What canonical returns: the number, if std::to_chars writes the text for it.
-template <class T>
-bool is_canonical(std::string_view text)
-{
-    const std::optional<T> found = torkettle::canonical<T>(text);
-    T value = 77;
-    char printed[64];
-    const std::from_chars_result read = std::from_chars(text.data(), text.data() + text.size(), value);
-    const std::to_chars_result written = std::to_chars(printed, printed + sizeof printed, value);
-    const std::string_view again(printed, static_cast<std::size_t>(written.ptr - printed));
-    return read.ec == std::errc() && text == again ? found == value : !found.has_value();
-}
-
-// Whether torkettle::from_chars does what std::from_chars does, with a base, a format or nothing more.
+// Whether from_chars does what std::from_chars does, with a base, a format or nothing more.
 template <class T, class... More>
 bool is_same_call(std::string_view text, More... more)
 {
@@ -78,27 +75,24 @@ bool is_same_call(std::string_view text, More... more)
 template <class T>
 void compare(std::string_view text, const char *type)
 {
-    const char *const first = text.data();
-    const char *const last = first + text.size();
-    T ours = 77, theirs = 77;
-    const torkettle::from_chars_result left = torkettle::from_chars(first, last, ours);
-    const std::from_chars_result right = std::from_chars(first, last, theirs);
-    const std::optional<T> whole = torkettle::parse<T>(text);
-    const bool is_whole = right.ec == std::errc() && right.ptr == last;
-    const int base = static_cast<int>(2 + calls / 16 % 35);
-    calls++;
-    accepted += right.ec == std::errc();
-    out_of_range += right.ec == std::errc::result_out_of_range;
-    if (left.ptr != right.ptr || left.ec != right.ec || ours != theirs || whole.has_value() != is_whole ||
-        (is_whole && *whole != theirs) || !is_canonical<T>(text) || !is_json<T>(text) || !is_same_call<T>(text, 10) ||
-        !is_same_call<T>(text, base)) {
-        if (differences++ < 10)
-            std::fprintf(stderr, "%s differs for \"%.*s\"\n", type, static_cast<int>(text.size()), first);
-    }
+    char printed[64];
+    T value = 77;
+    const std::from_chars_result read = std::from_chars(text.data(), text.data() + text.size(), value);
+    const bool is_whole = read.ec == std::errc() && read.ptr == text.data() + text.size();
+    const std::to_chars_result written = std::to_chars(printed, printed + sizeof printed, value);
+    const bool is_canonical = text == std::string_view(printed, static_cast<std::size_t>(written.ptr - printed));
+    const std::optional<T> number(value);
+    accepted += read.ec == std::errc();
+    out_of_range += read.ec == std::errc::result_out_of_range;
+    require(is_same_call<T>(text) && is_same_call<T>(text, 10) && is_same_call<T>(text, int(2 + calls / 16 % 35)) &&
+                torkettle::parse<T>(text) == (is_whole ? number : std::nullopt) &&
+                torkettle::canonical<T>(text) == (is_whole && is_canonical ? number : std::nullopt) && is_json<T>(text),
+            type, text);
 }
 
-void compare_all(std::string_view text)
+void compare_all(const std::string &all)
 {
+    const std::string_view text = placed(all);
     compare<char>(text, "char");
     compare<signed char>(text, "signed char");
     compare<unsigned char>(text, "unsigned char");
@@ -110,7 +104,6 @@ void compare_all(std::string_view text)
     compare<unsigned long>(text, "unsigned long");
     compare<long long>(text, "long long");
     compare<unsigned long long>(text, "unsigned long long");
-    compare<std::size_t>(text, "size_t");
     // In strict C++, the library of gcc has no from_chars for 128 bits.
 #if defined(__GLIBCXX_TYPE_INT_N_0) && defined(__SIZEOF_INT128__)
     compare<torkettle_i128>(text, "__int128");
@@ -118,58 +111,81 @@ void compare_all(std::string_view text)
 #endif
 }
 
-// Every text of at most two bytes.
+// Every text of at most two bytes, and every one of at most seven of four bytes, of which `0` is a digit by its place.
+// The latter also before others, where from_chars reads words.
 void compare_short_texts()
 {
-    for (std::size_t length = 0; length <= 2; length++) {
-        std::vector<char> exact(length);
-        for (std::size_t number = 0; number < std::size_t(1) << (8 * length); number++) {
-            for (std::size_t at = 0; at < length; at++)
-                exact[at] = static_cast<char>(number >> (8 * at));
-            compare_all({exact.data(), length});
-        }
+    compare_all("");
+    for (unsigned number = 0; number < 256 + 65536; number++) {
+        const char bytes[] = {static_cast<char>(number), static_cast<char>((number >> 8) - 1)};
+        compare_all(std::string(bytes, number < 256 ? 1 : 2));
+    }
+    for (unsigned number = 0; number < 4 * 4 * 4 * 4 * 4 * 4 * 4; number++) {
+        std::string text;
+        for (unsigned rest = number; text.size() < 7; rest /= 4)
+            text += rest % 4 == 0 ? static_cast<char>('1' + text.size()) : "0-x\xff"[rest % 4];
+        compare_all(text.substr(number % 8));
+        compare_all(text + ",77777777777777777");
+        compare_all(std::string("192837465019283746").substr(number % 19) + text);
     }
 }
 
-// Letters are digits of larger bases.
-void compare_bases()
+// Every number of so many digits, with bytes behind it.
+void compare_all_numbers(unsigned digits)
 {
-    for (const char *const text :
-         {"", "-", "0", "-0", "7f,", "-7G", "ZZ", "zz ", "0x10", "101012", "+11", "ffffffffffffffffff"}) {
-        for (int base = 2; base <= 36; base++) {
-            const bool are_same = is_same_call<int>(text, base) && is_same_call<unsigned char>(text, base) &&
-                                  is_same_call<long long>(text, base) && is_same_call<unsigned long>(text, base);
-            calls++;
-            if (!are_same && differences++ < 10)
-                std::fprintf(stderr, "base %d differs for \"%s\"\n", base, text);
-        }
-    }
+    std::string all = std::string(digits, '0') + ",777777777777777";
+    const std::string_view text = placed(all);
+    char *const to = const_cast<char *>(text.data());
+    const auto next = [&] {
+        unsigned at = digits;
+        while (at > 0 && to[at - 1] == '9')
+            to[--at] = '0';
+        if (at > 0)
+            to[at - 1]++;
+        return at > 0;
+    };
+    int number = 0, value = -1;
+    do {
+        const char *const end = torkettle::from_chars(to, to + text.size(), value).ptr;
+        require(end == to + digits && value == number, "a number", text);
+    } while (number++, next());
+}
+
+// Letters are digits of larger bases, and functions for other types call std::from_chars.
+template <class T>
+bool is_same_floating(std::string_view text);
+
+void compare_others()
+{
+    for (const char *const text : {"", "-", "0", "7f,", "-7G", "ZZ", "0x10", "101012", "+11", "ffffffffffffffffff"})
+        for (int base = 2; base <= 36; base++)
+            require(is_same_call<int>(text, base) && is_same_call<unsigned char>(text, base) &&
+                        is_same_call<long long>(text, base) && is_same_call<unsigned long>(text, base),
+                    "another base", text);
+    for (const char *const text : {"", "-", "1.5", "-1.5e3x", "1e", "0x1p4", "1.8p-1", "inf", "nan", "1e99999", ".5"})
+        require(is_same_floating<float>(text) && is_same_floating<double>(text) && is_same_floating<long double>(text),
+                "floating point", text);
 }
 
 // Whether a call of each from_chars compiles, with a base, a format or nothing more.
 template <class, class T, class... More>
 struct is_taken : std::false_type {
 };
-
 template <class T, class... More>
 struct is_taken<
     std::void_t<decltype(torkettle::from_chars(nullptr, nullptr, std::declval<T &>(), std::declval<More>()...))>, T,
     More...> : std::true_type {
 };
-
 template <class, class T, class... More>
 struct is_taken_by_std : std::false_type {
 };
-
 template <class T, class... More>
 struct is_taken_by_std<
     std::void_t<decltype(std::from_chars(nullptr, nullptr, std::declval<T &>(), std::declval<More>()...))>, T, More...>
     : std::true_type {
 };
-
 template <class T, class... More>
 constexpr bool takes_what_std_takes = is_taken<void, T, More...>() == is_taken_by_std<void, T, More...>();
-
 template <class... Types>
 constexpr bool takes_types_of_std = ((takes_what_std_takes<Types> && takes_what_std_takes<Types, int> &&
                                       takes_what_std_takes<Types, std::chars_format> &&
@@ -187,26 +203,6 @@ static_assert(takes_types_of_std<volatile bool, volatile wchar_t, volatile char1
 static_assert(takes_types_of_std<char8_t, volatile char8_t>);
 #endif
 
-// A function of std::from_chars has a base, which its callers may leave out, but not those of a pointer to it.
-template <class T>
-using function = std::from_chars_result (*)(const char *, const char *, T &, int);
-
-void compare_functions()
-{
-    const function<int> of_int = torkettle::from_chars;
-    const function<unsigned long long> of_long = &torkettle::from_chars;
-    int value = 0;
-    unsigned long long long_value = 0;
-    const char text[] = "12";
-    calls++;
-    if (of_int(text, text + 2, value, 10).ptr != text + 2 || value != 12 ||
-        of_long(text, text + 2, long_value, 8).ptr != text + 2 || long_value != 10) {
-        differences++;
-        std::fprintf(stderr, "a pointer to a function differs\n");
-    }
-}
-
-// Floating point, where the library has it.
 template <class T>
 bool is_same_floating(std::string_view text)
 {
@@ -217,41 +213,103 @@ bool is_same_floating(std::string_view text)
         return true;
 }
 
-void compare_floating()
+// A function of std::from_chars has a base, which its callers may leave out, but not those of a pointer to it.
+void call_by_pointer()
 {
-    for (const char *const text :
-         {"", "-", "1.5", "-1.5e3x", "1e", "0x1p4", "1.8p-1", "inf", "nan", "1e99999", ".5", "5."}) {
-        calls++;
-        if (!(is_same_floating<float>(text) && is_same_floating<double>(text) && is_same_floating<long double>(text)) &&
-            differences++ < 10)
-            std::fprintf(stderr, "floating point differs for \"%s\"\n", text);
+    std::from_chars_result (*const of_int)(const char *, const char *, int &, int) = torkettle::from_chars;
+    std::from_chars_result (*const of_long)(const char *, const char *, long &, int) = &torkettle::from_chars;
+    int value = 0;
+    long long_value = 0;
+    const std::string_view text = "12";
+    require(of_int(text.data(), text.data() + 2, value, 10).ptr == text.data() + 2 && value == 12 &&
+                of_long(text.data(), text.data() + 2, long_value, 8).ptr == text.data() + 2 && long_value == 10,
+            "a pointer to from_chars", text);
+}
+
+// A separator that may be a part of a number has one item, an error.
+void read_refused_separators()
+{
+    for (const char separator : std::string_view("0123456789+-")) {
+        std::size_t items = 0;
+        const char text[] = {'1', separator, '2', separator};
+        for (const auto &item : torkettle::fields<int>({text, sizeof text}, separator))
+            items += !item.value && item.error == std::errc::invalid_argument && item.index == SIZE_MAX ? 1 : 10;
+        require(items == 1, "a separator", {text, sizeof text});
     }
 }
+
+// The types that are not those of torkettle.h, an algorithm, and a view, whose iterator reads one item more.
+void read_ranges()
+{
+    long long longs[] = {0, 0};
+    char chars[] = {0, 0};
+    require(torkettle::fields<long long>("-5,6", ',').read(longs, 2) == 2 && longs[0] == -5 && longs[1] == 6, "read",
+            "-5,6");
+    require(torkettle::column<char>("5,6", ',').read(chars, 2) == 2 && chars[0] == 5 && chars[1] == 6, "read", "5,6");
+    torkettle::fields<int> fields("0,1,x,3,4", ',');
+    const auto end = fields.end();
+    auto at = fields.begin();
+    while (at != end && at->value)
+        at++;
+    require(at->index == 2 && (*at++).index == 2 && at->index == 3, "an iterator after an error", "0,1,x,3,4");
+#if __cplusplus >= 202002L && (!defined(__clang__) || __clang_major__ > 15)
+    torkettle::fields<int> some("0,1,2,3,4", ',');
+    int sum = 0;
+    for (const auto &item : some | std::views::take(2))
+        sum += *item.value;
+    require(sum == 1 && some.next_index() == 3 && *some.begin()->value == 3, "a view", "0,1,2,3,4");
+    static_assert(std::ranges::input_range<torkettle::fields<int>> && std::ranges::input_range<torkettle::column<char>>);
+#endif
+}
+
+struct OtherAllocator : std::allocator<char> {
+    template <class>
+    struct rebind {
+        using other = OtherAllocator;
+    };
+};
+
+using Iterator = torkettle::fields<int>::iterator;
+static_assert(std::is_same_v<std::iterator_traits<Iterator>::iterator_category, std::input_iterator_tag>);
+static_assert(std::is_same_v<std::iterator_traits<Iterator>::value_type, torkettle::item<int>>);
+static_assert(std::is_nothrow_copy_constructible_v<Iterator> && std::is_nothrow_copy_assignable_v<Iterator>);
+
+// A string that ends before the range is refused, and one that stays is not.
+template <class String, class = void>
+struct has_lines : std::false_type {
+};
+template <class String>
+struct has_lines<String, std::void_t<decltype(torkettle::lines<int>(std::declval<String>()))>> : std::true_type {
+};
+using OtherString = std::basic_string<char, std::char_traits<char>, OtherAllocator>;
+template <class String>
+constexpr bool is_range = std::is_constructible_v<torkettle::fields<int>, String, char> &&has_lines<String>::value;
+template <class String>
+constexpr bool is_refused = !std::is_constructible_v<torkettle::column<int>, String, char> && !has_lines<String>::value;
+
+static_assert(is_range<std::string &> && is_range<const std::string &> && is_range<OtherString &>);
+static_assert(is_range<std::string_view> && is_range<const char *> && is_range<const char (&)[3]>);
+static_assert(is_refused<std::string> && is_refused<const std::string> && is_refused<OtherString>);
 
 } // namespace
 
 int main(int count, char **arguments)
 {
-    const unsigned long texts = count > 1 ? std::strtoul(arguments[1], nullptr, 10) : 20000000;
+    const unsigned long texts = count > 1 ? std::strtoul(arguments[1], nullptr, 10) : 2000000;
     Random random;
     compare_short_texts();
-    compare_bases();
-    compare_floating();
-    compare_functions();
+    for (unsigned digits = 1; digits <= (texts > 1000000 ? 7 : 4); digits++)
+        compare_all_numbers(digits);
+    compare_others();
+    call_by_pointer();
+    read_refused_separators();
+    read_ranges();
     // Few of these are numbers. The other texts are counted.
     calls = accepted = out_of_range = 0;
-    std::string text;
-    for (unsigned long number = 0; number < texts; number++) {
-        generate(random, text);
-        // Long texts go on after their number, and the header reads a short number there.
-        if (number % 2 == 0)
-            text += ",0123456789012345";
-        // A vector of its size, so that nothing belongs to the text behind it.
-        const std::vector<char> exact(text.begin(), text.end());
-        compare_all({exact.data(), exact.size()});
-    }
-    std::printf("%lu texts, %llu calls: %llu numbers, %llu out of range, %llu differ\n", texts,
-                static_cast<unsigned long long>(calls), static_cast<unsigned long long>(accepted),
-                static_cast<unsigned long long>(out_of_range), static_cast<unsigned long long>(differences));
+    for (unsigned long number = 0; number < texts; number++)
+        compare_all(random_text(random) + (number % 2 == 0 ? "" : ",0123456789012345"));
+    const auto print = [](std::uint64_t value) { return static_cast<unsigned long long>(value); };
+    std::printf("%lu texts, %llu calls: %llu numbers, %llu out of range, %llu differ\n", texts, print(calls),
+                print(accepted), print(out_of_range), print(differences));
     return differences > 0 || accepted < calls / 10 || out_of_range < calls / 100;
 }

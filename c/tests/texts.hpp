@@ -1,14 +1,23 @@
-// Random texts for the tests: numbers near the bounds of each type, and what is almost a number.
+// Random texts for the tests: numbers near the bounds of each type, what is almost a number, and columns of both.
 #ifndef TEXTS_HPP
 #define TEXTS_HPP
 
 #include <cstddef>
 #include <cstdint>
+#include <cstring>
 #include <string>
+#include <string_view>
+#if __has_include(<sys/mman.h>)
+#include <sys/mman.h>
+#endif
 
 // xorshift64*: the same texts in each run.
 class Random {
 public:
+    explicit Random(std::uint64_t seed = 0) : state(0x9E3779B97F4A7C15u + seed)
+    {
+    }
+
     std::uint64_t next()
     {
         state ^= state >> 12;
@@ -22,34 +31,33 @@ public:
         return static_cast<unsigned>((next() >> 32) * bound >> 32);
     }
 
+    char digit()
+    {
+        return static_cast<char>('0' + below(10));
+    }
+
+    template <class T, std::size_t count>
+    T of(const T (&values)[count])
+    {
+        return values[below(count)];
+    }
+
 private:
-    std::uint64_t state = 0x9E3779B97F4A7C15u;
+    std::uint64_t state;
 };
 
-// The last number in range and the first out of range, for each width and sign.
+// The last number in range and the first out of range, for each width and sign, and where words end.
 const char *const bounds[] = {
-    "127",
-    "128",
-    "255",
-    "32767",
-    "32768",
-    "65535",
-    "2147483647",
-    "2147483648",
-    "4294967295",
-    "9223372036854775807",
-    "9223372036854775808",
-    "18446744073709551615",
-    "170141183460469231731687303715884105727",
-    "170141183460469231731687303715884105728",
-    "340282366920938463463374607431768211455",
-};
+    "127", "128", "255", "32767", "32768", "65535", "2147483647", "2147483648", "4294967295", "99999999",
+    "9999999999999999", "9223372036854775807", "9223372036854775808", "18446744073709551615",
+    "170141183460469231731687303715884105727", "170141183460469231731687303715884105728",
+    "340282366920938463463374607431768211455", "999999999999999999999999999999999999999"};
 
 // Adds a small number to the decimal number in `digits`, or subtracts it.
 inline void move(std::string &digits, int by)
 {
     for (std::size_t at = digits.size(); at > 0 && by != 0; at--) {
-        int digit = digits[at - 1] - '0' + by;
+        const int digit = digits[at - 1] - '0' + by;
         by = digit < 0 ? -1 : digit / 10;
         digits[at - 1] = static_cast<char>('0' + (digit + 10) % 10);
     }
@@ -57,35 +65,83 @@ inline void move(std::string &digits, int by)
         digits.insert(digits.begin(), '1');
 }
 
-inline void add_digits(Random &random, std::string &text)
+inline std::string random_digits(Random &random)
 {
+    std::string digits;
     if (random.below(3) == 0) {
-        std::string digits = bounds[random.below(sizeof bounds / sizeof *bounds)];
+        digits = random.of(bounds);
         move(digits, static_cast<int>(random.below(7)) - 3);
-        text += digits;
-        return;
+        return digits;
     }
     const unsigned most[] = {3, 5, 9, 20, 45};
-    for (unsigned count = random.below(most[random.below(5)] + 1); count > 0; count--)
-        text += static_cast<char>('0' + random.below(10));
+    for (unsigned count = random.below(random.of(most) + 1); count > 0; count--)
+        digits += random.digit();
+    return digits;
+}
+
+// A byte that is no digit, or looks like one to code that reads words.
+inline char odd_byte(Random &random)
+{
+    const char odd[] = "\0\x10/:+-,. eE\n\r\x46\x76\x7F\x80\xB0\xB9\xC6\xD0\xFA\xFB\xFC\xFD\xFE\xFF";
+    return random.below(2) == 0 ? odd[random.below(sizeof odd - 1)] : static_cast<char>(random.below(256));
 }
 
 // Any of: a sign, zeros, digits, and what is behind them.
-inline void generate(Random &random, std::string &text)
+inline std::string random_text(Random &random)
 {
-    text.clear();
     const char *const signs[] = {"", "", "", "", "-", "-", "-", "+", "--", "-+", " ", "\t"};
-    text += signs[random.below(12)];
+    const char *const junk[] = {"", "", "", "", "x", ",", "-", "+", ".5", " 7", "e", "E3", "\n", ",0123456789012345"};
+    std::string text = random.of(signs);
     if (random.below(4) == 0)
         text.append(random.below(random.below(4) == 0 ? 70 : 9), '0');
-    add_digits(random, text);
-    const char *const junk[] = {"",   "",   "",  "",  "x", ",",  "-",  "+",
-                                ".5", " 7", "/", ":", "e", "E3", "\n", ",123456789012345678"};
-    text += junk[random.below(16)];
+    text += random_digits(random) + random.of(junk);
     if (random.below(8) == 0)
-        text += static_cast<char>(random.below(256));
-    if (random.below(50) == 0 && !text.empty())
-        text[random.below(static_cast<unsigned>(text.size()))] = static_cast<char>(random.below(256));
+        text += odd_byte(random);
+    if (random.below(8) == 0 && !text.empty())
+        text[random.below(static_cast<unsigned>(text.size()))] = odd_byte(random);
+    return text;
+}
+
+// A column of about so many bytes. Most of its fields have at most `most` digits. In many columns, all of these have
+// equally many, which `_read` reads faster.
+inline std::string random_column(Random &random, char separator, bool has_returns, std::size_t bytes, unsigned most)
+{
+    const unsigned rates[] = {2, 20, 60, 1000000};
+    const unsigned rate = random.of(rates), width = 1 + random.below(random.below(3) == 0 ? 2 : most);
+    const bool is_even = random.below(2) == 0, has_minus = random.below(3) == 0;
+    std::string text;
+    while (text.size() < bytes) {
+        if (random.below(rate) == 0)
+            text += random_text(random);
+        else if (random.below(4) == 0)
+            text += has_minus ? "-" : random.below(20) == 0 ? "+0" : "";
+        for (unsigned digits = is_even ? width : 1 + random.below(width); digits > 0; digits--)
+            text += random.digit();
+        text += has_returns && random.below(50) != 0 ? "\r" : "";
+        text += separator;
+    }
+    if (!text.empty() && random.below(2) == 0)
+        text.pop_back();
+    return text;
+}
+
+// Copies a text to where the memory ends, or begins, that may be read, if the system has such a place.
+inline std::string_view placed(const std::string &text, bool at_end = true)
+{
+    constexpr std::size_t size = 1 << 18;
+#ifdef PROT_NONE
+    static char *const memory = [] {
+        void *const all = mmap(nullptr, 3 * size, PROT_NONE, MAP_PRIVATE | MAP_ANONYMOUS, -1, 0);
+        char *const middle = static_cast<char *>(all) + size;
+        return all != MAP_FAILED && mprotect(middle, size, PROT_READ | PROT_WRITE) == 0 ? middle : nullptr;
+    }();
+#else
+    static char memory[size];
+#endif
+    char *const to = memory + (at_end ? size - text.size() : 0);
+    if (!text.empty())
+        std::memcpy(to, text.data(), text.size());
+    return {to, text.size()};
 }
 
 #endif

@@ -1,8 +1,7 @@
 //! What the Rust of the package returns, as rows of numbers that `compare.cpp` compares with those of C.
-#![allow(improper_ctypes_definitions)]
 
 use std::slice::{from_raw_parts, from_raw_parts_mut};
-use torkettle::column::{FieldError, Fields, is_separator};
+use torkettle::column::{Column, ColumnError, FieldError, Fields};
 use torkettle::formats::{canonical, json_integer};
 use torkettle::{AtoiSimdError, Parse};
 
@@ -12,184 +11,168 @@ struct Row<'a> {
     count: usize,
 }
 
+/// What `torkettle_status` an error has.
+fn status_of(error: &AtoiSimdError<'_>) -> u64 {
+    match error {
+        AtoiSimdError::Empty => 1,
+        AtoiSimdError::Size(..) => 2,
+        AtoiSimdError::Overflow(..) => 3,
+        AtoiSimdError::Invalid64(..) | AtoiSimdError::Invalid128(..) => 4,
+    }
+}
+
 impl Row<'_> {
-    fn push(&mut self, number: u64) {
-        self.numbers[self.count] = number;
-        self.count += 1;
+    fn push(&mut self, numbers: &[u64]) {
+        self.numbers[self.count..][..numbers.len()].copy_from_slice(numbers);
+        self.count += numbers.len();
     }
 
-    fn push_all(&mut self, numbers: &[u64]) {
-        numbers.iter().for_each(|number| self.push(*number));
-    }
-
-    fn value<T: Parse>(&mut self, value: T) {
+    fn number<T: Parse>(&mut self, value: T) {
         let (minus, magnitude) = value.parts();
         let bits = if minus { magnitude.wrapping_neg() } else { magnitude };
-        self.push(bits as u64);
-        self.push((bits >> 64) as u64);
+        self.push(&[bits as u64, (bits >> 64) as u64]);
     }
 
+    /// A number with its length, or a status.
+    fn found<T: Parse>(&mut self, found: Result<(T, usize), u64>) {
+        match found {
+            Ok((value, count)) => {
+                self.push(&[0, count as u64]);
+                self.number(value);
+            }
+            Err(status) => self.push(&[status]),
+        }
+    }
+
+    /// The members of a `torkettle_error` after the status, and its message.
     fn error(&mut self, error: AtoiSimdError<'_>, text: &[u8]) {
-        let slice = match error {
-            AtoiSimdError::Empty => {
-                self.push(1);
-                text
-            }
-            AtoiSimdError::Size(count, slice) => {
-                self.push(2);
-                self.push(count as u64);
-                slice
-            }
-            AtoiSimdError::Overflow(slice) => {
-                self.push(3);
-                slice
-            }
-            AtoiSimdError::Invalid64(value, count, slice) => {
-                self.push_all(&[4, value, count as u64]);
-                slice
-            }
-            AtoiSimdError::Invalid128(value, count, slice) => {
-                self.push_all(&[5, value as u64, (value >> 64) as u64, count as u64]);
-                slice
-            }
+        let (bits, count, value, rest) = match error {
+            AtoiSimdError::Empty => (0, 0, 0, text),
+            AtoiSimdError::Size(count, rest) => (0, count, 0, rest),
+            AtoiSimdError::Overflow(rest) => (0, 0, 0, rest),
+            AtoiSimdError::Invalid64(value, count, rest) => (64, count, u128::from(value), rest),
+            AtoiSimdError::Invalid128(value, count, rest) => (128, count, value, rest),
         };
-        self.push((text.len() - slice.len()) as u64);
-    }
-
-    // What can be asked of an error.
-    fn explained(&mut self, error: AtoiSimdError<'_>, text: &[u8]) {
-        self.error(error, text);
+        let offset = (text.len() - rest.len()) as u64;
+        let (low, high) = (value as u64, (value >> 64) as u64);
         let mut out = [0; 400];
         let length = error.text(&mut out);
-        let sum =
-            out[..length].iter().fold(0u64, |sum, byte| sum.wrapping_mul(31) + u64::from(*byte));
-        self.push(length as u64);
-        self.push(sum);
+        let hashed = |sum: u64, byte: &u8| sum.wrapping_mul(31) + u64::from(*byte);
+        let sum = out[..length].iter().fold(0, hashed);
+        self.push(&[bits, offset, count as u64, low, high, length as u64, sum]);
     }
 
-    fn whole<T: Parse>(&mut self, answer: Result<T, AtoiSimdError<'_>>, text: &[u8]) {
-        self.prefix(answer.map(|value| (value, text.len())), text);
-    }
-
-    fn prefix<T: Parse>(&mut self, answer: Result<(T, usize), AtoiSimdError<'_>>, text: &[u8]) {
+    /// A number or a status, and what can be asked of the error, which is that of no error for a number.
+    fn answer<T: Parse>(&mut self, answer: Result<(T, usize), AtoiSimdError<'_>>, text: &[u8]) {
+        self.found(answer.map_err(|error| status_of(&error)));
         match answer {
-            Ok((value, count)) => {
-                self.push(0);
-                self.value(value);
-                self.push(count as u64);
-            }
-            Err(error) => self.explained(error, text),
+            Ok(_) => self.push(&[0; 7]),
+            Err(error) => self.error(error, text),
         }
-    }
-
-    fn item<T: Parse>(&mut self, item: Result<T, FieldError<'_>>, text: &[u8]) {
-        match item {
-            Ok(value) => {
-                self.push(1);
-                self.value(value);
-            }
-            Err(error) => {
-                self.push(2);
-                self.push(error.index as u64);
-                self.push(error.place as u64);
-                self.push((error.text.as_ptr() as usize - text.as_ptr() as usize) as u64);
-                self.push(error.text.len() as u64);
-                self.error(error.cause, error.text);
-            }
-        }
-    }
-
-    fn position<T: Parse>(&mut self, fields: &Fields<'_, T>) {
-        let (index, place) = fields.position();
-        self.push(index as u64);
-        self.push(place as u64);
     }
 }
 
-fn parses<T: Parse>(text: &[u8], flags: u32, row: &mut Row<'_>) {
-    let (zeroes, plus) = (flags & 1 != 0, flags & 2 != 0);
-    row.whole(T::atoi_simd_parse(text, zeroes, plus), text);
-    row.prefix(T::atoi_simd_parse_prefix(text, zeroes, plus), text);
-    row.whole(T::atoi_simd_parse_pos(text, zeroes), text);
-    row.prefix(T::atoi_simd_parse_prefix_pos(text, zeroes), text);
-    match canonical::<T>(text) {
-        Some(value) => row.value(value),
-        None => row.push(u64::MAX),
-    }
-    match json_integer::<T>(text) {
-        Some((value, rest)) => {
-            row.value(value);
-            row.push(rest.len() as u64);
-        }
-        None => row.push(u64::MAX),
-    }
+fn parses<T: Parse>(row: &mut Row<'_>, text: &[u8], flags: u32) {
+    let (zeroes, plus, length) = (flags & 1 != 0, flags & 2 != 0, text.len());
+    row.answer(T::atoi_simd_parse(text, zeroes, plus).map(|value| (value, length)), text);
+    row.answer(T::atoi_simd_parse_prefix(text, zeroes, plus), text);
+    let whole = T::atoi_simd_parse_pos(text, zeroes).map(|value| (value, length));
+    row.found(whole.map_err(|error| status_of(&error)));
+    let prefix = T::atoi_simd_parse_prefix_pos(text, zeroes);
+    row.found(prefix.map_err(|error| status_of(&error)));
+    row.found(canonical::<T>(text).map(|value| (value, length)).ok_or(1));
+    row.found(json_integer::<T>(text).map(|(value, rest)| (value, length - rest.len())).ok_or(1));
 }
 
-// Items one by one, and then numbers by `read`, with an item behind each.
-fn fields<T: Parse + Default>(
-    text: &[u8],
-    separator: u8,
-    lines: bool,
-    want: usize,
-    row: &mut Row<'_>,
-) {
+fn fields<T: Parse>(row: &mut Row<'_>, text: &[u8], separator: u8, lines: bool, later: bool) {
     let all = if lines { Fields::<T>::lines(text) } else { Fields::<T>::new(text, separator) };
-    let mut left = all.clone();
-    row.position(&left);
-    while let Some(item) = left.next() {
-        row.item(item, text);
-        row.position(&left);
-    }
-    let mut left = all;
+    let mut fields = if later { all.starting_at(7, 1000) } else { all };
     loop {
-        let mut values: Vec<T> = (0..want).map(|_| T::default()).collect();
-        let read = left.read(&mut values);
-        row.push(read as u64);
-        for value in values {
-            row.value(value);
+        let (index, place) = Fields::position(&fields);
+        match fields.next() {
+            Some(Ok(value)) => {
+                row.push(&[0, index as u64, place as u64]);
+                row.number(value);
+            }
+            Some(Err(FieldError { index, place, text: field, cause })) => {
+                let start = field.as_ptr() as u64 - text.as_ptr() as u64;
+                let status = status_of(&cause);
+                row.push(&[status, index as u64, place as u64, start, field.len() as u64]);
+            }
+            None => return row.push(&[index as u64, place as u64]),
         }
-        row.position(&left);
-        let Some(item) = left.next() else { break };
-        row.item(item, text);
     }
 }
 
-macro_rules! oracles {
-    ($($type:ident $parses:literal $fields:literal)*) => {
-        $(const _: () = {
-            #[unsafe(export_name = $parses)]
-            unsafe extern "C" fn parses_of(text: *const u8, length: usize, flags: u32, out: *mut u64) -> usize {
-                let text = unsafe { from_raw_parts(text, length) };
-                let mut row = Row { numbers: unsafe { from_raw_parts_mut(out, 256) }, count: 0 };
-                parses::<$type>(text, flags, &mut row);
-                row.count
+fn column<T: Parse>(row: &mut Row<'_>, text: &[u8], separator: u8) {
+    for item in Column::<T>::new(text, separator) {
+        match item {
+            Ok(value) => row.number(value),
+            Err(ColumnError::Field { index, place, cause }) => {
+                row.push(&[status_of(&cause), index as u64, place as u64]);
             }
+            Err(ColumnError::Trailing { index, place }) => {
+                row.push(&[4, index as u64, place as u64]);
+            }
+        }
+    }
+}
 
-            #[unsafe(export_name = $fields)]
-            unsafe extern "C" fn fields_of(
-                text: *const u8, length: usize, separator: u8, lines: bool, want: usize, out: *mut u64, size: usize,
-            ) -> usize {
-                let text = unsafe { from_raw_parts(text, length) };
-                let mut row = Row { numbers: unsafe { from_raw_parts_mut(out, size) }, count: 0 };
-                if !is_separator(separator) {
-                    return 0;
-                }
-                fields::<$type>(text, separator, lines, want, &mut row);
-                row.count
-            }
-        };)*
+/// Calls a generic function for a type, of which C knows the place in this list.
+macro_rules! with_type {
+    ($kind:ident, $function:ident($($argument:expr),*)) => {
+        match $kind {
+            0 => $function::<i8>($($argument),*),
+            1 => $function::<u8>($($argument),*),
+            2 => $function::<i16>($($argument),*),
+            3 => $function::<u16>($($argument),*),
+            4 => $function::<i32>($($argument),*),
+            5 => $function::<u32>($($argument),*),
+            6 => $function::<i64>($($argument),*),
+            7 => $function::<u64>($($argument),*),
+            8 => $function::<i128>($($argument),*),
+            _ => $function::<u128>($($argument),*),
+        }
     };
 }
 
-oracles! {
-    i8 "oracle_parses_i8" "oracle_fields_i8"
-    u8 "oracle_parses_u8" "oracle_fields_u8"
-    i16 "oracle_parses_i16" "oracle_fields_i16"
-    u16 "oracle_parses_u16" "oracle_fields_u16"
-    i32 "oracle_parses_i32" "oracle_fields_i32"
-    u32 "oracle_parses_u32" "oracle_fields_u32"
-    i64 "oracle_parses_i64" "oracle_fields_i64"
-    u64 "oracle_parses_u64" "oracle_fields_u64"
-    i128 "oracle_parses_i128" "oracle_fields_i128"
-    u128 "oracle_parses_u128" "oracle_fields_u128"
+/// Arguments of C: the number of a type, a text, and the array to which the row is written.
+#[repr(C)]
+pub struct Call {
+    kind: u32,
+    text: *const u8,
+    length: usize,
+    out: *mut u64,
+    size: usize,
+}
+
+impl Call {
+    fn text(&self) -> &[u8] {
+        unsafe { from_raw_parts(self.text, self.length) }
+    }
+
+    fn row(&self) -> Row<'_> {
+        Row { numbers: unsafe { from_raw_parts_mut(self.out, self.size) }, count: 0 }
+    }
+}
+
+#[unsafe(no_mangle)]
+extern "C" fn oracle_parses(call: &Call, flags: u32) -> usize {
+    let (kind, mut row) = (call.kind, call.row());
+    with_type!(kind, parses(&mut row, call.text(), flags));
+    row.count
+}
+
+#[unsafe(no_mangle)]
+extern "C" fn oracle_fields(call: &Call, separator: u8, lines: bool, later: bool) -> usize {
+    let (kind, mut row) = (call.kind, call.row());
+    with_type!(kind, fields(&mut row, call.text(), separator, lines, later));
+    row.count
+}
+
+#[unsafe(no_mangle)]
+extern "C" fn oracle_column(call: &Call, separator: u8) -> usize {
+    let (kind, mut row) = (call.kind, call.row());
+    with_type!(kind, column(&mut row, call.text(), separator));
+    row.count
 }

@@ -1,0 +1,231 @@
+// Reads a column in every way that there is in C and C++: each has to give what `_next` gives, and that Rust.
+#ifndef COLUMNS_HPP
+#define COLUMNS_HPP
+
+#include "test.hpp"
+#include "torkettle.hpp"
+
+// The items of a text as fields: what one call of `_next` says, and where the field begins.
+template <class T>
+struct Expected {
+    torkettle_status status;
+    T value;
+    size_t index;
+    size_t offset;
+    std::string_view text;
+};
+
+template <class C>
+class Columns {
+public:
+    using T = typename C::type;
+
+    Columns(Test &under_test, Random &numbers, bool are_lines) : test(under_test), random(numbers), lines(are_lines)
+    {
+    }
+
+    void run()
+    {
+        fields_by_next();
+        for (const size_t count : {0u, 1u, 2u, 7u, 64u, 100000u})
+            fields_by_read(count);
+        ranges();
+        if (lines)
+            return;
+        for (const size_t count : {0u, 1u, 3u, 100000u})
+            column(count);
+        column_range();
+    }
+
+private:
+    typename C::fields start() const
+    {
+        typename C::fields fields;
+        if (lines)
+            C::fields_lines(&fields, test.text.data(), test.text.size());
+        else
+            C::fields_init(&fields, test.text.data(), test.text.size(), static_cast<char>(test.option));
+        return fields;
+    }
+
+    // Reads all fields, and compares them with those of Rust. Sometimes they are counted from another start.
+    void fields_by_next()
+    {
+        typename C::fields fields = start();
+        const bool starts_later = random.below(2) == 0;
+        if (starts_later)
+            C::starting_at(&fields, 7, 1000);
+        T value = 99;
+        for (size_t index = fields.next_index, offset = fields.next_offset; C::fields_next(&fields, &value);
+             index = fields.next_index, offset = fields.next_offset, value = 99) {
+            const bool is_good = fields.status == TORKETTLE_OK;
+            const std::string_view text = is_good ? std::string_view() : std::string_view(fields.text, fields.length);
+            test.require(is_good || (value == 99 && fields.index == index && fields.offset == offset), "a bad field");
+            test.push({static_cast<uint64_t>(fields.status), index, offset});
+            if (is_good)
+                test.push_number(value);
+            else
+                test.push({static_cast<uint64_t>(text.data() - test.text.data()), text.size()});
+            expected.push_back({fields.status, value, expected.size(), offset - (starts_later ? 1000 : 0), text});
+        }
+        test.require(value == 99 && fields.status == TORKETTLE_OK, "the end of fields");
+        test.push({fields.next_index, fields.next_offset});
+        test.compare("fields", oracle_fields, static_cast<char>(test.option), lines, starts_later);
+    }
+
+    // Whether what a call wrote at `values`, which had `count` elements of 99, are the numbers from `index` on.
+    void require_numbers(size_t index, const std::vector<T> &values, size_t read) const
+    {
+        for (size_t at = 0; at < read; at++)
+            test.require(is_number(index + at) && expected[index + at].value == values[at], "a number of _read");
+        for (size_t at = read; at < values.size(); at++)
+            test.require(values[at] == 99, "what _read writes");
+    }
+
+    bool is_number(size_t index) const
+    {
+        return index < expected.size() && expected[index].status == TORKETTLE_OK;
+    }
+
+    size_t offset_of(size_t index) const
+    {
+        return index < expected.size() ? expected[index].offset : test.text.size();
+    }
+
+    void fields_by_read(size_t count) const
+    {
+        typename C::fields fields = start();
+        size_t index = 0, read;
+        do {
+            // An element behind those that may be written, and none where nothing may be.
+            std::vector<T> values(count > 0 ? std::min(count, expected.size() + 1) + 1 : 0, 99);
+            read = C::fields_read(&fields, values.data(), count);
+            require_numbers(index, values, read);
+            test.require(read <= count, "the count of _read");
+            index += read;
+            if (fields.status != TORKETTLE_OK) {
+                test.require(index < expected.size() && read < count, "an error of _read");
+                const Expected<T> &bad = expected[index++];
+                test.require(fields.status == bad.status && fields.index == bad.index && fields.offset == bad.offset &&
+                                 fields.text == bad.text.data() && fields.length == bad.text.size(),
+                             "the error of _read");
+            } else {
+                test.require(read == count || index == expected.size(), "the end of _read");
+            }
+            test.require(fields.next_index == index && fields.next_offset == offset_of(index), "a position");
+        } while (read > 0 || fields.status != TORKETTLE_OK);
+        test.require(count == 0 || index == expected.size(), "the number of fields");
+    }
+
+    void require_item(const torkettle::item<T> &item, size_t index) const
+    {
+        test.require(index < expected.size(), "an item after the last");
+        const Expected<T> &field = expected[index];
+        const bool is_large = field.status == TORKETTLE_SIZE || field.status == TORKETTLE_OVERFLOW;
+        const bool is_good = field.status == TORKETTLE_OK;
+        const std::errc error = is_large ? std::errc::result_out_of_range : std::errc::invalid_argument;
+        test.require(item.index == index && item.offset == field.offset && item.text == field.text &&
+                         item.value == (is_good ? std::optional<T>(field.value) : std::nullopt) &&
+                         item.error == (is_good ? std::errc() : error),
+                     "an item");
+    }
+
+    // One range is read by calls of every kind in turn, two iterators and a copy among them.
+    void ranges() const
+    {
+        using Fields = torkettle::fields<T>;
+        Fields range = lines ? torkettle::lines<T>(test.text) : Fields(test.text, static_cast<char>(test.option));
+        typename Fields::iterator iterators[2];
+        torkettle::item<T> item;
+        size_t index = 0;
+        for (bool has_error = false; index < expected.size();) {
+            const size_t before = index;
+            auto &iterator = iterators[random.below(2)];
+            std::vector<T> values(random.below(20), 99);
+            switch (random.below(5)) {
+            case 0:
+                test.require(range.next(item), "next");
+                require_item(item, index++);
+                break;
+            case 1:
+                iterator = range.begin();
+                require_item(*iterator, index++);
+                break;
+            case 2:
+                if (iterator == range.end())
+                    break;
+                require_item(*++iterator, index++);
+                break;
+            case 3: {
+                const size_t read = range.read(values.data(), values.size());
+                require_numbers(index, values, read);
+                index += read;
+                has_error = read < values.size() && index < expected.size();
+                index += has_error;
+                break;
+            }
+            default: {
+                Fields copy = range.starting_at(index + 3, 5);
+                test.require(copy.next(item), "next of a copy");
+                item.index -= 3;
+                item.offset += offset_of(index) - 5;
+                require_item(item, index);
+            }
+            }
+            has_error = index > before ? !is_number(index - 1) : has_error;
+            test.require(range.next_index() == index && range.next_offset() == offset_of(index), "a range's position");
+            test.require(range.error_item().has_value() == has_error, "whether there is an error_item");
+            if (has_error)
+                require_item(*range.error_item(), index - 1);
+        }
+        test.require(range.begin() == range.end() && !range.next(item) && range.next_index() == index, "a range's end");
+    }
+
+    size_t first_bad() const
+    {
+        size_t index = 0;
+        while (is_number(index))
+            index++;
+        return index;
+    }
+
+    // Reads the column by `_next` if `count` is 0, and otherwise so many numbers a call.
+    void column(size_t count)
+    {
+        const size_t numbers = first_bad();
+        typename C::column column;
+        C::column_init(&column, test.text.data(), test.text.size(), static_cast<char>(test.option));
+        test.row.clear();
+        for (size_t index = 0, read = 1; read > 0 || index < numbers; index += read) {
+            std::vector<T> values(std::min(count, numbers) + 1, 99);
+            read = count > 0 ? C::column_read(&column, values.data(), count) : C::column_next(&column, &values[0]);
+            require_numbers(index, values, read);
+            test.require(read == std::min(count > 0 ? count : 1, numbers - index), "the count of a column");
+            for (size_t at = 0; at < read; at++)
+                test.push_number(values[at]);
+        }
+        if (column.status != TORKETTLE_OK)
+            test.push({static_cast<uint64_t>(column.status), column.index, column.offset});
+        test.compare("a column", oracle_column, static_cast<char>(test.option));
+    }
+
+    void column_range() const
+    {
+        torkettle::column<T> items(test.text, static_cast<char>(test.option)), numbers = items;
+        size_t index = 0;
+        for (const auto &item : items)
+            require_item(item, index++);
+        test.require(index == std::min(first_bad() + 1, expected.size()), "the number of items of a column");
+        std::vector<T> values(expected.size() + 1, 99);
+        require_numbers(0, values, numbers.read(values.data(), values.size()));
+        test.require(numbers.error_item().has_value() == (first_bad() < expected.size()), "the error of a column");
+        test.require(numbers.read(values.data(), 1) == 0 && !numbers.error_item(), "the end of a column");
+    }
+
+    Test &test;
+    Random &random;
+    bool lines;
+    std::vector<Expected<T>> expected = {};
+};
+
+#endif

@@ -1,0 +1,108 @@
+// One text under test, and the row of numbers that its calls give, which the Rust of the package has to give too.
+#ifndef TEST_HPP
+#define TEST_HPP
+
+#include "../texts.hpp"
+#include "torkettle.h"
+
+#include <algorithm>
+#include <cstdio>
+#include <cstdlib>
+#include <initializer_list>
+#include <vector>
+
+// What `oracle.rs` calls by the same name: the number of a type, a text, and where it writes a row of numbers.
+struct Call {
+    unsigned type;
+    const char *text;
+    size_t length;
+    uint64_t *out;
+    size_t size;
+};
+
+#ifdef NO_RUST
+constexpr size_t (*oracle_parses)(const Call *, unsigned) = nullptr;
+constexpr size_t (*oracle_fields)(const Call *, char, bool, bool) = nullptr;
+constexpr size_t (*oracle_column)(const Call *, char) = nullptr;
+#else
+extern "C" size_t oracle_parses(const Call *, unsigned flags);
+extern "C" size_t oracle_fields(const Call *, char separator, bool lines, bool starts_later);
+extern "C" size_t oracle_column(const Call *, char separator);
+#endif
+
+struct Test {
+    const char *type;
+    unsigned number;
+    std::string_view text;
+    // The flags of a parse, or the separator of a column.
+    unsigned option;
+    std::vector<uint64_t> row = {};
+
+    // Ends the program with a message unless this is so.
+    void require(bool is_right, const char *what) const
+    {
+        if (is_right)
+            return;
+        std::printf("%s of %s differs, flags or separator %u: ", what, type, option);
+        for (const char byte : text)
+            std::printf(byte > 32 && byte < 127 ? "%c" : "\\x%02x", static_cast<unsigned char>(byte));
+        std::printf("\n");
+        std::exit(1);
+    }
+
+    void push(std::initializer_list<uint64_t> numbers)
+    {
+        row.insert(row.end(), numbers);
+    }
+
+    template <class T>
+    void push_number(T value)
+    {
+        push({static_cast<uint64_t>(value), static_cast<uint64_t>(value >> 31 >> 31 >> 2)});
+    }
+
+    // Compares the row with that of Rust, if it is here.
+    template <class... Arguments>
+    void compare(const char *what, size_t (*oracle)(const Call *, Arguments...), Arguments... arguments) const
+    {
+        static std::vector<uint64_t> other(1 << 20);
+        const Call call = {number, text.data(), text.size(), other.data(), other.size()};
+        if (oracle == nullptr)
+            return;
+        const size_t count = oracle(&call, arguments...);
+        require(row.size() == count && std::equal(row.begin(), row.end(), other.begin()), what);
+    }
+};
+
+// A function that may have to be inlined, of which a pointer could not be.
+#define CALL(as, function) static constexpr auto as = [](auto... arguments) { return function(arguments...); };
+
+// The functions of torkettle.h for a type.
+#define CALLS(name, number)                                                                                            \
+    struct calls_##name {                                                                                              \
+        using type = number;                                                                                           \
+        using fields = torkettle_fields_##name;                                                                        \
+        using column = torkettle_column_##name;                                                                        \
+        CALL(parse, torkettle_parse_##name)                                                                            \
+        CALL(called_parse, torkettle_called_parse_##name)                                                              \
+        CALL(parse_prefix, torkettle_parse_prefix_##name)                                                              \
+        CALL(called_prefix, torkettle_called_parse_prefix_##name)                                                      \
+        CALL(whole, torkettle_whole_##name)                                                                            \
+        CALL(prefix, torkettle_prefix_##name)                                                                          \
+        CALL(pos, torkettle_parse_pos_##name)                                                                          \
+        CALL(prefix_pos, torkettle_parse_prefix_pos_##name)                                                            \
+        CALL(parse_error, torkettle_parse_error_##name)                                                                \
+        CALL(prefix_error, torkettle_parse_prefix_error_##name)                                                        \
+        CALL(canonical, torkettle_canonical_##name)                                                                    \
+        CALL(json, torkettle_json_integer_##name)                                                                      \
+        CALL(fields_init, torkettle_fields_##name##_init)                                                              \
+        CALL(fields_lines, torkettle_fields_##name##_init_lines)                                                       \
+        CALL(starting_at, torkettle_fields_##name##_starting_at)                                                       \
+        CALL(fields_next, torkettle_fields_##name##_next)                                                              \
+        CALL(fields_read, torkettle_fields_##name##_read)                                                              \
+        CALL(column_init, torkettle_column_##name##_init)                                                              \
+        CALL(column_next, torkettle_column_##name##_next)                                                              \
+        CALL(column_read, torkettle_column_##name##_read)                                                              \
+    };
+
+#endif
