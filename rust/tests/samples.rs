@@ -28,14 +28,14 @@ fn numbers() {
 
 #[test]
 fn errors() {
-    // No digit at the start: SKIP_PLUS is off, so the `+` is not accepted.
+    // Without SKIP_PLUS, the `+` is not a sign.
     assert_eq!(parse::<i8, false, false>(b"+5"), Err(AtoiSimdError::Empty));
-    // Too many digits: without SKIP_ZEROES, leading zeros count towards the limit.
+    // Without SKIP_ZEROES, leading zeros count towards the limit.
     let text = b"09223372036854775807";
     assert_eq!(parse::<i64, false, false>(text), Err(AtoiSimdError::Size(20, text)));
-    // Out of range. The slice extends to the end of the input.
+    // The slice extends to the end of the input.
     assert_eq!(parse_prefix::<u8, true, false>(b"256,1"), Err(AtoiSimdError::Overflow(b"256,1")));
-    // A byte that is not a digit follows the digits, at offset 7. The value of the digits is 12.
+    // The `x` is at offset 7, after digits with the value 12.
     let text = b"0000012x";
     assert_eq!(parse::<u128, true, false>(text), Err(AtoiSimdError::Invalid128(12, 7, text)));
 
