@@ -321,20 +321,27 @@ typedef struct torkettle_error {
 #define TK_COLD static inline
 #endif
 
+/* What a compiler of C++20 can call in a constant expression. */
+#if defined __GNUC__ && defined __cplusplus && __cplusplus >= 202002L
+#define TK_CONSTEXPR constexpr TK_INLINE
+#else
+#define TK_CONSTEXPR TK_INLINE
+#endif
+
 /* A condition that is proved to hold. A test may define this as `assert`. */
 #ifndef TORKETTLE_CHECK
 #define TORKETTLE_CHECK(condition) ((void)0)
 #endif
 
 /* An index of so many elements. */
-TK_INLINE size_t tk_index(size_t index, size_t len)
+TK_CONSTEXPR size_t tk_index(size_t index, size_t len)
 {
     TORKETTLE_CHECK(index < len);
     (void)len;
     return index;
 }
 
-TK_INLINE bool tk_is_digit(uint8_t byte)
+TK_CONSTEXPR bool tk_is_digit(uint8_t byte)
 {
     return '0' <= byte && byte <= '9';
 }
@@ -394,62 +401,62 @@ TK_INLINE uint64_t tk_load_64(const uint8_t *bytes)
 __extension__ typedef __int128 tk_i128;
 __extension__ typedef unsigned __int128 tk_u128;
 
-TK_INLINE tk_u128 tk_u128_make(uint64_t high, uint64_t low)
+TK_CONSTEXPR tk_u128 tk_u128_make(uint64_t high, uint64_t low)
 {
     return TK_CAST(tk_u128, high) << 64 | low;
 }
 
-TK_INLINE tk_u128 tk_u128_of(uint64_t value)
+TK_CONSTEXPR tk_u128 tk_u128_of(uint64_t value)
 {
     return value;
 }
 
-TK_INLINE uint64_t tk_u128_low(tk_u128 value)
+TK_CONSTEXPR uint64_t tk_u128_low(tk_u128 value)
 {
     return TK_CAST(uint64_t, value);
 }
 
-TK_INLINE bool tk_u128_less(tk_u128 a, tk_u128 b)
+TK_CONSTEXPR bool tk_u128_less(tk_u128 a, tk_u128 b)
 {
     return a < b;
 }
 
-TK_INLINE tk_u128 tk_u128_wrapping_add(tk_u128 a, tk_u128 b)
+TK_CONSTEXPR tk_u128 tk_u128_wrapping_add(tk_u128 a, tk_u128 b)
 {
     return a + b;
 }
 
-TK_INLINE tk_u128 tk_u128_wrapping_sub(tk_u128 a, tk_u128 b)
+TK_CONSTEXPR tk_u128 tk_u128_wrapping_sub(tk_u128 a, tk_u128 b)
 {
     return a - b;
 }
 
-TK_INLINE tk_u128 tk_u128_wrapping_mul(tk_u128 a, tk_u128 b)
+TK_CONSTEXPR tk_u128 tk_u128_wrapping_mul(tk_u128 a, tk_u128 b)
 {
     return a * b;
 }
 
-TK_INLINE bool tk_u128_product_fits(tk_u128 a, tk_u128 b)
+TK_CONSTEXPR bool tk_u128_product_fits(tk_u128 a, tk_u128 b)
 {
     return b == 0 || a <= ~TK_CAST(tk_u128, 0) / b;
 }
 
-TK_INLINE tk_u128 tk_u128_shift_left(tk_u128 a, uint64_t count)
+TK_CONSTEXPR tk_u128 tk_u128_shift_left(tk_u128 a, uint64_t count)
 {
     return a << count;
 }
 
-TK_INLINE tk_u128 tk_u128_shift_right(tk_u128 a, uint64_t count)
+TK_CONSTEXPR tk_u128 tk_u128_shift_right(tk_u128 a, uint64_t count)
 {
     return a >> count;
 }
 
-TK_INLINE tk_i128 tk_u128_as_i128(tk_u128 value)
+TK_CONSTEXPR tk_i128 tk_u128_as_i128(tk_u128 value)
 {
     return TK_CAST(tk_i128, value);
 }
 
-TK_INLINE tk_u128 tk_i128_as_u128(tk_i128 value)
+TK_CONSTEXPR tk_u128 tk_i128_as_u128(tk_i128 value)
 {
     return TK_CAST(tk_u128, value);
 }
@@ -463,39 +470,39 @@ typedef struct tk_i128 {
     tk_u128 bits;
 } tk_i128;
 
-TK_INLINE tk_u128 tk_u128_make(uint64_t high, uint64_t low)
+TK_CONSTEXPR tk_u128 tk_u128_make(uint64_t high, uint64_t low)
 {
     return TK_MAKE(tk_u128, low, high);
 }
 
-TK_INLINE tk_u128 tk_u128_of(uint64_t value)
+TK_CONSTEXPR tk_u128 tk_u128_of(uint64_t value)
 {
     return TK_MAKE(tk_u128, value, 0);
 }
 
-TK_INLINE uint64_t tk_u128_low(tk_u128 value)
+TK_CONSTEXPR uint64_t tk_u128_low(tk_u128 value)
 {
     return value.low;
 }
 
-TK_INLINE bool tk_u128_less(tk_u128 a, tk_u128 b)
+TK_CONSTEXPR bool tk_u128_less(tk_u128 a, tk_u128 b)
 {
     return a.high < b.high || (a.high == b.high && a.low < b.low);
 }
 
-TK_INLINE tk_u128 tk_u128_wrapping_add(tk_u128 a, tk_u128 b)
+TK_CONSTEXPR tk_u128 tk_u128_wrapping_add(tk_u128 a, tk_u128 b)
 {
     uint64_t low = a.low + b.low;
     return TK_MAKE(tk_u128, low, a.high + b.high + (low < a.low));
 }
 
-TK_INLINE tk_u128 tk_u128_wrapping_sub(tk_u128 a, tk_u128 b)
+TK_CONSTEXPR tk_u128 tk_u128_wrapping_sub(tk_u128 a, tk_u128 b)
 {
     return TK_MAKE(tk_u128, a.low - b.low, a.high - b.high - (a.low < b.low));
 }
 
 /* The product of two words, by halves. */
-TK_INLINE tk_u128 tk_u128_of_words(uint64_t a, uint64_t b)
+TK_CONSTEXPR tk_u128 tk_u128_of_words(uint64_t a, uint64_t b)
 {
     uint64_t a_low = a & 0xFFFFFFFF, a_high = a >> 32, b_low = b & 0xFFFFFFFF, b_high = b >> 32;
     uint64_t low = a_low * b_low;
@@ -504,20 +511,20 @@ TK_INLINE tk_u128 tk_u128_of_words(uint64_t a, uint64_t b)
     return TK_MAKE(tk_u128, other << 32 | (low & 0xFFFFFFFF), a_high * b_high + (middle >> 32) + (other >> 32));
 }
 
-TK_INLINE tk_u128 tk_u128_wrapping_mul(tk_u128 a, tk_u128 b)
+TK_CONSTEXPR tk_u128 tk_u128_wrapping_mul(tk_u128 a, tk_u128 b)
 {
     tk_u128 product = tk_u128_of_words(a.low, b.low);
     return TK_MAKE(tk_u128, product.low, product.high + a.high * b.low + a.low * b.high);
 }
 
-TK_INLINE bool tk_u128_product_fits(tk_u128 a, tk_u128 b)
+TK_CONSTEXPR bool tk_u128_product_fits(tk_u128 a, tk_u128 b)
 {
     tk_u128 cross = tk_u128_wrapping_add(tk_u128_of_words(a.high, b.low), tk_u128_of_words(a.low, b.high));
     tk_u128 low = tk_u128_of_words(a.low, b.low);
     return (a.high == 0 || b.high == 0) && cross.high == 0 && low.high + cross.low >= low.high;
 }
 
-TK_INLINE tk_u128 tk_u128_shift_left(tk_u128 a, uint64_t count)
+TK_CONSTEXPR tk_u128 tk_u128_shift_left(tk_u128 a, uint64_t count)
 {
     if (count >= 64) {
         return TK_MAKE(tk_u128, 0, a.low << (count - 64));
@@ -525,7 +532,7 @@ TK_INLINE tk_u128 tk_u128_shift_left(tk_u128 a, uint64_t count)
     return count == 0 ? a : TK_MAKE(tk_u128, a.low << count, a.high << count | a.low >> (64 - count));
 }
 
-TK_INLINE tk_u128 tk_u128_shift_right(tk_u128 a, uint64_t count)
+TK_CONSTEXPR tk_u128 tk_u128_shift_right(tk_u128 a, uint64_t count)
 {
     if (count >= 64) {
         return TK_MAKE(tk_u128, a.high >> (count - 64), 0);
@@ -533,107 +540,107 @@ TK_INLINE tk_u128 tk_u128_shift_right(tk_u128 a, uint64_t count)
     return count == 0 ? a : TK_MAKE(tk_u128, a.low >> count | a.high << (64 - count), a.high >> count);
 }
 
-TK_INLINE tk_i128 tk_u128_as_i128(tk_u128 value)
+TK_CONSTEXPR tk_i128 tk_u128_as_i128(tk_u128 value)
 {
     return TK_MAKE(tk_i128, value);
 }
 
-TK_INLINE tk_u128 tk_i128_as_u128(tk_i128 value)
+TK_CONSTEXPR tk_u128 tk_i128_as_u128(tk_i128 value)
 {
     return value.bits;
 }
 #endif
 
-TK_INLINE tk_u128 tk_u128_add(tk_u128 a, tk_u128 b)
+TK_CONSTEXPR tk_u128 tk_u128_add(tk_u128 a, tk_u128 b)
 {
     TORKETTLE_CHECK(!tk_u128_less(tk_u128_wrapping_add(a, b), a));
     return tk_u128_wrapping_add(a, b);
 }
 
-TK_INLINE tk_u128 tk_u128_sub(tk_u128 a, tk_u128 b)
+TK_CONSTEXPR tk_u128 tk_u128_sub(tk_u128 a, tk_u128 b)
 {
     TORKETTLE_CHECK(!tk_u128_less(a, b));
     return tk_u128_wrapping_sub(a, b);
 }
 
-TK_INLINE tk_u128 tk_u128_mul(tk_u128 a, tk_u128 b)
+TK_CONSTEXPR tk_u128 tk_u128_mul(tk_u128 a, tk_u128 b)
 {
     TORKETTLE_CHECK(tk_u128_product_fits(a, b));
     return tk_u128_wrapping_mul(a, b);
 }
 
-TK_INLINE uint64_t tk_u128_high(tk_u128 value)
+TK_CONSTEXPR uint64_t tk_u128_high(tk_u128 value)
 {
     return tk_u128_low(tk_u128_shift_right(value, 64));
 }
 
-TK_INLINE bool tk_u128_equal(tk_u128 a, tk_u128 b)
+TK_CONSTEXPR bool tk_u128_equal(tk_u128 a, tk_u128 b)
 {
     return tk_u128_low(a) == tk_u128_low(b) && tk_u128_high(a) == tk_u128_high(b);
 }
 
-TK_INLINE tk_u128 tk_u128_not(tk_u128 a)
+TK_CONSTEXPR tk_u128 tk_u128_not(tk_u128 a)
 {
     return tk_u128_make(~tk_u128_high(a), ~tk_u128_low(a));
 }
 
-TK_INLINE tk_u128 tk_u128_and(tk_u128 a, tk_u128 b)
+TK_CONSTEXPR tk_u128 tk_u128_and(tk_u128 a, tk_u128 b)
 {
     return tk_u128_make(tk_u128_high(a) & tk_u128_high(b), tk_u128_low(a) & tk_u128_low(b));
 }
 
-TK_INLINE tk_u128 tk_u128_or(tk_u128 a, tk_u128 b)
+TK_CONSTEXPR tk_u128 tk_u128_or(tk_u128 a, tk_u128 b)
 {
     return tk_u128_make(tk_u128_high(a) | tk_u128_high(b), tk_u128_low(a) | tk_u128_low(b));
 }
 
-TK_INLINE tk_u128 tk_u128_xor(tk_u128 a, tk_u128 b)
+TK_CONSTEXPR tk_u128 tk_u128_xor(tk_u128 a, tk_u128 b)
 {
     return tk_u128_make(tk_u128_high(a) ^ tk_u128_high(b), tk_u128_low(a) ^ tk_u128_low(b));
 }
 
-TK_INLINE tk_i128 tk_i128_make(uint64_t high, uint64_t low)
+TK_CONSTEXPR tk_i128 tk_i128_make(uint64_t high, uint64_t low)
 {
     return tk_u128_as_i128(tk_u128_make(high, low));
 }
 
-TK_INLINE tk_i128 tk_i128_of(uint64_t value)
+TK_CONSTEXPR tk_i128 tk_i128_of(uint64_t value)
 {
     return tk_u128_as_i128(tk_u128_of(value));
 }
 
-TK_INLINE uint64_t tk_i128_low(tk_i128 value)
+TK_CONSTEXPR uint64_t tk_i128_low(tk_i128 value)
 {
     return tk_u128_low(tk_i128_as_u128(value));
 }
 
-TK_INLINE bool tk_i128_less(tk_i128 a, tk_i128 b)
+TK_CONSTEXPR bool tk_i128_less(tk_i128 a, tk_i128 b)
 {
     tk_u128 sign = tk_u128_make(UINT64_C(0x8000000000000000), 0);
     return tk_u128_less(tk_u128_xor(tk_i128_as_u128(a), sign), tk_u128_xor(tk_i128_as_u128(b), sign));
 }
 
-TK_INLINE bool tk_i128_equal(tk_i128 a, tk_i128 b)
+TK_CONSTEXPR bool tk_i128_equal(tk_i128 a, tk_i128 b)
 {
     return tk_u128_equal(tk_i128_as_u128(a), tk_i128_as_u128(b));
 }
 
-TK_INLINE tk_i128 tk_i128_sub(tk_i128 a, tk_i128 b)
+TK_CONSTEXPR tk_i128 tk_i128_sub(tk_i128 a, tk_i128 b)
 {
     return tk_u128_as_i128(tk_u128_wrapping_sub(tk_i128_as_u128(a), tk_i128_as_u128(b)));
 }
 
-TK_INLINE tk_i128 tk_i128_mul(tk_i128 a, tk_i128 b)
+TK_CONSTEXPR tk_i128 tk_i128_mul(tk_i128 a, tk_i128 b)
 {
     return tk_u128_as_i128(tk_u128_wrapping_mul(tk_i128_as_u128(a), tk_i128_as_u128(b)));
 }
 
-TK_INLINE tk_i128 tk_i128_negate(tk_i128 a)
+TK_CONSTEXPR tk_i128 tk_i128_negate(tk_i128 a)
 {
     return tk_u128_as_i128(tk_u128_wrapping_sub(tk_u128_of(0), tk_i128_as_u128(a)));
 }
 
-TK_INLINE tk_u128 tk_i128_unsigned_abs(tk_i128 a)
+TK_CONSTEXPR tk_u128 tk_i128_unsigned_abs(tk_i128 a)
 {
     return tk_i128_as_u128(tk_i128_less(a, tk_i128_of(0)) ? tk_i128_negate(a) : a);
 }
@@ -643,7 +650,7 @@ typedef struct tk_bytes {
     size_t len;
 } tk_bytes;
 
-TK_INLINE tk_bytes tk_bytes_of(const uint8_t *at, size_t len)
+TK_CONSTEXPR tk_bytes tk_bytes_of(const uint8_t *at, size_t len)
 {
     return TK_MAKE(tk_bytes, at, len);
 }
@@ -653,7 +660,7 @@ typedef struct tk_pair_i64_size {
     size_t second;
 } tk_pair_i64_size;
 
-TK_INLINE tk_pair_i64_size tk_new_pair_i64_size(int64_t first, size_t second)
+TK_CONSTEXPR tk_pair_i64_size tk_new_pair_i64_size(int64_t first, size_t second)
 {
     return TK_MAKE(tk_pair_i64_size, first, second);
 }
@@ -663,12 +670,12 @@ typedef struct tk_option_pair_i64_size {
     tk_pair_i64_size value;
 } tk_option_pair_i64_size;
 
-TK_INLINE tk_option_pair_i64_size tk_some_pair_i64_size(tk_pair_i64_size value)
+TK_CONSTEXPR tk_option_pair_i64_size tk_some_pair_i64_size(tk_pair_i64_size value)
 {
     return TK_MAKE(tk_option_pair_i64_size, true, value);
 }
 
-TK_INLINE tk_option_pair_i64_size tk_none_pair_i64_size(void)
+TK_CONSTEXPR tk_option_pair_i64_size tk_none_pair_i64_size(void)
 {
     return TK_MAKE(tk_option_pair_i64_size, false, tk_new_pair_i64_size(0, 0));
 }
@@ -678,7 +685,7 @@ typedef struct tk_pair_u64_size {
     size_t second;
 } tk_pair_u64_size;
 
-TK_INLINE tk_pair_u64_size tk_new_pair_u64_size(uint64_t first, size_t second)
+TK_CONSTEXPR tk_pair_u64_size tk_new_pair_u64_size(uint64_t first, size_t second)
 {
     return TK_MAKE(tk_pair_u64_size, first, second);
 }
@@ -688,12 +695,12 @@ typedef struct tk_option_pair_u64_size {
     tk_pair_u64_size value;
 } tk_option_pair_u64_size;
 
-TK_INLINE tk_option_pair_u64_size tk_some_pair_u64_size(tk_pair_u64_size value)
+TK_CONSTEXPR tk_option_pair_u64_size tk_some_pair_u64_size(tk_pair_u64_size value)
 {
     return TK_MAKE(tk_option_pair_u64_size, true, value);
 }
 
-TK_INLINE tk_option_pair_u64_size tk_none_pair_u64_size(void)
+TK_CONSTEXPR tk_option_pair_u64_size tk_none_pair_u64_size(void)
 {
     return TK_MAKE(tk_option_pair_u64_size, false, tk_new_pair_u64_size(0, 0));
 }
@@ -703,12 +710,12 @@ typedef struct tk_option_i8 {
     int8_t value;
 } tk_option_i8;
 
-TK_INLINE tk_option_i8 tk_some_i8(int8_t value)
+TK_CONSTEXPR tk_option_i8 tk_some_i8(int8_t value)
 {
     return TK_MAKE(tk_option_i8, true, value);
 }
 
-TK_INLINE tk_option_i8 tk_none_i8(void)
+TK_CONSTEXPR tk_option_i8 tk_none_i8(void)
 {
     return TK_MAKE(tk_option_i8, false, 0);
 }
@@ -718,12 +725,12 @@ typedef struct tk_option_u8 {
     uint8_t value;
 } tk_option_u8;
 
-TK_INLINE tk_option_u8 tk_some_u8(uint8_t value)
+TK_CONSTEXPR tk_option_u8 tk_some_u8(uint8_t value)
 {
     return TK_MAKE(tk_option_u8, true, value);
 }
 
-TK_INLINE tk_option_u8 tk_none_u8(void)
+TK_CONSTEXPR tk_option_u8 tk_none_u8(void)
 {
     return TK_MAKE(tk_option_u8, false, 0);
 }
@@ -733,12 +740,12 @@ typedef struct tk_option_i16 {
     int16_t value;
 } tk_option_i16;
 
-TK_INLINE tk_option_i16 tk_some_i16(int16_t value)
+TK_CONSTEXPR tk_option_i16 tk_some_i16(int16_t value)
 {
     return TK_MAKE(tk_option_i16, true, value);
 }
 
-TK_INLINE tk_option_i16 tk_none_i16(void)
+TK_CONSTEXPR tk_option_i16 tk_none_i16(void)
 {
     return TK_MAKE(tk_option_i16, false, 0);
 }
@@ -748,12 +755,12 @@ typedef struct tk_option_u16 {
     uint16_t value;
 } tk_option_u16;
 
-TK_INLINE tk_option_u16 tk_some_u16(uint16_t value)
+TK_CONSTEXPR tk_option_u16 tk_some_u16(uint16_t value)
 {
     return TK_MAKE(tk_option_u16, true, value);
 }
 
-TK_INLINE tk_option_u16 tk_none_u16(void)
+TK_CONSTEXPR tk_option_u16 tk_none_u16(void)
 {
     return TK_MAKE(tk_option_u16, false, 0);
 }
@@ -763,12 +770,12 @@ typedef struct tk_option_i32 {
     int32_t value;
 } tk_option_i32;
 
-TK_INLINE tk_option_i32 tk_some_i32(int32_t value)
+TK_CONSTEXPR tk_option_i32 tk_some_i32(int32_t value)
 {
     return TK_MAKE(tk_option_i32, true, value);
 }
 
-TK_INLINE tk_option_i32 tk_none_i32(void)
+TK_CONSTEXPR tk_option_i32 tk_none_i32(void)
 {
     return TK_MAKE(tk_option_i32, false, 0);
 }
@@ -778,12 +785,12 @@ typedef struct tk_option_u32 {
     uint32_t value;
 } tk_option_u32;
 
-TK_INLINE tk_option_u32 tk_some_u32(uint32_t value)
+TK_CONSTEXPR tk_option_u32 tk_some_u32(uint32_t value)
 {
     return TK_MAKE(tk_option_u32, true, value);
 }
 
-TK_INLINE tk_option_u32 tk_none_u32(void)
+TK_CONSTEXPR tk_option_u32 tk_none_u32(void)
 {
     return TK_MAKE(tk_option_u32, false, 0);
 }
@@ -793,12 +800,12 @@ typedef struct tk_option_i64 {
     int64_t value;
 } tk_option_i64;
 
-TK_INLINE tk_option_i64 tk_some_i64(int64_t value)
+TK_CONSTEXPR tk_option_i64 tk_some_i64(int64_t value)
 {
     return TK_MAKE(tk_option_i64, true, value);
 }
 
-TK_INLINE tk_option_i64 tk_none_i64(void)
+TK_CONSTEXPR tk_option_i64 tk_none_i64(void)
 {
     return TK_MAKE(tk_option_i64, false, 0);
 }
@@ -808,12 +815,12 @@ typedef struct tk_option_u64 {
     uint64_t value;
 } tk_option_u64;
 
-TK_INLINE tk_option_u64 tk_some_u64(uint64_t value)
+TK_CONSTEXPR tk_option_u64 tk_some_u64(uint64_t value)
 {
     return TK_MAKE(tk_option_u64, true, value);
 }
 
-TK_INLINE tk_option_u64 tk_none_u64(void)
+TK_CONSTEXPR tk_option_u64 tk_none_u64(void)
 {
     return TK_MAKE(tk_option_u64, false, 0);
 }
@@ -823,12 +830,12 @@ typedef struct tk_option_i128 {
     tk_i128 value;
 } tk_option_i128;
 
-TK_INLINE tk_option_i128 tk_some_i128(tk_i128 value)
+TK_CONSTEXPR tk_option_i128 tk_some_i128(tk_i128 value)
 {
     return TK_MAKE(tk_option_i128, true, value);
 }
 
-TK_INLINE tk_option_i128 tk_none_i128(void)
+TK_CONSTEXPR tk_option_i128 tk_none_i128(void)
 {
     return TK_MAKE(tk_option_i128, false, tk_i128_of(0));
 }
@@ -838,12 +845,12 @@ typedef struct tk_option_u128 {
     tk_u128 value;
 } tk_option_u128;
 
-TK_INLINE tk_option_u128 tk_some_u128(tk_u128 value)
+TK_CONSTEXPR tk_option_u128 tk_some_u128(tk_u128 value)
 {
     return TK_MAKE(tk_option_u128, true, value);
 }
 
-TK_INLINE tk_option_u128 tk_none_u128(void)
+TK_CONSTEXPR tk_option_u128 tk_none_u128(void)
 {
     return TK_MAKE(tk_option_u128, false, tk_u128_of(0));
 }
@@ -853,7 +860,7 @@ typedef struct tk_pair_i8_size {
     size_t second;
 } tk_pair_i8_size;
 
-TK_INLINE tk_pair_i8_size tk_new_pair_i8_size(int8_t first, size_t second)
+TK_CONSTEXPR tk_pair_i8_size tk_new_pair_i8_size(int8_t first, size_t second)
 {
     return TK_MAKE(tk_pair_i8_size, first, second);
 }
@@ -863,12 +870,12 @@ typedef struct tk_option_pair_i8_size {
     tk_pair_i8_size value;
 } tk_option_pair_i8_size;
 
-TK_INLINE tk_option_pair_i8_size tk_some_pair_i8_size(tk_pair_i8_size value)
+TK_CONSTEXPR tk_option_pair_i8_size tk_some_pair_i8_size(tk_pair_i8_size value)
 {
     return TK_MAKE(tk_option_pair_i8_size, true, value);
 }
 
-TK_INLINE tk_option_pair_i8_size tk_none_pair_i8_size(void)
+TK_CONSTEXPR tk_option_pair_i8_size tk_none_pair_i8_size(void)
 {
     return TK_MAKE(tk_option_pair_i8_size, false, tk_new_pair_i8_size(0, 0));
 }
@@ -878,7 +885,7 @@ typedef struct tk_pair_u8_size {
     size_t second;
 } tk_pair_u8_size;
 
-TK_INLINE tk_pair_u8_size tk_new_pair_u8_size(uint8_t first, size_t second)
+TK_CONSTEXPR tk_pair_u8_size tk_new_pair_u8_size(uint8_t first, size_t second)
 {
     return TK_MAKE(tk_pair_u8_size, first, second);
 }
@@ -888,12 +895,12 @@ typedef struct tk_option_pair_u8_size {
     tk_pair_u8_size value;
 } tk_option_pair_u8_size;
 
-TK_INLINE tk_option_pair_u8_size tk_some_pair_u8_size(tk_pair_u8_size value)
+TK_CONSTEXPR tk_option_pair_u8_size tk_some_pair_u8_size(tk_pair_u8_size value)
 {
     return TK_MAKE(tk_option_pair_u8_size, true, value);
 }
 
-TK_INLINE tk_option_pair_u8_size tk_none_pair_u8_size(void)
+TK_CONSTEXPR tk_option_pair_u8_size tk_none_pair_u8_size(void)
 {
     return TK_MAKE(tk_option_pair_u8_size, false, tk_new_pair_u8_size(0, 0));
 }
@@ -903,7 +910,7 @@ typedef struct tk_pair_i16_size {
     size_t second;
 } tk_pair_i16_size;
 
-TK_INLINE tk_pair_i16_size tk_new_pair_i16_size(int16_t first, size_t second)
+TK_CONSTEXPR tk_pair_i16_size tk_new_pair_i16_size(int16_t first, size_t second)
 {
     return TK_MAKE(tk_pair_i16_size, first, second);
 }
@@ -913,12 +920,12 @@ typedef struct tk_option_pair_i16_size {
     tk_pair_i16_size value;
 } tk_option_pair_i16_size;
 
-TK_INLINE tk_option_pair_i16_size tk_some_pair_i16_size(tk_pair_i16_size value)
+TK_CONSTEXPR tk_option_pair_i16_size tk_some_pair_i16_size(tk_pair_i16_size value)
 {
     return TK_MAKE(tk_option_pair_i16_size, true, value);
 }
 
-TK_INLINE tk_option_pair_i16_size tk_none_pair_i16_size(void)
+TK_CONSTEXPR tk_option_pair_i16_size tk_none_pair_i16_size(void)
 {
     return TK_MAKE(tk_option_pair_i16_size, false, tk_new_pair_i16_size(0, 0));
 }
@@ -928,7 +935,7 @@ typedef struct tk_pair_u16_size {
     size_t second;
 } tk_pair_u16_size;
 
-TK_INLINE tk_pair_u16_size tk_new_pair_u16_size(uint16_t first, size_t second)
+TK_CONSTEXPR tk_pair_u16_size tk_new_pair_u16_size(uint16_t first, size_t second)
 {
     return TK_MAKE(tk_pair_u16_size, first, second);
 }
@@ -938,12 +945,12 @@ typedef struct tk_option_pair_u16_size {
     tk_pair_u16_size value;
 } tk_option_pair_u16_size;
 
-TK_INLINE tk_option_pair_u16_size tk_some_pair_u16_size(tk_pair_u16_size value)
+TK_CONSTEXPR tk_option_pair_u16_size tk_some_pair_u16_size(tk_pair_u16_size value)
 {
     return TK_MAKE(tk_option_pair_u16_size, true, value);
 }
 
-TK_INLINE tk_option_pair_u16_size tk_none_pair_u16_size(void)
+TK_CONSTEXPR tk_option_pair_u16_size tk_none_pair_u16_size(void)
 {
     return TK_MAKE(tk_option_pair_u16_size, false, tk_new_pair_u16_size(0, 0));
 }
@@ -953,7 +960,7 @@ typedef struct tk_pair_i32_size {
     size_t second;
 } tk_pair_i32_size;
 
-TK_INLINE tk_pair_i32_size tk_new_pair_i32_size(int32_t first, size_t second)
+TK_CONSTEXPR tk_pair_i32_size tk_new_pair_i32_size(int32_t first, size_t second)
 {
     return TK_MAKE(tk_pair_i32_size, first, second);
 }
@@ -963,12 +970,12 @@ typedef struct tk_option_pair_i32_size {
     tk_pair_i32_size value;
 } tk_option_pair_i32_size;
 
-TK_INLINE tk_option_pair_i32_size tk_some_pair_i32_size(tk_pair_i32_size value)
+TK_CONSTEXPR tk_option_pair_i32_size tk_some_pair_i32_size(tk_pair_i32_size value)
 {
     return TK_MAKE(tk_option_pair_i32_size, true, value);
 }
 
-TK_INLINE tk_option_pair_i32_size tk_none_pair_i32_size(void)
+TK_CONSTEXPR tk_option_pair_i32_size tk_none_pair_i32_size(void)
 {
     return TK_MAKE(tk_option_pair_i32_size, false, tk_new_pair_i32_size(0, 0));
 }
@@ -978,7 +985,7 @@ typedef struct tk_pair_u32_size {
     size_t second;
 } tk_pair_u32_size;
 
-TK_INLINE tk_pair_u32_size tk_new_pair_u32_size(uint32_t first, size_t second)
+TK_CONSTEXPR tk_pair_u32_size tk_new_pair_u32_size(uint32_t first, size_t second)
 {
     return TK_MAKE(tk_pair_u32_size, first, second);
 }
@@ -988,12 +995,12 @@ typedef struct tk_option_pair_u32_size {
     tk_pair_u32_size value;
 } tk_option_pair_u32_size;
 
-TK_INLINE tk_option_pair_u32_size tk_some_pair_u32_size(tk_pair_u32_size value)
+TK_CONSTEXPR tk_option_pair_u32_size tk_some_pair_u32_size(tk_pair_u32_size value)
 {
     return TK_MAKE(tk_option_pair_u32_size, true, value);
 }
 
-TK_INLINE tk_option_pair_u32_size tk_none_pair_u32_size(void)
+TK_CONSTEXPR tk_option_pair_u32_size tk_none_pair_u32_size(void)
 {
     return TK_MAKE(tk_option_pair_u32_size, false, tk_new_pair_u32_size(0, 0));
 }
@@ -1003,7 +1010,7 @@ typedef struct tk_pair_i128_size {
     size_t second;
 } tk_pair_i128_size;
 
-TK_INLINE tk_pair_i128_size tk_new_pair_i128_size(tk_i128 first, size_t second)
+TK_CONSTEXPR tk_pair_i128_size tk_new_pair_i128_size(tk_i128 first, size_t second)
 {
     return TK_MAKE(tk_pair_i128_size, first, second);
 }
@@ -1013,12 +1020,12 @@ typedef struct tk_option_pair_i128_size {
     tk_pair_i128_size value;
 } tk_option_pair_i128_size;
 
-TK_INLINE tk_option_pair_i128_size tk_some_pair_i128_size(tk_pair_i128_size value)
+TK_CONSTEXPR tk_option_pair_i128_size tk_some_pair_i128_size(tk_pair_i128_size value)
 {
     return TK_MAKE(tk_option_pair_i128_size, true, value);
 }
 
-TK_INLINE tk_option_pair_i128_size tk_none_pair_i128_size(void)
+TK_CONSTEXPR tk_option_pair_i128_size tk_none_pair_i128_size(void)
 {
     return TK_MAKE(tk_option_pair_i128_size, false, tk_new_pair_i128_size(tk_i128_of(0), 0));
 }
@@ -1028,7 +1035,7 @@ typedef struct tk_pair_u128_size {
     size_t second;
 } tk_pair_u128_size;
 
-TK_INLINE tk_pair_u128_size tk_new_pair_u128_size(tk_u128 first, size_t second)
+TK_CONSTEXPR tk_pair_u128_size tk_new_pair_u128_size(tk_u128 first, size_t second)
 {
     return TK_MAKE(tk_pair_u128_size, first, second);
 }
@@ -1038,14 +1045,24 @@ typedef struct tk_option_pair_u128_size {
     tk_pair_u128_size value;
 } tk_option_pair_u128_size;
 
-TK_INLINE tk_option_pair_u128_size tk_some_pair_u128_size(tk_pair_u128_size value)
+TK_CONSTEXPR tk_option_pair_u128_size tk_some_pair_u128_size(tk_pair_u128_size value)
 {
     return TK_MAKE(tk_option_pair_u128_size, true, value);
 }
 
-TK_INLINE tk_option_pair_u128_size tk_none_pair_u128_size(void)
+TK_CONSTEXPR tk_option_pair_u128_size tk_none_pair_u128_size(void)
 {
     return TK_MAKE(tk_option_pair_u128_size, false, tk_new_pair_u128_size(tk_u128_of(0), 0));
+}
+
+typedef struct tk_pair_bool_bytes {
+    bool first;
+    tk_bytes second;
+} tk_pair_bool_bytes;
+
+TK_CONSTEXPR tk_pair_bool_bytes tk_new_pair_bool_bytes(bool first, tk_bytes second)
+{
+    return TK_MAKE(tk_pair_bool_bytes, first, second);
 }
 
 #define TK_ZEROS UINT64_C(0x3030303030303030)
@@ -1083,7 +1100,7 @@ static const uint64_t tk_powers[17] = {
     UINT64_C(10000000000000000),
 };
 
-TK_INLINE tk_bytes tk_bytes_from(tk_bytes s, size_t low)
+TK_CONSTEXPR tk_bytes tk_bytes_from(tk_bytes s, size_t low)
 {
     TORKETTLE_CHECK(low <= s.len);
     return tk_bytes_of(s.at + low, s.len - low);
@@ -1093,6 +1110,11 @@ TK_INLINE tk_bytes tk_bytes_from(tk_bytes s, size_t low)
 
 #define TK_MOST_IN_WORD 1000000000
 
+TK_CONSTEXPR bool tk_u128_sum_fits(tk_u128 a, tk_u128 b)
+{
+    return !(tk_u128_less(tk_u128_wrapping_add(a, b), a));
+}
+
 TK_FAR tk_option_pair_i64_size tk_prefix_of_three_words_i64(bool minus, uint64_t high,
                                                             tk_bytes s) TK_SYMBOL(tk_prefix_of_three_words_i64);
 
@@ -1100,7 +1122,7 @@ TK_FAR tk_option_pair_u64_size tk_prefix_of_three_words_u64(bool minus, uint64_t
                                                             tk_bytes s) TK_SYMBOL(tk_prefix_of_three_words_u64);
 
 /* atoi_core/src/number.rt:87 */
-TK_HINTED tk_i128 tk_with_sign_64(bool minus, uint64_t magnitude)
+TK_CONSTEXPR tk_i128 tk_with_sign_64(bool minus, uint64_t magnitude)
 {
     tk_i128 number = tk_i128_of(magnitude);
     if (minus) {
@@ -1110,7 +1132,7 @@ TK_HINTED tk_i128 tk_with_sign_64(bool minus, uint64_t magnitude)
 }
 
 /* atoi_core/src/number.rt:143 */
-TK_HINTED int8_t tk_from_parts_i8(bool minus, tk_u128 magnitude)
+TK_CONSTEXPR int8_t tk_from_parts_i8(bool minus, tk_u128 magnitude)
 {
     return TK_CAST(int8_t, tk_i128_low(tk_with_sign_64(minus, tk_u128_low(magnitude))));
 }
@@ -1128,7 +1150,7 @@ TK_INLINE tk_option_i8 tk_one_digit_i8(tk_bytes s)
 }
 
 /* atoi_core/src/number.rt:115 */
-TK_HINTED uint8_t tk_from_parts_u8(bool minus, tk_u128 magnitude)
+TK_CONSTEXPR uint8_t tk_from_parts_u8(bool minus, tk_u128 magnitude)
 {
     (void)minus;
     return TK_CAST(uint8_t, tk_u128_low(magnitude));
@@ -1146,7 +1168,7 @@ TK_INLINE tk_option_u8 tk_one_digit_u8(tk_bytes s)
 }
 
 /* atoi_core/src/number.rt:207 */
-TK_HINTED int16_t tk_from_parts_i16(bool minus, tk_u128 magnitude)
+TK_CONSTEXPR int16_t tk_from_parts_i16(bool minus, tk_u128 magnitude)
 {
     return TK_CAST(int16_t, tk_i128_low(tk_with_sign_64(minus, tk_u128_low(magnitude))));
 }
@@ -1163,7 +1185,7 @@ TK_INLINE tk_option_i16 tk_one_digit_i16(tk_bytes s)
 }
 
 /* atoi_core/src/number.rt:179 */
-TK_HINTED uint16_t tk_from_parts_u16(bool minus, tk_u128 magnitude)
+TK_CONSTEXPR uint16_t tk_from_parts_u16(bool minus, tk_u128 magnitude)
 {
     (void)minus;
     return TK_CAST(uint16_t, tk_u128_low(magnitude));
@@ -1181,7 +1203,7 @@ TK_INLINE tk_option_u16 tk_one_digit_u16(tk_bytes s)
 }
 
 /* atoi_core/src/number.rt:271 */
-TK_HINTED int32_t tk_from_parts_i32(bool minus, tk_u128 magnitude)
+TK_CONSTEXPR int32_t tk_from_parts_i32(bool minus, tk_u128 magnitude)
 {
     return TK_CAST(int32_t, tk_i128_low(tk_with_sign_64(minus, tk_u128_low(magnitude))));
 }
@@ -1198,7 +1220,7 @@ TK_INLINE tk_option_i32 tk_one_digit_i32(tk_bytes s)
 }
 
 /* atoi_core/src/number.rt:243 */
-TK_HINTED uint32_t tk_from_parts_u32(bool minus, tk_u128 magnitude)
+TK_CONSTEXPR uint32_t tk_from_parts_u32(bool minus, tk_u128 magnitude)
 {
     (void)minus;
     return TK_CAST(uint32_t, tk_u128_low(magnitude));
@@ -1216,7 +1238,7 @@ TK_INLINE tk_option_u32 tk_one_digit_u32(tk_bytes s)
 }
 
 /* atoi_core/src/number.rt:335 */
-TK_HINTED int64_t tk_from_parts_i64(bool minus, tk_u128 magnitude)
+TK_CONSTEXPR int64_t tk_from_parts_i64(bool minus, tk_u128 magnitude)
 {
     return TK_CAST(int64_t, tk_i128_low(tk_with_sign_64(minus, tk_u128_low(magnitude))));
 }
@@ -1233,7 +1255,7 @@ TK_INLINE tk_option_i64 tk_one_digit_i64(tk_bytes s)
 }
 
 /* atoi_core/src/number.rt:307 */
-TK_HINTED uint64_t tk_from_parts_u64(bool minus, tk_u128 magnitude)
+TK_CONSTEXPR uint64_t tk_from_parts_u64(bool minus, tk_u128 magnitude)
 {
     (void)minus;
     return tk_u128_low(magnitude);
@@ -1251,7 +1273,7 @@ TK_INLINE tk_option_u64 tk_one_digit_u64(tk_bytes s)
 }
 
 /* atoi_core/src/number.rt:399 */
-TK_HINTED tk_i128 tk_from_parts_i128(bool minus, tk_u128 magnitude)
+TK_CONSTEXPR tk_i128 tk_from_parts_i128(bool minus, tk_u128 magnitude)
 {
     if (!minus) {
         return tk_u128_as_i128(magnitude);
@@ -1274,7 +1296,7 @@ TK_INLINE tk_option_i128 tk_one_digit_i128(tk_bytes s)
 }
 
 /* atoi_core/src/number.rt:371 */
-TK_HINTED tk_u128 tk_from_parts_u128(bool minus, tk_u128 magnitude)
+TK_CONSTEXPR tk_u128 tk_from_parts_u128(bool minus, tk_u128 magnitude)
 {
     (void)minus;
     return magnitude;
@@ -1941,6 +1963,13 @@ TK_INLINE tk_option_pair_u32_size tk_quick_prefix_u32(tk_bytes s)
     return tk_digit_prefix_u32(s);
 }
 
+/* Returns the magnitude of `T::MIN` if `minus` is set, otherwise `T::MAX`. */
+/* atoi_core/src/number.rt:71 */
+TK_CONSTEXPR tk_u128 tk_greatest_magnitude(tk_u128 greatest, bool minus)
+{
+    return tk_u128_add(greatest, tk_u128_of(minus));
+}
+
 /* atoi_fast/src/in_range.rt:17 */
 TK_INLINE tk_option_i64 tk_number_in_range_i64(uint64_t most, bool minus, uint64_t magnitude)
 {
@@ -2325,6 +2354,457 @@ TK_INLINE tk_option_pair_u128_size tk_quick_prefix_u128(tk_bytes s)
     return tk_digit_prefix_u128(s);
 }
 
+/*
+ * Consumes a `+` if `skip_plus`, or a `-` if `signed`. Returns whether it was a `-`, and the body
+ * after it.
+ */
+/* atoi_core/src/calls.rt:59 */
+TK_CONSTEXPR tk_pair_bool_bytes tk_atoi_core_take_sign(bool signed_, bool skip_plus, tk_bytes s)
+{
+    if (s.len >= 1 && s.at[0] == '+' && skip_plus) {
+        tk_bytes body = tk_bytes_from(s, 1);
+        return tk_new_pair_bool_bytes(false, body);
+    }
+    if (s.len >= 1 && s.at[0] == '-' && signed_) {
+        tk_bytes body = tk_bytes_from(s, 1);
+        return tk_new_pair_bool_bytes(true, body);
+    }
+    return tk_new_pair_bool_bytes(false, s);
+}
+
+/* Returns the value of the digits of `number` and one more digit, unless that is above `bound`. */
+/* atoi_fast/src/by_digits.rt:63 */
+TK_CONSTEXPR tk_option_u128 tk_append_digit(tk_u128 bound, tk_u128 number, uint8_t digit)
+{
+    if (!tk_u128_product_fits(number, tk_u128_of(10))) {
+        return tk_none_u128();
+    }
+    tk_u128 left = tk_u128_mul(number, tk_u128_of(10));
+    tk_u128 right = tk_u128_of(digit);
+    if (!tk_u128_sum_fits(left, right)) {
+        return tk_none_u128();
+    }
+    tk_u128 number_2 = tk_u128_add(left, right);
+    if (tk_u128_less(bound, number_2)) {
+        return tk_none_u128();
+    }
+    return tk_some_u128(number_2);
+}
+
+/*
+ * Returns the value of the digits at the start of `s`, and how many there are, unless there is none or their value
+ * is above `bound`.
+ */
+/* atoi_fast/src/by_digits.rt:46 */
+TK_CONSTEXPR tk_option_pair_u128_size tk_magnitude_by_digits(tk_u128 bound, tk_bytes s)
+{
+    tk_u128 number = tk_u128_of(0);
+    size_t len = 0;
+    while (len < s.len && tk_is_digit(s.at[tk_index(len, s.len)])) {
+        tk_option_u128 found = tk_append_digit(bound, number, TK_CAST(uint8_t, s.at[tk_index(len, s.len)] - '0'));
+        if (!found.is_some) {
+            return tk_none_pair_u128_size();
+        }
+        number = found.value;
+        len++;
+    }
+    if (len == 0) {
+        return tk_none_pair_u128_size();
+    }
+    return tk_some_pair_u128_size(tk_new_pair_u128_size(number, len));
+}
+
+/*
+ * Returns the number at the start of `s` and its length, which a prefix parse returns that skips zeros and takes no
+ * plus, or `None` for each of its errors.
+ */
+/* atoi_fast/src/by_digits.rt:13 */
+TK_CONSTEXPR tk_option_pair_i8_size tk_prefix_by_digits_i8(tk_bytes s)
+{
+    tk_pair_bool_bytes found = tk_atoi_core_take_sign(true, false, s);
+    bool minus = found.first;
+    tk_bytes body = found.second;
+    tk_option_pair_u128_size found_2 = tk_magnitude_by_digits(tk_greatest_magnitude(tk_u128_of(127), minus), body);
+    if (!found_2.is_some) {
+        return tk_none_pair_i8_size();
+    }
+    tk_u128 magnitude = found_2.value.first;
+    size_t len = found_2.value.second;
+    return tk_some_pair_i8_size(tk_new_pair_i8_size(tk_from_parts_i8(minus, magnitude), len + (s.len - body.len)));
+}
+
+/* atoi_fast/src/by_digits.rt:13 */
+TK_CONSTEXPR tk_option_pair_u8_size tk_prefix_by_digits_u8(tk_bytes s)
+{
+    tk_pair_bool_bytes found = tk_atoi_core_take_sign(false, false, s);
+    bool minus = found.first;
+    tk_bytes body = found.second;
+    tk_option_pair_u128_size found_2 = tk_magnitude_by_digits(tk_greatest_magnitude(tk_u128_of(255), minus), body);
+    if (!found_2.is_some) {
+        return tk_none_pair_u8_size();
+    }
+    tk_u128 magnitude = found_2.value.first;
+    size_t len = found_2.value.second;
+    return tk_some_pair_u8_size(tk_new_pair_u8_size(tk_from_parts_u8(minus, magnitude), len + (s.len - body.len)));
+}
+
+/* atoi_fast/src/by_digits.rt:13 */
+TK_CONSTEXPR tk_option_pair_i16_size tk_prefix_by_digits_i16(tk_bytes s)
+{
+    tk_pair_bool_bytes found = tk_atoi_core_take_sign(true, false, s);
+    bool minus = found.first;
+    tk_bytes body = found.second;
+    tk_option_pair_u128_size found_2 = tk_magnitude_by_digits(tk_greatest_magnitude(tk_u128_of(32767), minus), body);
+    if (!found_2.is_some) {
+        return tk_none_pair_i16_size();
+    }
+    tk_u128 magnitude = found_2.value.first;
+    size_t len = found_2.value.second;
+    return tk_some_pair_i16_size(tk_new_pair_i16_size(tk_from_parts_i16(minus, magnitude), len + (s.len - body.len)));
+}
+
+/* atoi_fast/src/by_digits.rt:13 */
+TK_CONSTEXPR tk_option_pair_u16_size tk_prefix_by_digits_u16(tk_bytes s)
+{
+    tk_pair_bool_bytes found = tk_atoi_core_take_sign(false, false, s);
+    bool minus = found.first;
+    tk_bytes body = found.second;
+    tk_option_pair_u128_size found_2 = tk_magnitude_by_digits(tk_greatest_magnitude(tk_u128_of(65535), minus), body);
+    if (!found_2.is_some) {
+        return tk_none_pair_u16_size();
+    }
+    tk_u128 magnitude = found_2.value.first;
+    size_t len = found_2.value.second;
+    return tk_some_pair_u16_size(tk_new_pair_u16_size(tk_from_parts_u16(minus, magnitude), len + (s.len - body.len)));
+}
+
+/* atoi_fast/src/by_digits.rt:13 */
+TK_CONSTEXPR tk_option_pair_i32_size tk_prefix_by_digits_i32(tk_bytes s)
+{
+    tk_pair_bool_bytes found = tk_atoi_core_take_sign(true, false, s);
+    bool minus = found.first;
+    tk_bytes body = found.second;
+    tk_option_pair_u128_size found_2 = tk_magnitude_by_digits(tk_greatest_magnitude(tk_u128_of(2147483647), minus),
+                                                              body);
+    if (!found_2.is_some) {
+        return tk_none_pair_i32_size();
+    }
+    tk_u128 magnitude = found_2.value.first;
+    size_t len = found_2.value.second;
+    return tk_some_pair_i32_size(tk_new_pair_i32_size(tk_from_parts_i32(minus, magnitude), len + (s.len - body.len)));
+}
+
+/* atoi_fast/src/by_digits.rt:13 */
+TK_CONSTEXPR tk_option_pair_u32_size tk_prefix_by_digits_u32(tk_bytes s)
+{
+    tk_pair_bool_bytes found = tk_atoi_core_take_sign(false, false, s);
+    bool minus = found.first;
+    tk_bytes body = found.second;
+    tk_option_pair_u128_size found_2 = tk_magnitude_by_digits(tk_greatest_magnitude(tk_u128_of(UINT64_C(4294967295)),
+                                                                                    minus), body);
+    if (!found_2.is_some) {
+        return tk_none_pair_u32_size();
+    }
+    tk_u128 magnitude = found_2.value.first;
+    size_t len = found_2.value.second;
+    return tk_some_pair_u32_size(tk_new_pair_u32_size(tk_from_parts_u32(minus, magnitude), len + (s.len - body.len)));
+}
+
+/* atoi_fast/src/by_digits.rt:13 */
+TK_CONSTEXPR tk_option_pair_i64_size tk_prefix_by_digits_i64(tk_bytes s)
+{
+    tk_pair_bool_bytes found = tk_atoi_core_take_sign(true, false, s);
+    bool minus = found.first;
+    tk_bytes body = found.second;
+    tk_option_pair_u128_size found_2 = tk_magnitude_by_digits(
+        tk_greatest_magnitude(tk_u128_of(UINT64_C(9223372036854775807)), minus), body);
+    if (!found_2.is_some) {
+        return tk_none_pair_i64_size();
+    }
+    tk_u128 magnitude = found_2.value.first;
+    size_t len = found_2.value.second;
+    return tk_some_pair_i64_size(tk_new_pair_i64_size(tk_from_parts_i64(minus, magnitude), len + (s.len - body.len)));
+}
+
+/* atoi_fast/src/by_digits.rt:13 */
+TK_CONSTEXPR tk_option_pair_u64_size tk_prefix_by_digits_u64(tk_bytes s)
+{
+    tk_pair_bool_bytes found = tk_atoi_core_take_sign(false, false, s);
+    bool minus = found.first;
+    tk_bytes body = found.second;
+    tk_option_pair_u128_size found_2 = tk_magnitude_by_digits(
+        tk_greatest_magnitude(tk_u128_of(UINT64_C(18446744073709551615)), minus), body);
+    if (!found_2.is_some) {
+        return tk_none_pair_u64_size();
+    }
+    tk_u128 magnitude = found_2.value.first;
+    size_t len = found_2.value.second;
+    return tk_some_pair_u64_size(tk_new_pair_u64_size(tk_from_parts_u64(minus, magnitude), len + (s.len - body.len)));
+}
+
+/* atoi_fast/src/by_digits.rt:13 */
+TK_CONSTEXPR tk_option_pair_i128_size tk_prefix_by_digits_i128(tk_bytes s)
+{
+    tk_pair_bool_bytes found = tk_atoi_core_take_sign(true, false, s);
+    bool minus = found.first;
+    tk_bytes body = found.second;
+    tk_option_pair_u128_size found_2 = tk_magnitude_by_digits(
+        tk_greatest_magnitude(tk_u128_make(UINT64_C(9223372036854775807), UINT64_C(18446744073709551615)), minus),
+            body);
+    if (!found_2.is_some) {
+        return tk_none_pair_i128_size();
+    }
+    tk_u128 magnitude = found_2.value.first;
+    size_t len = found_2.value.second;
+    return tk_some_pair_i128_size(tk_new_pair_i128_size(tk_from_parts_i128(minus, magnitude),
+                                                        len + (s.len - body.len)));
+}
+
+/* atoi_fast/src/by_digits.rt:13 */
+TK_CONSTEXPR tk_option_pair_u128_size tk_prefix_by_digits_u128(tk_bytes s)
+{
+    tk_pair_bool_bytes found = tk_atoi_core_take_sign(false, false, s);
+    bool minus = found.first;
+    tk_bytes body = found.second;
+    tk_option_pair_u128_size found_2 = tk_magnitude_by_digits(
+        tk_greatest_magnitude(tk_u128_make(UINT64_C(18446744073709551615), UINT64_C(18446744073709551615)), minus),
+            body);
+    if (!found_2.is_some) {
+        return tk_none_pair_u128_size();
+    }
+    tk_u128 magnitude = found_2.value.first;
+    size_t len = found_2.value.second;
+    return tk_some_pair_u128_size(tk_new_pair_u128_size(tk_from_parts_u128(minus, magnitude),
+                                                        len + (s.len - body.len)));
+}
+
+/* Says whether so many digits are too many for a wide type, unless zeros are skipped. */
+/* atoi_fast/src/by_digits.rt:72 */
+TK_CONSTEXPR bool tk_is_above_limit(uint32_t bits, bool is_signed, size_t len)
+{
+    size_t limit = bits == 64 && is_signed ? 19 : bits == 64 && !is_signed ? 20 : 39;
+    return bits > 32 && len > limit;
+}
+
+/* Returns the number that a whole parse of `s` returns, or `None` for each of its errors. */
+/* atoi_fast/src/by_digits.rt:28 */
+TK_CONSTEXPR tk_option_i8 tk_whole_by_digits_i8(bool skip, bool skip_plus, tk_bytes s)
+{
+    tk_pair_bool_bytes found = tk_atoi_core_take_sign(true, skip_plus, s);
+    bool minus = found.first;
+    tk_bytes body = found.second;
+    tk_option_pair_u128_size found_2 = tk_magnitude_by_digits(tk_greatest_magnitude(tk_u128_of(127), minus), body);
+    if (!found_2.is_some) {
+        return tk_none_i8();
+    }
+    tk_u128 magnitude = found_2.value.first;
+    size_t len = found_2.value.second;
+    if (len != body.len) {
+        return tk_none_i8();
+    }
+    if (!skip && tk_is_above_limit(8, true, len)) {
+        return tk_none_i8();
+    }
+    return tk_some_i8(tk_from_parts_i8(minus, magnitude));
+}
+
+/* atoi_fast/src/by_digits.rt:28 */
+TK_CONSTEXPR tk_option_u8 tk_whole_by_digits_u8(bool skip, bool skip_plus, tk_bytes s)
+{
+    tk_pair_bool_bytes found = tk_atoi_core_take_sign(false, skip_plus, s);
+    bool minus = found.first;
+    tk_bytes body = found.second;
+    tk_option_pair_u128_size found_2 = tk_magnitude_by_digits(tk_greatest_magnitude(tk_u128_of(255), minus), body);
+    if (!found_2.is_some) {
+        return tk_none_u8();
+    }
+    tk_u128 magnitude = found_2.value.first;
+    size_t len = found_2.value.second;
+    if (len != body.len) {
+        return tk_none_u8();
+    }
+    if (!skip && tk_is_above_limit(8, false, len)) {
+        return tk_none_u8();
+    }
+    return tk_some_u8(tk_from_parts_u8(minus, magnitude));
+}
+
+/* atoi_fast/src/by_digits.rt:28 */
+TK_CONSTEXPR tk_option_i16 tk_whole_by_digits_i16(bool skip, bool skip_plus, tk_bytes s)
+{
+    tk_pair_bool_bytes found = tk_atoi_core_take_sign(true, skip_plus, s);
+    bool minus = found.first;
+    tk_bytes body = found.second;
+    tk_option_pair_u128_size found_2 = tk_magnitude_by_digits(tk_greatest_magnitude(tk_u128_of(32767), minus), body);
+    if (!found_2.is_some) {
+        return tk_none_i16();
+    }
+    tk_u128 magnitude = found_2.value.first;
+    size_t len = found_2.value.second;
+    if (len != body.len) {
+        return tk_none_i16();
+    }
+    if (!skip && tk_is_above_limit(16, true, len)) {
+        return tk_none_i16();
+    }
+    return tk_some_i16(tk_from_parts_i16(minus, magnitude));
+}
+
+/* atoi_fast/src/by_digits.rt:28 */
+TK_CONSTEXPR tk_option_u16 tk_whole_by_digits_u16(bool skip, bool skip_plus, tk_bytes s)
+{
+    tk_pair_bool_bytes found = tk_atoi_core_take_sign(false, skip_plus, s);
+    bool minus = found.first;
+    tk_bytes body = found.second;
+    tk_option_pair_u128_size found_2 = tk_magnitude_by_digits(tk_greatest_magnitude(tk_u128_of(65535), minus), body);
+    if (!found_2.is_some) {
+        return tk_none_u16();
+    }
+    tk_u128 magnitude = found_2.value.first;
+    size_t len = found_2.value.second;
+    if (len != body.len) {
+        return tk_none_u16();
+    }
+    if (!skip && tk_is_above_limit(16, false, len)) {
+        return tk_none_u16();
+    }
+    return tk_some_u16(tk_from_parts_u16(minus, magnitude));
+}
+
+/* atoi_fast/src/by_digits.rt:28 */
+TK_CONSTEXPR tk_option_i32 tk_whole_by_digits_i32(bool skip, bool skip_plus, tk_bytes s)
+{
+    tk_pair_bool_bytes found = tk_atoi_core_take_sign(true, skip_plus, s);
+    bool minus = found.first;
+    tk_bytes body = found.second;
+    tk_option_pair_u128_size found_2 = tk_magnitude_by_digits(tk_greatest_magnitude(tk_u128_of(2147483647), minus),
+                                                              body);
+    if (!found_2.is_some) {
+        return tk_none_i32();
+    }
+    tk_u128 magnitude = found_2.value.first;
+    size_t len = found_2.value.second;
+    if (len != body.len) {
+        return tk_none_i32();
+    }
+    if (!skip && tk_is_above_limit(32, true, len)) {
+        return tk_none_i32();
+    }
+    return tk_some_i32(tk_from_parts_i32(minus, magnitude));
+}
+
+/* atoi_fast/src/by_digits.rt:28 */
+TK_CONSTEXPR tk_option_u32 tk_whole_by_digits_u32(bool skip, bool skip_plus, tk_bytes s)
+{
+    tk_pair_bool_bytes found = tk_atoi_core_take_sign(false, skip_plus, s);
+    bool minus = found.first;
+    tk_bytes body = found.second;
+    tk_option_pair_u128_size found_2 = tk_magnitude_by_digits(tk_greatest_magnitude(tk_u128_of(UINT64_C(4294967295)),
+                                                                                    minus), body);
+    if (!found_2.is_some) {
+        return tk_none_u32();
+    }
+    tk_u128 magnitude = found_2.value.first;
+    size_t len = found_2.value.second;
+    if (len != body.len) {
+        return tk_none_u32();
+    }
+    if (!skip && tk_is_above_limit(32, false, len)) {
+        return tk_none_u32();
+    }
+    return tk_some_u32(tk_from_parts_u32(minus, magnitude));
+}
+
+/* atoi_fast/src/by_digits.rt:28 */
+TK_CONSTEXPR tk_option_i64 tk_whole_by_digits_i64(bool skip, bool skip_plus, tk_bytes s)
+{
+    tk_pair_bool_bytes found = tk_atoi_core_take_sign(true, skip_plus, s);
+    bool minus = found.first;
+    tk_bytes body = found.second;
+    tk_option_pair_u128_size found_2 = tk_magnitude_by_digits(
+        tk_greatest_magnitude(tk_u128_of(UINT64_C(9223372036854775807)), minus), body);
+    if (!found_2.is_some) {
+        return tk_none_i64();
+    }
+    tk_u128 magnitude = found_2.value.first;
+    size_t len = found_2.value.second;
+    if (len != body.len) {
+        return tk_none_i64();
+    }
+    if (!skip && tk_is_above_limit(64, true, len)) {
+        return tk_none_i64();
+    }
+    return tk_some_i64(tk_from_parts_i64(minus, magnitude));
+}
+
+/* atoi_fast/src/by_digits.rt:28 */
+TK_CONSTEXPR tk_option_u64 tk_whole_by_digits_u64(bool skip, bool skip_plus, tk_bytes s)
+{
+    tk_pair_bool_bytes found = tk_atoi_core_take_sign(false, skip_plus, s);
+    bool minus = found.first;
+    tk_bytes body = found.second;
+    tk_option_pair_u128_size found_2 = tk_magnitude_by_digits(
+        tk_greatest_magnitude(tk_u128_of(UINT64_C(18446744073709551615)), minus), body);
+    if (!found_2.is_some) {
+        return tk_none_u64();
+    }
+    tk_u128 magnitude = found_2.value.first;
+    size_t len = found_2.value.second;
+    if (len != body.len) {
+        return tk_none_u64();
+    }
+    if (!skip && tk_is_above_limit(64, false, len)) {
+        return tk_none_u64();
+    }
+    return tk_some_u64(tk_from_parts_u64(minus, magnitude));
+}
+
+/* atoi_fast/src/by_digits.rt:28 */
+TK_CONSTEXPR tk_option_i128 tk_whole_by_digits_i128(bool skip, bool skip_plus, tk_bytes s)
+{
+    tk_pair_bool_bytes found = tk_atoi_core_take_sign(true, skip_plus, s);
+    bool minus = found.first;
+    tk_bytes body = found.second;
+    tk_option_pair_u128_size found_2 = tk_magnitude_by_digits(
+        tk_greatest_magnitude(tk_u128_make(UINT64_C(9223372036854775807), UINT64_C(18446744073709551615)), minus),
+            body);
+    if (!found_2.is_some) {
+        return tk_none_i128();
+    }
+    tk_u128 magnitude = found_2.value.first;
+    size_t len = found_2.value.second;
+    if (len != body.len) {
+        return tk_none_i128();
+    }
+    if (!skip && tk_is_above_limit(128, true, len)) {
+        return tk_none_i128();
+    }
+    return tk_some_i128(tk_from_parts_i128(minus, magnitude));
+}
+
+/* atoi_fast/src/by_digits.rt:28 */
+TK_CONSTEXPR tk_option_u128 tk_whole_by_digits_u128(bool skip, bool skip_plus, tk_bytes s)
+{
+    tk_pair_bool_bytes found = tk_atoi_core_take_sign(false, skip_plus, s);
+    bool minus = found.first;
+    tk_bytes body = found.second;
+    tk_option_pair_u128_size found_2 = tk_magnitude_by_digits(
+        tk_greatest_magnitude(tk_u128_make(UINT64_C(18446744073709551615), UINT64_C(18446744073709551615)), minus),
+            body);
+    if (!found_2.is_some) {
+        return tk_none_u128();
+    }
+    tk_u128 magnitude = found_2.value.first;
+    size_t len = found_2.value.second;
+    if (len != body.len) {
+        return tk_none_u128();
+    }
+    if (!skip && tk_is_above_limit(128, false, len)) {
+        return tk_none_u128();
+    }
+    return tk_some_u128(tk_from_parts_u128(minus, magnitude));
+}
+
 /* Returns whether `byte` may separate fields: any byte except a digit, `+` or `-`. */
 /* atoi_column/src/column.rt:27 */
 TK_HINTED bool tk_is_separator(uint8_t byte)
@@ -2636,6 +3116,7 @@ const char *torkettle_version(void) TORKETTLE_SYMBOL_(version);
 #ifndef TORKETTLE_SOURCE_
 #undef TK_CAST
 #undef TK_COLD
+#undef TK_CONSTEXPR
 #undef TK_FAR
 #undef TK_FAR_COLD
 #undef TK_HINTED

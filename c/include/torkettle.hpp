@@ -11,6 +11,7 @@
 
 #include <charconv>
 #include <cstddef>
+#include <cstdint>
 #include <iterator>
 #include <optional>
 #include <string>
@@ -19,9 +20,42 @@
 #include <type_traits>
 #include <utility>
 
+// Whether `from_chars` and `parse` may be part of a constant expression, and are called in one.
+#if defined __GNUC__ && __cplusplus >= 202002L && defined __cpp_constexpr_dynamic_alloc
+#define TORKETTLE_CONSTEXPR_ constexpr
+#define TORKETTLE_IS_CONSTANT_() __builtin_is_constant_evaluated()
+#else
+#define TORKETTLE_CONSTEXPR_
+#define TORKETTLE_IS_CONSTANT_() false
+#endif
+
 namespace torkettle {
 
 namespace detail {
+
+// The bytes of a text in a constant expression, where its pointer cannot be cast.
+class copied {
+public:
+    TORKETTLE_CONSTEXPR_ copied(const char *text, std::size_t length) : bytes(new std::uint8_t[length]), size(length)
+    {
+        for (std::size_t at = 0; at < length; ++at)
+            bytes[at] = static_cast<std::uint8_t>(text[at]);
+    }
+    copied(const copied &) = delete;
+    copied &operator=(const copied &) = delete;
+    TORKETTLE_CONSTEXPR_ ~copied()
+    {
+        delete[] bytes;
+    }
+    TORKETTLE_CONSTEXPR_ operator tk_bytes() const noexcept
+    {
+        return tk_bytes_of(bytes, size);
+    }
+
+private:
+    std::uint8_t *bytes;
+    std::size_t size;
+};
 
 // The functions of torkettle.h for the integers with this size and sign. `whole` and `prefix` begin with a sign where
 // the type has one, skip zeros and take no plus.
@@ -31,13 +65,32 @@ struct functions;
 #define TORKETTLE_FUNCTIONS_(size, is_signed, name)                                                                    \
     template <>                                                                                                        \
     struct functions<size, is_signed> {                                                                                \
-        [[gnu::always_inline]] static auto whole(const char *text, std::size_t length, unsigned flags) noexcept        \
+        using found = torkettle_found_##name;                                                                          \
+        [[gnu::always_inline]] static TORKETTLE_CONSTEXPR_ found whole(const char *text, std::size_t length,           \
+                                                                       unsigned flags) noexcept                        \
         {                                                                                                              \
-            return torkettle_of_whole_##name(text, length, flags);                                                     \
+            if (TORKETTLE_IS_CONSTANT_())                                                                              \
+                return constant_whole(copied(text, length), flags);                                                    \
+            else                                                                                                       \
+                return torkettle_of_whole_##name(text, length, flags);                                                 \
         }                                                                                                              \
-        [[gnu::always_inline]] static auto prefix(const char *text, std::size_t length) noexcept                       \
+        [[gnu::always_inline]] static TORKETTLE_CONSTEXPR_ found prefix(const char *text, std::size_t length) noexcept \
         {                                                                                                              \
-            return torkettle_of_prefix_##name(text, length, TORKETTLE_SKIP_ZEROES);                                    \
+            if (TORKETTLE_IS_CONSTANT_())                                                                              \
+                return constant_prefix(copied(text, length));                                                          \
+            else                                                                                                       \
+                return torkettle_of_prefix_##name(text, length, TORKETTLE_SKIP_ZEROES);                                \
+        }                                                                                                              \
+        static TORKETTLE_CONSTEXPR_ found constant_whole(tk_bytes text, unsigned flags) noexcept                       \
+        {                                                                                                              \
+            const auto number = tk_whole_by_digits_##name((flags & TORKETTLE_SKIP_ZEROES) != 0,                        \
+                                                          (flags & TORKETTLE_SKIP_PLUS) != 0, text);                   \
+            return {number.value, number.is_some ? text.len : 0};                                                          \
+        }                                                                                                              \
+        static TORKETTLE_CONSTEXPR_ found constant_prefix(tk_bytes text) noexcept                                      \
+        {                                                                                                              \
+            const auto number = tk_prefix_by_digits_##name(text);                                                      \
+            return {number.value.first, number.is_some ? number.value.second : 0};                                     \
         }                                                                                                              \
         static auto canonical(const char *text, std::size_t length) noexcept                                           \
         {                                                                                                              \
@@ -99,8 +152,8 @@ template <class T>
 using functions_of = functions<sizeof(T), (T(-1) < T(0))>;
 
 // Why there is no number at the start of a text: no digit, or a value that the type does not hold.
-[[gnu::cold, gnu::noinline]] inline std::from_chars_result refused(const char *first, const char *last,
-                                                                   bool is_signed) noexcept
+[[gnu::cold, gnu::noinline]] TORKETTLE_CONSTEXPR_ inline std::from_chars_result
+refused(const char *first, const char *last, bool is_signed) noexcept
 {
     const auto is_digit = [last](const char *at) { return at != last && '0' <= *at && *at <= '9'; };
     const char *end = first != last && *first == '-' && is_signed ? first + 1 : first;
@@ -120,9 +173,10 @@ using from_chars_result = std::from_chars_result;
 // Reads the number at the start of a text: digits, after an optional `-` if the type is signed. Sets `value` and
 // returns the end of the number. Without a digit, returns `first` and `std::errc::invalid_argument`. If the number is
 // out of range, returns the end of its digits and `std::errc::result_out_of_range`. An error leaves `value` as it is.
-// In C++23, a constant expression has to call `std::from_chars`.
+// From C++20 on, gcc and clang accept a call in a constant expression.
 template <class T, std::enable_if_t<detail::is_integer<T>, int> = 0>
-[[gnu::always_inline]] inline from_chars_result from_chars(const char *first, const char *last, T &value) noexcept
+[[gnu::always_inline]] TORKETTLE_CONSTEXPR_ inline from_chars_result from_chars(const char *first, const char *last,
+                                                                                T &value) noexcept
 {
     const auto found = detail::functions_of<T>::prefix(first, static_cast<std::size_t>(last - first));
     if (found.length == 0)
@@ -133,7 +187,7 @@ template <class T, std::enable_if_t<detail::is_integer<T>, int> = 0>
 
 // The same in each base from 2 to 36. For a base other than 10, this calls `std::from_chars`.
 template <class T, std::enable_if_t<detail::is_integer<T>, int> = 0>
-inline auto from_chars(const char *first, const char *last, T &value, int base) noexcept
+TORKETTLE_CONSTEXPR_ inline auto from_chars(const char *first, const char *last, T &value, int base) noexcept
     -> decltype(std::from_chars(first, last, value, base))
 {
     return base == 10 ? torkettle::from_chars(first, last, value) : std::from_chars(first, last, value, base);
@@ -150,7 +204,8 @@ inline auto from_chars(const char *first, const char *last, T &value, Format... 
 // Returns the number, if the whole text is one that `from_chars` reads. With other flags (see torkettle.h), leading
 // zeros count as digits, or a `+` may come before them.
 template <class T, std::enable_if_t<detail::is_integer<T>, int> = 0>
-inline std::optional<T> parse(std::string_view text, unsigned flags = TORKETTLE_SKIP_ZEROES) noexcept
+TORKETTLE_CONSTEXPR_ inline std::optional<T> parse(std::string_view text,
+                                                   unsigned flags = TORKETTLE_SKIP_ZEROES) noexcept
 {
     const auto found = detail::functions_of<T>::whole(text.data(), text.size(), flags);
     if (found.length == 0)
@@ -388,5 +443,8 @@ template <class T, class Allocator>
 fields<T> lines(const detail::string<Allocator> &&text) = delete;
 
 } // namespace torkettle
+
+#undef TORKETTLE_CONSTEXPR_
+#undef TORKETTLE_IS_CONSTANT_
 
 #endif

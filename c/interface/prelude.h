@@ -38,20 +38,27 @@
 #define TK_COLD static inline
 #endif
 
+/* What a compiler of C++20 can call in a constant expression. */
+#if defined __GNUC__ && defined __cplusplus && __cplusplus >= 202002L
+#define TK_CONSTEXPR constexpr TK_INLINE
+#else
+#define TK_CONSTEXPR TK_INLINE
+#endif
+
 /* A condition that is proved to hold. A test may define this as `assert`. */
 #ifndef TORKETTLE_CHECK
 #define TORKETTLE_CHECK(condition) ((void)0)
 #endif
 
 /* An index of so many elements. */
-TK_INLINE size_t tk_index(size_t index, size_t len)
+TK_CONSTEXPR size_t tk_index(size_t index, size_t len)
 {
     TORKETTLE_CHECK(index < len);
     (void)len;
     return index;
 }
 
-TK_INLINE bool tk_is_digit(uint8_t byte)
+TK_CONSTEXPR bool tk_is_digit(uint8_t byte)
 {
     return '0' <= byte && byte <= '9';
 }
@@ -111,62 +118,62 @@ TK_INLINE uint64_t tk_load_64(const uint8_t *bytes)
 __extension__ typedef __int128 tk_i128;
 __extension__ typedef unsigned __int128 tk_u128;
 
-TK_INLINE tk_u128 tk_u128_make(uint64_t high, uint64_t low)
+TK_CONSTEXPR tk_u128 tk_u128_make(uint64_t high, uint64_t low)
 {
     return TK_CAST(tk_u128, high) << 64 | low;
 }
 
-TK_INLINE tk_u128 tk_u128_of(uint64_t value)
+TK_CONSTEXPR tk_u128 tk_u128_of(uint64_t value)
 {
     return value;
 }
 
-TK_INLINE uint64_t tk_u128_low(tk_u128 value)
+TK_CONSTEXPR uint64_t tk_u128_low(tk_u128 value)
 {
     return TK_CAST(uint64_t, value);
 }
 
-TK_INLINE bool tk_u128_less(tk_u128 a, tk_u128 b)
+TK_CONSTEXPR bool tk_u128_less(tk_u128 a, tk_u128 b)
 {
     return a < b;
 }
 
-TK_INLINE tk_u128 tk_u128_wrapping_add(tk_u128 a, tk_u128 b)
+TK_CONSTEXPR tk_u128 tk_u128_wrapping_add(tk_u128 a, tk_u128 b)
 {
     return a + b;
 }
 
-TK_INLINE tk_u128 tk_u128_wrapping_sub(tk_u128 a, tk_u128 b)
+TK_CONSTEXPR tk_u128 tk_u128_wrapping_sub(tk_u128 a, tk_u128 b)
 {
     return a - b;
 }
 
-TK_INLINE tk_u128 tk_u128_wrapping_mul(tk_u128 a, tk_u128 b)
+TK_CONSTEXPR tk_u128 tk_u128_wrapping_mul(tk_u128 a, tk_u128 b)
 {
     return a * b;
 }
 
-TK_INLINE bool tk_u128_product_fits(tk_u128 a, tk_u128 b)
+TK_CONSTEXPR bool tk_u128_product_fits(tk_u128 a, tk_u128 b)
 {
     return b == 0 || a <= ~TK_CAST(tk_u128, 0) / b;
 }
 
-TK_INLINE tk_u128 tk_u128_shift_left(tk_u128 a, uint64_t count)
+TK_CONSTEXPR tk_u128 tk_u128_shift_left(tk_u128 a, uint64_t count)
 {
     return a << count;
 }
 
-TK_INLINE tk_u128 tk_u128_shift_right(tk_u128 a, uint64_t count)
+TK_CONSTEXPR tk_u128 tk_u128_shift_right(tk_u128 a, uint64_t count)
 {
     return a >> count;
 }
 
-TK_INLINE tk_i128 tk_u128_as_i128(tk_u128 value)
+TK_CONSTEXPR tk_i128 tk_u128_as_i128(tk_u128 value)
 {
     return TK_CAST(tk_i128, value);
 }
 
-TK_INLINE tk_u128 tk_i128_as_u128(tk_i128 value)
+TK_CONSTEXPR tk_u128 tk_i128_as_u128(tk_i128 value)
 {
     return TK_CAST(tk_u128, value);
 }
@@ -180,39 +187,39 @@ typedef struct tk_i128 {
     tk_u128 bits;
 } tk_i128;
 
-TK_INLINE tk_u128 tk_u128_make(uint64_t high, uint64_t low)
+TK_CONSTEXPR tk_u128 tk_u128_make(uint64_t high, uint64_t low)
 {
     return TK_MAKE(tk_u128, low, high);
 }
 
-TK_INLINE tk_u128 tk_u128_of(uint64_t value)
+TK_CONSTEXPR tk_u128 tk_u128_of(uint64_t value)
 {
     return TK_MAKE(tk_u128, value, 0);
 }
 
-TK_INLINE uint64_t tk_u128_low(tk_u128 value)
+TK_CONSTEXPR uint64_t tk_u128_low(tk_u128 value)
 {
     return value.low;
 }
 
-TK_INLINE bool tk_u128_less(tk_u128 a, tk_u128 b)
+TK_CONSTEXPR bool tk_u128_less(tk_u128 a, tk_u128 b)
 {
     return a.high < b.high || (a.high == b.high && a.low < b.low);
 }
 
-TK_INLINE tk_u128 tk_u128_wrapping_add(tk_u128 a, tk_u128 b)
+TK_CONSTEXPR tk_u128 tk_u128_wrapping_add(tk_u128 a, tk_u128 b)
 {
     uint64_t low = a.low + b.low;
     return TK_MAKE(tk_u128, low, a.high + b.high + (low < a.low));
 }
 
-TK_INLINE tk_u128 tk_u128_wrapping_sub(tk_u128 a, tk_u128 b)
+TK_CONSTEXPR tk_u128 tk_u128_wrapping_sub(tk_u128 a, tk_u128 b)
 {
     return TK_MAKE(tk_u128, a.low - b.low, a.high - b.high - (a.low < b.low));
 }
 
 /* The product of two words, by halves. */
-TK_INLINE tk_u128 tk_u128_of_words(uint64_t a, uint64_t b)
+TK_CONSTEXPR tk_u128 tk_u128_of_words(uint64_t a, uint64_t b)
 {
     uint64_t a_low = a & 0xFFFFFFFF, a_high = a >> 32, b_low = b & 0xFFFFFFFF, b_high = b >> 32;
     uint64_t low = a_low * b_low;
@@ -221,20 +228,20 @@ TK_INLINE tk_u128 tk_u128_of_words(uint64_t a, uint64_t b)
     return TK_MAKE(tk_u128, other << 32 | (low & 0xFFFFFFFF), a_high * b_high + (middle >> 32) + (other >> 32));
 }
 
-TK_INLINE tk_u128 tk_u128_wrapping_mul(tk_u128 a, tk_u128 b)
+TK_CONSTEXPR tk_u128 tk_u128_wrapping_mul(tk_u128 a, tk_u128 b)
 {
     tk_u128 product = tk_u128_of_words(a.low, b.low);
     return TK_MAKE(tk_u128, product.low, product.high + a.high * b.low + a.low * b.high);
 }
 
-TK_INLINE bool tk_u128_product_fits(tk_u128 a, tk_u128 b)
+TK_CONSTEXPR bool tk_u128_product_fits(tk_u128 a, tk_u128 b)
 {
     tk_u128 cross = tk_u128_wrapping_add(tk_u128_of_words(a.high, b.low), tk_u128_of_words(a.low, b.high));
     tk_u128 low = tk_u128_of_words(a.low, b.low);
     return (a.high == 0 || b.high == 0) && cross.high == 0 && low.high + cross.low >= low.high;
 }
 
-TK_INLINE tk_u128 tk_u128_shift_left(tk_u128 a, uint64_t count)
+TK_CONSTEXPR tk_u128 tk_u128_shift_left(tk_u128 a, uint64_t count)
 {
     if (count >= 64) {
         return TK_MAKE(tk_u128, 0, a.low << (count - 64));
@@ -242,7 +249,7 @@ TK_INLINE tk_u128 tk_u128_shift_left(tk_u128 a, uint64_t count)
     return count == 0 ? a : TK_MAKE(tk_u128, a.low << count, a.high << count | a.low >> (64 - count));
 }
 
-TK_INLINE tk_u128 tk_u128_shift_right(tk_u128 a, uint64_t count)
+TK_CONSTEXPR tk_u128 tk_u128_shift_right(tk_u128 a, uint64_t count)
 {
     if (count >= 64) {
         return TK_MAKE(tk_u128, a.high >> (count - 64), 0);
@@ -250,107 +257,107 @@ TK_INLINE tk_u128 tk_u128_shift_right(tk_u128 a, uint64_t count)
     return count == 0 ? a : TK_MAKE(tk_u128, a.low >> count | a.high << (64 - count), a.high >> count);
 }
 
-TK_INLINE tk_i128 tk_u128_as_i128(tk_u128 value)
+TK_CONSTEXPR tk_i128 tk_u128_as_i128(tk_u128 value)
 {
     return TK_MAKE(tk_i128, value);
 }
 
-TK_INLINE tk_u128 tk_i128_as_u128(tk_i128 value)
+TK_CONSTEXPR tk_u128 tk_i128_as_u128(tk_i128 value)
 {
     return value.bits;
 }
 #endif
 
-TK_INLINE tk_u128 tk_u128_add(tk_u128 a, tk_u128 b)
+TK_CONSTEXPR tk_u128 tk_u128_add(tk_u128 a, tk_u128 b)
 {
     TORKETTLE_CHECK(!tk_u128_less(tk_u128_wrapping_add(a, b), a));
     return tk_u128_wrapping_add(a, b);
 }
 
-TK_INLINE tk_u128 tk_u128_sub(tk_u128 a, tk_u128 b)
+TK_CONSTEXPR tk_u128 tk_u128_sub(tk_u128 a, tk_u128 b)
 {
     TORKETTLE_CHECK(!tk_u128_less(a, b));
     return tk_u128_wrapping_sub(a, b);
 }
 
-TK_INLINE tk_u128 tk_u128_mul(tk_u128 a, tk_u128 b)
+TK_CONSTEXPR tk_u128 tk_u128_mul(tk_u128 a, tk_u128 b)
 {
     TORKETTLE_CHECK(tk_u128_product_fits(a, b));
     return tk_u128_wrapping_mul(a, b);
 }
 
-TK_INLINE uint64_t tk_u128_high(tk_u128 value)
+TK_CONSTEXPR uint64_t tk_u128_high(tk_u128 value)
 {
     return tk_u128_low(tk_u128_shift_right(value, 64));
 }
 
-TK_INLINE bool tk_u128_equal(tk_u128 a, tk_u128 b)
+TK_CONSTEXPR bool tk_u128_equal(tk_u128 a, tk_u128 b)
 {
     return tk_u128_low(a) == tk_u128_low(b) && tk_u128_high(a) == tk_u128_high(b);
 }
 
-TK_INLINE tk_u128 tk_u128_not(tk_u128 a)
+TK_CONSTEXPR tk_u128 tk_u128_not(tk_u128 a)
 {
     return tk_u128_make(~tk_u128_high(a), ~tk_u128_low(a));
 }
 
-TK_INLINE tk_u128 tk_u128_and(tk_u128 a, tk_u128 b)
+TK_CONSTEXPR tk_u128 tk_u128_and(tk_u128 a, tk_u128 b)
 {
     return tk_u128_make(tk_u128_high(a) & tk_u128_high(b), tk_u128_low(a) & tk_u128_low(b));
 }
 
-TK_INLINE tk_u128 tk_u128_or(tk_u128 a, tk_u128 b)
+TK_CONSTEXPR tk_u128 tk_u128_or(tk_u128 a, tk_u128 b)
 {
     return tk_u128_make(tk_u128_high(a) | tk_u128_high(b), tk_u128_low(a) | tk_u128_low(b));
 }
 
-TK_INLINE tk_u128 tk_u128_xor(tk_u128 a, tk_u128 b)
+TK_CONSTEXPR tk_u128 tk_u128_xor(tk_u128 a, tk_u128 b)
 {
     return tk_u128_make(tk_u128_high(a) ^ tk_u128_high(b), tk_u128_low(a) ^ tk_u128_low(b));
 }
 
-TK_INLINE tk_i128 tk_i128_make(uint64_t high, uint64_t low)
+TK_CONSTEXPR tk_i128 tk_i128_make(uint64_t high, uint64_t low)
 {
     return tk_u128_as_i128(tk_u128_make(high, low));
 }
 
-TK_INLINE tk_i128 tk_i128_of(uint64_t value)
+TK_CONSTEXPR tk_i128 tk_i128_of(uint64_t value)
 {
     return tk_u128_as_i128(tk_u128_of(value));
 }
 
-TK_INLINE uint64_t tk_i128_low(tk_i128 value)
+TK_CONSTEXPR uint64_t tk_i128_low(tk_i128 value)
 {
     return tk_u128_low(tk_i128_as_u128(value));
 }
 
-TK_INLINE bool tk_i128_less(tk_i128 a, tk_i128 b)
+TK_CONSTEXPR bool tk_i128_less(tk_i128 a, tk_i128 b)
 {
     tk_u128 sign = tk_u128_make(UINT64_C(0x8000000000000000), 0);
     return tk_u128_less(tk_u128_xor(tk_i128_as_u128(a), sign), tk_u128_xor(tk_i128_as_u128(b), sign));
 }
 
-TK_INLINE bool tk_i128_equal(tk_i128 a, tk_i128 b)
+TK_CONSTEXPR bool tk_i128_equal(tk_i128 a, tk_i128 b)
 {
     return tk_u128_equal(tk_i128_as_u128(a), tk_i128_as_u128(b));
 }
 
-TK_INLINE tk_i128 tk_i128_sub(tk_i128 a, tk_i128 b)
+TK_CONSTEXPR tk_i128 tk_i128_sub(tk_i128 a, tk_i128 b)
 {
     return tk_u128_as_i128(tk_u128_wrapping_sub(tk_i128_as_u128(a), tk_i128_as_u128(b)));
 }
 
-TK_INLINE tk_i128 tk_i128_mul(tk_i128 a, tk_i128 b)
+TK_CONSTEXPR tk_i128 tk_i128_mul(tk_i128 a, tk_i128 b)
 {
     return tk_u128_as_i128(tk_u128_wrapping_mul(tk_i128_as_u128(a), tk_i128_as_u128(b)));
 }
 
-TK_INLINE tk_i128 tk_i128_negate(tk_i128 a)
+TK_CONSTEXPR tk_i128 tk_i128_negate(tk_i128 a)
 {
     return tk_u128_as_i128(tk_u128_wrapping_sub(tk_u128_of(0), tk_i128_as_u128(a)));
 }
 
-TK_INLINE tk_u128 tk_i128_unsigned_abs(tk_i128 a)
+TK_CONSTEXPR tk_u128 tk_i128_unsigned_abs(tk_i128 a)
 {
     return tk_i128_as_u128(tk_i128_less(a, tk_i128_of(0)) ? tk_i128_negate(a) : a);
 }

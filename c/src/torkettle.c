@@ -13,7 +13,7 @@ typedef struct tk_window {
     uint64_t number;
 } tk_window;
 
-TK_INLINE tk_window tk_new_window(uint32_t len, uint32_t zeroes, uint64_t number)
+TK_CONSTEXPR tk_window tk_new_window(uint32_t len, uint32_t zeroes, uint64_t number)
 {
     return TK_MAKE(tk_window, len, zeroes, number);
 }
@@ -23,7 +23,7 @@ typedef struct tk_pair_size_window {
     tk_window second;
 } tk_pair_size_window;
 
-TK_INLINE tk_pair_size_window tk_new_pair_size_window(size_t first, tk_window second)
+TK_CONSTEXPR tk_pair_size_window tk_new_pair_size_window(size_t first, tk_window second)
 {
     return TK_MAKE(tk_pair_size_window, first, second);
 }
@@ -45,27 +45,27 @@ typedef struct tk_error {
     tk_u128 u128;
 } tk_error;
 
-TK_INLINE tk_error tk_error_empty(void)
+TK_CONSTEXPR tk_error tk_error_empty(void)
 {
     return TK_MAKE(tk_error, TK_ERROR_EMPTY, 0, tk_bytes_of(NULL, 0), 0, tk_u128_of(0));
 }
 
-TK_INLINE tk_error tk_error_size(size_t size, tk_bytes bytes)
+TK_CONSTEXPR tk_error tk_error_size(size_t size, tk_bytes bytes)
 {
     return TK_MAKE(tk_error, TK_ERROR_SIZE, size, bytes, 0, tk_u128_of(0));
 }
 
-TK_INLINE tk_error tk_error_overflow(tk_bytes bytes)
+TK_CONSTEXPR tk_error tk_error_overflow(tk_bytes bytes)
 {
     return TK_MAKE(tk_error, TK_ERROR_OVERFLOW, 0, bytes, 0, tk_u128_of(0));
 }
 
-TK_INLINE tk_error tk_error_invalid64(uint64_t u64, size_t size, tk_bytes bytes)
+TK_CONSTEXPR tk_error tk_error_invalid64(uint64_t u64, size_t size, tk_bytes bytes)
 {
     return TK_MAKE(tk_error, TK_ERROR_INVALID64, size, bytes, u64, tk_u128_of(0));
 }
 
-TK_INLINE tk_error tk_error_invalid128(tk_u128 u128, size_t size, tk_bytes bytes)
+TK_CONSTEXPR tk_error tk_error_invalid128(tk_u128 u128, size_t size, tk_bytes bytes)
 {
     return TK_MAKE(tk_error, TK_ERROR_INVALID128, size, bytes, 0, u128);
 }
@@ -76,12 +76,12 @@ typedef struct tk_result_u64 {
     tk_error error;
 } tk_result_u64;
 
-TK_INLINE tk_result_u64 tk_ok_u64(uint64_t value)
+TK_CONSTEXPR tk_result_u64 tk_ok_u64(uint64_t value)
 {
     return TK_MAKE(tk_result_u64, true, value, tk_error_empty());
 }
 
-TK_INLINE tk_result_u64 tk_err_u64(tk_error error)
+TK_CONSTEXPR tk_result_u64 tk_err_u64(tk_error error)
 {
     return TK_MAKE(tk_result_u64, false, 0, error);
 }
@@ -92,12 +92,12 @@ typedef struct tk_result_pair_u64_size {
     tk_error error;
 } tk_result_pair_u64_size;
 
-TK_INLINE tk_result_pair_u64_size tk_ok_pair_u64_size(tk_pair_u64_size value)
+TK_CONSTEXPR tk_result_pair_u64_size tk_ok_pair_u64_size(tk_pair_u64_size value)
 {
     return TK_MAKE(tk_result_pair_u64_size, true, value, tk_error_empty());
 }
 
-TK_INLINE tk_result_pair_u64_size tk_err_pair_u64_size(tk_error error)
+TK_CONSTEXPR tk_result_pair_u64_size tk_err_pair_u64_size(tk_error error)
 {
     return TK_MAKE(tk_result_pair_u64_size, false, tk_new_pair_u64_size(0, 0), error);
 }
@@ -108,12 +108,12 @@ typedef struct tk_result_pair_u128_size {
     tk_error error;
 } tk_result_pair_u128_size;
 
-TK_INLINE tk_result_pair_u128_size tk_ok_pair_u128_size(tk_pair_u128_size value)
+TK_CONSTEXPR tk_result_pair_u128_size tk_ok_pair_u128_size(tk_pair_u128_size value)
 {
     return TK_MAKE(tk_result_pair_u128_size, true, value, tk_error_empty());
 }
 
-TK_INLINE tk_result_pair_u128_size tk_err_pair_u128_size(tk_error error)
+TK_CONSTEXPR tk_result_pair_u128_size tk_err_pair_u128_size(tk_error error)
 {
     return TK_MAKE(tk_result_pair_u128_size, false, tk_new_pair_u128_size(tk_u128_of(0), 0), error);
 }
@@ -124,12 +124,12 @@ typedef struct tk_result_u128 {
     tk_error error;
 } tk_result_u128;
 
-TK_INLINE tk_result_u128 tk_ok_u128(tk_u128 value)
+TK_CONSTEXPR tk_result_u128 tk_ok_u128(tk_u128 value)
 {
     return TK_MAKE(tk_result_u128, true, value, tk_error_empty());
 }
 
-TK_INLINE tk_result_u128 tk_err_u128(tk_error error)
+TK_CONSTEXPR tk_result_u128 tk_err_u128(tk_error error)
 {
     return TK_MAKE(tk_result_u128, false, tk_u128_of(0), error);
 }
@@ -140,24 +140,14 @@ typedef struct tk_result_i8 {
     tk_error error;
 } tk_result_i8;
 
-TK_INLINE tk_result_i8 tk_ok_i8(int8_t value)
+TK_CONSTEXPR tk_result_i8 tk_ok_i8(int8_t value)
 {
     return TK_MAKE(tk_result_i8, true, value, tk_error_empty());
 }
 
-TK_INLINE tk_result_i8 tk_err_i8(tk_error error)
+TK_CONSTEXPR tk_result_i8 tk_err_i8(tk_error error)
 {
     return TK_MAKE(tk_result_i8, false, 0, error);
-}
-
-typedef struct tk_pair_bool_bytes {
-    bool first;
-    tk_bytes second;
-} tk_pair_bool_bytes;
-
-TK_INLINE tk_pair_bool_bytes tk_new_pair_bool_bytes(bool first, tk_bytes second)
-{
-    return TK_MAKE(tk_pair_bool_bytes, first, second);
 }
 
 typedef struct tk_result_u8 {
@@ -166,12 +156,12 @@ typedef struct tk_result_u8 {
     tk_error error;
 } tk_result_u8;
 
-TK_INLINE tk_result_u8 tk_ok_u8(uint8_t value)
+TK_CONSTEXPR tk_result_u8 tk_ok_u8(uint8_t value)
 {
     return TK_MAKE(tk_result_u8, true, value, tk_error_empty());
 }
 
-TK_INLINE tk_result_u8 tk_err_u8(tk_error error)
+TK_CONSTEXPR tk_result_u8 tk_err_u8(tk_error error)
 {
     return TK_MAKE(tk_result_u8, false, 0, error);
 }
@@ -182,12 +172,12 @@ typedef struct tk_result_i16 {
     tk_error error;
 } tk_result_i16;
 
-TK_INLINE tk_result_i16 tk_ok_i16(int16_t value)
+TK_CONSTEXPR tk_result_i16 tk_ok_i16(int16_t value)
 {
     return TK_MAKE(tk_result_i16, true, value, tk_error_empty());
 }
 
-TK_INLINE tk_result_i16 tk_err_i16(tk_error error)
+TK_CONSTEXPR tk_result_i16 tk_err_i16(tk_error error)
 {
     return TK_MAKE(tk_result_i16, false, 0, error);
 }
@@ -198,12 +188,12 @@ typedef struct tk_result_u16 {
     tk_error error;
 } tk_result_u16;
 
-TK_INLINE tk_result_u16 tk_ok_u16(uint16_t value)
+TK_CONSTEXPR tk_result_u16 tk_ok_u16(uint16_t value)
 {
     return TK_MAKE(tk_result_u16, true, value, tk_error_empty());
 }
 
-TK_INLINE tk_result_u16 tk_err_u16(tk_error error)
+TK_CONSTEXPR tk_result_u16 tk_err_u16(tk_error error)
 {
     return TK_MAKE(tk_result_u16, false, 0, error);
 }
@@ -214,12 +204,12 @@ typedef struct tk_result_i32 {
     tk_error error;
 } tk_result_i32;
 
-TK_INLINE tk_result_i32 tk_ok_i32(int32_t value)
+TK_CONSTEXPR tk_result_i32 tk_ok_i32(int32_t value)
 {
     return TK_MAKE(tk_result_i32, true, value, tk_error_empty());
 }
 
-TK_INLINE tk_result_i32 tk_err_i32(tk_error error)
+TK_CONSTEXPR tk_result_i32 tk_err_i32(tk_error error)
 {
     return TK_MAKE(tk_result_i32, false, 0, error);
 }
@@ -230,12 +220,12 @@ typedef struct tk_result_u32 {
     tk_error error;
 } tk_result_u32;
 
-TK_INLINE tk_result_u32 tk_ok_u32(uint32_t value)
+TK_CONSTEXPR tk_result_u32 tk_ok_u32(uint32_t value)
 {
     return TK_MAKE(tk_result_u32, true, value, tk_error_empty());
 }
 
-TK_INLINE tk_result_u32 tk_err_u32(tk_error error)
+TK_CONSTEXPR tk_result_u32 tk_err_u32(tk_error error)
 {
     return TK_MAKE(tk_result_u32, false, 0, error);
 }
@@ -246,12 +236,12 @@ typedef struct tk_result_i64 {
     tk_error error;
 } tk_result_i64;
 
-TK_INLINE tk_result_i64 tk_ok_i64(int64_t value)
+TK_CONSTEXPR tk_result_i64 tk_ok_i64(int64_t value)
 {
     return TK_MAKE(tk_result_i64, true, value, tk_error_empty());
 }
 
-TK_INLINE tk_result_i64 tk_err_i64(tk_error error)
+TK_CONSTEXPR tk_result_i64 tk_err_i64(tk_error error)
 {
     return TK_MAKE(tk_result_i64, false, 0, error);
 }
@@ -262,12 +252,12 @@ typedef struct tk_result_i128 {
     tk_error error;
 } tk_result_i128;
 
-TK_INLINE tk_result_i128 tk_ok_i128(tk_i128 value)
+TK_CONSTEXPR tk_result_i128 tk_ok_i128(tk_i128 value)
 {
     return TK_MAKE(tk_result_i128, true, value, tk_error_empty());
 }
 
-TK_INLINE tk_result_i128 tk_err_i128(tk_error error)
+TK_CONSTEXPR tk_result_i128 tk_err_i128(tk_error error)
 {
     return TK_MAKE(tk_result_i128, false, tk_i128_of(0), error);
 }
@@ -278,12 +268,12 @@ typedef struct tk_result_pair_i8_size {
     tk_error error;
 } tk_result_pair_i8_size;
 
-TK_INLINE tk_result_pair_i8_size tk_ok_pair_i8_size(tk_pair_i8_size value)
+TK_CONSTEXPR tk_result_pair_i8_size tk_ok_pair_i8_size(tk_pair_i8_size value)
 {
     return TK_MAKE(tk_result_pair_i8_size, true, value, tk_error_empty());
 }
 
-TK_INLINE tk_result_pair_i8_size tk_err_pair_i8_size(tk_error error)
+TK_CONSTEXPR tk_result_pair_i8_size tk_err_pair_i8_size(tk_error error)
 {
     return TK_MAKE(tk_result_pair_i8_size, false, tk_new_pair_i8_size(0, 0), error);
 }
@@ -294,12 +284,12 @@ typedef struct tk_result_pair_u8_size {
     tk_error error;
 } tk_result_pair_u8_size;
 
-TK_INLINE tk_result_pair_u8_size tk_ok_pair_u8_size(tk_pair_u8_size value)
+TK_CONSTEXPR tk_result_pair_u8_size tk_ok_pair_u8_size(tk_pair_u8_size value)
 {
     return TK_MAKE(tk_result_pair_u8_size, true, value, tk_error_empty());
 }
 
-TK_INLINE tk_result_pair_u8_size tk_err_pair_u8_size(tk_error error)
+TK_CONSTEXPR tk_result_pair_u8_size tk_err_pair_u8_size(tk_error error)
 {
     return TK_MAKE(tk_result_pair_u8_size, false, tk_new_pair_u8_size(0, 0), error);
 }
@@ -310,12 +300,12 @@ typedef struct tk_result_pair_i16_size {
     tk_error error;
 } tk_result_pair_i16_size;
 
-TK_INLINE tk_result_pair_i16_size tk_ok_pair_i16_size(tk_pair_i16_size value)
+TK_CONSTEXPR tk_result_pair_i16_size tk_ok_pair_i16_size(tk_pair_i16_size value)
 {
     return TK_MAKE(tk_result_pair_i16_size, true, value, tk_error_empty());
 }
 
-TK_INLINE tk_result_pair_i16_size tk_err_pair_i16_size(tk_error error)
+TK_CONSTEXPR tk_result_pair_i16_size tk_err_pair_i16_size(tk_error error)
 {
     return TK_MAKE(tk_result_pair_i16_size, false, tk_new_pair_i16_size(0, 0), error);
 }
@@ -326,12 +316,12 @@ typedef struct tk_result_pair_u16_size {
     tk_error error;
 } tk_result_pair_u16_size;
 
-TK_INLINE tk_result_pair_u16_size tk_ok_pair_u16_size(tk_pair_u16_size value)
+TK_CONSTEXPR tk_result_pair_u16_size tk_ok_pair_u16_size(tk_pair_u16_size value)
 {
     return TK_MAKE(tk_result_pair_u16_size, true, value, tk_error_empty());
 }
 
-TK_INLINE tk_result_pair_u16_size tk_err_pair_u16_size(tk_error error)
+TK_CONSTEXPR tk_result_pair_u16_size tk_err_pair_u16_size(tk_error error)
 {
     return TK_MAKE(tk_result_pair_u16_size, false, tk_new_pair_u16_size(0, 0), error);
 }
@@ -342,12 +332,12 @@ typedef struct tk_result_pair_i32_size {
     tk_error error;
 } tk_result_pair_i32_size;
 
-TK_INLINE tk_result_pair_i32_size tk_ok_pair_i32_size(tk_pair_i32_size value)
+TK_CONSTEXPR tk_result_pair_i32_size tk_ok_pair_i32_size(tk_pair_i32_size value)
 {
     return TK_MAKE(tk_result_pair_i32_size, true, value, tk_error_empty());
 }
 
-TK_INLINE tk_result_pair_i32_size tk_err_pair_i32_size(tk_error error)
+TK_CONSTEXPR tk_result_pair_i32_size tk_err_pair_i32_size(tk_error error)
 {
     return TK_MAKE(tk_result_pair_i32_size, false, tk_new_pair_i32_size(0, 0), error);
 }
@@ -358,12 +348,12 @@ typedef struct tk_result_pair_u32_size {
     tk_error error;
 } tk_result_pair_u32_size;
 
-TK_INLINE tk_result_pair_u32_size tk_ok_pair_u32_size(tk_pair_u32_size value)
+TK_CONSTEXPR tk_result_pair_u32_size tk_ok_pair_u32_size(tk_pair_u32_size value)
 {
     return TK_MAKE(tk_result_pair_u32_size, true, value, tk_error_empty());
 }
 
-TK_INLINE tk_result_pair_u32_size tk_err_pair_u32_size(tk_error error)
+TK_CONSTEXPR tk_result_pair_u32_size tk_err_pair_u32_size(tk_error error)
 {
     return TK_MAKE(tk_result_pair_u32_size, false, tk_new_pair_u32_size(0, 0), error);
 }
@@ -374,12 +364,12 @@ typedef struct tk_result_pair_i64_size {
     tk_error error;
 } tk_result_pair_i64_size;
 
-TK_INLINE tk_result_pair_i64_size tk_ok_pair_i64_size(tk_pair_i64_size value)
+TK_CONSTEXPR tk_result_pair_i64_size tk_ok_pair_i64_size(tk_pair_i64_size value)
 {
     return TK_MAKE(tk_result_pair_i64_size, true, value, tk_error_empty());
 }
 
-TK_INLINE tk_result_pair_i64_size tk_err_pair_i64_size(tk_error error)
+TK_CONSTEXPR tk_result_pair_i64_size tk_err_pair_i64_size(tk_error error)
 {
     return TK_MAKE(tk_result_pair_i64_size, false, tk_new_pair_i64_size(0, 0), error);
 }
@@ -390,12 +380,12 @@ typedef struct tk_result_pair_i128_size {
     tk_error error;
 } tk_result_pair_i128_size;
 
-TK_INLINE tk_result_pair_i128_size tk_ok_pair_i128_size(tk_pair_i128_size value)
+TK_CONSTEXPR tk_result_pair_i128_size tk_ok_pair_i128_size(tk_pair_i128_size value)
 {
     return TK_MAKE(tk_result_pair_i128_size, true, value, tk_error_empty());
 }
 
-TK_INLINE tk_result_pair_i128_size tk_err_pair_i128_size(tk_error error)
+TK_CONSTEXPR tk_result_pair_i128_size tk_err_pair_i128_size(tk_error error)
 {
     return TK_MAKE(tk_result_pair_i128_size, false, tk_new_pair_i128_size(tk_i128_of(0), 0), error);
 }
@@ -405,7 +395,7 @@ typedef struct tk_room_u8 {
     size_t len;
 } tk_room_u8;
 
-TK_INLINE tk_room_u8 tk_room_u8_of(uint8_t *at, size_t len)
+TK_CONSTEXPR tk_room_u8 tk_room_u8_of(uint8_t *at, size_t len)
 {
     return TK_MAKE(tk_room_u8, at, len);
 }
@@ -415,7 +405,7 @@ typedef struct tk_pair_u128_u8 {
     uint8_t second;
 } tk_pair_u128_u8;
 
-TK_INLINE tk_pair_u128_u8 tk_new_pair_u128_u8(tk_u128 first, uint8_t second)
+TK_CONSTEXPR tk_pair_u128_u8 tk_new_pair_u128_u8(tk_u128 first, uint8_t second)
 {
     return TK_MAKE(tk_pair_u128_u8, first, second);
 }
@@ -425,12 +415,12 @@ typedef struct tk_option_bytes {
     tk_bytes value;
 } tk_option_bytes;
 
-TK_INLINE tk_option_bytes tk_some_bytes(tk_bytes value)
+TK_CONSTEXPR tk_option_bytes tk_some_bytes(tk_bytes value)
 {
     return TK_MAKE(tk_option_bytes, true, value);
 }
 
-TK_INLINE tk_option_bytes tk_none_bytes(void)
+TK_CONSTEXPR tk_option_bytes tk_none_bytes(void)
 {
     return TK_MAKE(tk_option_bytes, false, tk_bytes_of(NULL, 0));
 }
@@ -440,7 +430,7 @@ typedef struct tk_pair_i8_bytes {
     tk_bytes second;
 } tk_pair_i8_bytes;
 
-TK_INLINE tk_pair_i8_bytes tk_new_pair_i8_bytes(int8_t first, tk_bytes second)
+TK_CONSTEXPR tk_pair_i8_bytes tk_new_pair_i8_bytes(int8_t first, tk_bytes second)
 {
     return TK_MAKE(tk_pair_i8_bytes, first, second);
 }
@@ -450,12 +440,12 @@ typedef struct tk_option_pair_i8_bytes {
     tk_pair_i8_bytes value;
 } tk_option_pair_i8_bytes;
 
-TK_INLINE tk_option_pair_i8_bytes tk_some_pair_i8_bytes(tk_pair_i8_bytes value)
+TK_CONSTEXPR tk_option_pair_i8_bytes tk_some_pair_i8_bytes(tk_pair_i8_bytes value)
 {
     return TK_MAKE(tk_option_pair_i8_bytes, true, value);
 }
 
-TK_INLINE tk_option_pair_i8_bytes tk_none_pair_i8_bytes(void)
+TK_CONSTEXPR tk_option_pair_i8_bytes tk_none_pair_i8_bytes(void)
 {
     return TK_MAKE(tk_option_pair_i8_bytes, false, tk_new_pair_i8_bytes(0, tk_bytes_of(NULL, 0)));
 }
@@ -465,7 +455,7 @@ typedef struct tk_pair_u8_bytes {
     tk_bytes second;
 } tk_pair_u8_bytes;
 
-TK_INLINE tk_pair_u8_bytes tk_new_pair_u8_bytes(uint8_t first, tk_bytes second)
+TK_CONSTEXPR tk_pair_u8_bytes tk_new_pair_u8_bytes(uint8_t first, tk_bytes second)
 {
     return TK_MAKE(tk_pair_u8_bytes, first, second);
 }
@@ -475,12 +465,12 @@ typedef struct tk_option_pair_u8_bytes {
     tk_pair_u8_bytes value;
 } tk_option_pair_u8_bytes;
 
-TK_INLINE tk_option_pair_u8_bytes tk_some_pair_u8_bytes(tk_pair_u8_bytes value)
+TK_CONSTEXPR tk_option_pair_u8_bytes tk_some_pair_u8_bytes(tk_pair_u8_bytes value)
 {
     return TK_MAKE(tk_option_pair_u8_bytes, true, value);
 }
 
-TK_INLINE tk_option_pair_u8_bytes tk_none_pair_u8_bytes(void)
+TK_CONSTEXPR tk_option_pair_u8_bytes tk_none_pair_u8_bytes(void)
 {
     return TK_MAKE(tk_option_pair_u8_bytes, false, tk_new_pair_u8_bytes(0, tk_bytes_of(NULL, 0)));
 }
@@ -490,7 +480,7 @@ typedef struct tk_pair_i16_bytes {
     tk_bytes second;
 } tk_pair_i16_bytes;
 
-TK_INLINE tk_pair_i16_bytes tk_new_pair_i16_bytes(int16_t first, tk_bytes second)
+TK_CONSTEXPR tk_pair_i16_bytes tk_new_pair_i16_bytes(int16_t first, tk_bytes second)
 {
     return TK_MAKE(tk_pair_i16_bytes, first, second);
 }
@@ -500,12 +490,12 @@ typedef struct tk_option_pair_i16_bytes {
     tk_pair_i16_bytes value;
 } tk_option_pair_i16_bytes;
 
-TK_INLINE tk_option_pair_i16_bytes tk_some_pair_i16_bytes(tk_pair_i16_bytes value)
+TK_CONSTEXPR tk_option_pair_i16_bytes tk_some_pair_i16_bytes(tk_pair_i16_bytes value)
 {
     return TK_MAKE(tk_option_pair_i16_bytes, true, value);
 }
 
-TK_INLINE tk_option_pair_i16_bytes tk_none_pair_i16_bytes(void)
+TK_CONSTEXPR tk_option_pair_i16_bytes tk_none_pair_i16_bytes(void)
 {
     return TK_MAKE(tk_option_pair_i16_bytes, false, tk_new_pair_i16_bytes(0, tk_bytes_of(NULL, 0)));
 }
@@ -515,7 +505,7 @@ typedef struct tk_pair_u16_bytes {
     tk_bytes second;
 } tk_pair_u16_bytes;
 
-TK_INLINE tk_pair_u16_bytes tk_new_pair_u16_bytes(uint16_t first, tk_bytes second)
+TK_CONSTEXPR tk_pair_u16_bytes tk_new_pair_u16_bytes(uint16_t first, tk_bytes second)
 {
     return TK_MAKE(tk_pair_u16_bytes, first, second);
 }
@@ -525,12 +515,12 @@ typedef struct tk_option_pair_u16_bytes {
     tk_pair_u16_bytes value;
 } tk_option_pair_u16_bytes;
 
-TK_INLINE tk_option_pair_u16_bytes tk_some_pair_u16_bytes(tk_pair_u16_bytes value)
+TK_CONSTEXPR tk_option_pair_u16_bytes tk_some_pair_u16_bytes(tk_pair_u16_bytes value)
 {
     return TK_MAKE(tk_option_pair_u16_bytes, true, value);
 }
 
-TK_INLINE tk_option_pair_u16_bytes tk_none_pair_u16_bytes(void)
+TK_CONSTEXPR tk_option_pair_u16_bytes tk_none_pair_u16_bytes(void)
 {
     return TK_MAKE(tk_option_pair_u16_bytes, false, tk_new_pair_u16_bytes(0, tk_bytes_of(NULL, 0)));
 }
@@ -540,7 +530,7 @@ typedef struct tk_pair_i32_bytes {
     tk_bytes second;
 } tk_pair_i32_bytes;
 
-TK_INLINE tk_pair_i32_bytes tk_new_pair_i32_bytes(int32_t first, tk_bytes second)
+TK_CONSTEXPR tk_pair_i32_bytes tk_new_pair_i32_bytes(int32_t first, tk_bytes second)
 {
     return TK_MAKE(tk_pair_i32_bytes, first, second);
 }
@@ -550,12 +540,12 @@ typedef struct tk_option_pair_i32_bytes {
     tk_pair_i32_bytes value;
 } tk_option_pair_i32_bytes;
 
-TK_INLINE tk_option_pair_i32_bytes tk_some_pair_i32_bytes(tk_pair_i32_bytes value)
+TK_CONSTEXPR tk_option_pair_i32_bytes tk_some_pair_i32_bytes(tk_pair_i32_bytes value)
 {
     return TK_MAKE(tk_option_pair_i32_bytes, true, value);
 }
 
-TK_INLINE tk_option_pair_i32_bytes tk_none_pair_i32_bytes(void)
+TK_CONSTEXPR tk_option_pair_i32_bytes tk_none_pair_i32_bytes(void)
 {
     return TK_MAKE(tk_option_pair_i32_bytes, false, tk_new_pair_i32_bytes(0, tk_bytes_of(NULL, 0)));
 }
@@ -565,7 +555,7 @@ typedef struct tk_pair_u32_bytes {
     tk_bytes second;
 } tk_pair_u32_bytes;
 
-TK_INLINE tk_pair_u32_bytes tk_new_pair_u32_bytes(uint32_t first, tk_bytes second)
+TK_CONSTEXPR tk_pair_u32_bytes tk_new_pair_u32_bytes(uint32_t first, tk_bytes second)
 {
     return TK_MAKE(tk_pair_u32_bytes, first, second);
 }
@@ -575,12 +565,12 @@ typedef struct tk_option_pair_u32_bytes {
     tk_pair_u32_bytes value;
 } tk_option_pair_u32_bytes;
 
-TK_INLINE tk_option_pair_u32_bytes tk_some_pair_u32_bytes(tk_pair_u32_bytes value)
+TK_CONSTEXPR tk_option_pair_u32_bytes tk_some_pair_u32_bytes(tk_pair_u32_bytes value)
 {
     return TK_MAKE(tk_option_pair_u32_bytes, true, value);
 }
 
-TK_INLINE tk_option_pair_u32_bytes tk_none_pair_u32_bytes(void)
+TK_CONSTEXPR tk_option_pair_u32_bytes tk_none_pair_u32_bytes(void)
 {
     return TK_MAKE(tk_option_pair_u32_bytes, false, tk_new_pair_u32_bytes(0, tk_bytes_of(NULL, 0)));
 }
@@ -590,7 +580,7 @@ typedef struct tk_pair_i64_bytes {
     tk_bytes second;
 } tk_pair_i64_bytes;
 
-TK_INLINE tk_pair_i64_bytes tk_new_pair_i64_bytes(int64_t first, tk_bytes second)
+TK_CONSTEXPR tk_pair_i64_bytes tk_new_pair_i64_bytes(int64_t first, tk_bytes second)
 {
     return TK_MAKE(tk_pair_i64_bytes, first, second);
 }
@@ -600,12 +590,12 @@ typedef struct tk_option_pair_i64_bytes {
     tk_pair_i64_bytes value;
 } tk_option_pair_i64_bytes;
 
-TK_INLINE tk_option_pair_i64_bytes tk_some_pair_i64_bytes(tk_pair_i64_bytes value)
+TK_CONSTEXPR tk_option_pair_i64_bytes tk_some_pair_i64_bytes(tk_pair_i64_bytes value)
 {
     return TK_MAKE(tk_option_pair_i64_bytes, true, value);
 }
 
-TK_INLINE tk_option_pair_i64_bytes tk_none_pair_i64_bytes(void)
+TK_CONSTEXPR tk_option_pair_i64_bytes tk_none_pair_i64_bytes(void)
 {
     return TK_MAKE(tk_option_pair_i64_bytes, false, tk_new_pair_i64_bytes(0, tk_bytes_of(NULL, 0)));
 }
@@ -615,7 +605,7 @@ typedef struct tk_pair_u64_bytes {
     tk_bytes second;
 } tk_pair_u64_bytes;
 
-TK_INLINE tk_pair_u64_bytes tk_new_pair_u64_bytes(uint64_t first, tk_bytes second)
+TK_CONSTEXPR tk_pair_u64_bytes tk_new_pair_u64_bytes(uint64_t first, tk_bytes second)
 {
     return TK_MAKE(tk_pair_u64_bytes, first, second);
 }
@@ -625,12 +615,12 @@ typedef struct tk_option_pair_u64_bytes {
     tk_pair_u64_bytes value;
 } tk_option_pair_u64_bytes;
 
-TK_INLINE tk_option_pair_u64_bytes tk_some_pair_u64_bytes(tk_pair_u64_bytes value)
+TK_CONSTEXPR tk_option_pair_u64_bytes tk_some_pair_u64_bytes(tk_pair_u64_bytes value)
 {
     return TK_MAKE(tk_option_pair_u64_bytes, true, value);
 }
 
-TK_INLINE tk_option_pair_u64_bytes tk_none_pair_u64_bytes(void)
+TK_CONSTEXPR tk_option_pair_u64_bytes tk_none_pair_u64_bytes(void)
 {
     return TK_MAKE(tk_option_pair_u64_bytes, false, tk_new_pair_u64_bytes(0, tk_bytes_of(NULL, 0)));
 }
@@ -640,7 +630,7 @@ typedef struct tk_pair_i128_bytes {
     tk_bytes second;
 } tk_pair_i128_bytes;
 
-TK_INLINE tk_pair_i128_bytes tk_new_pair_i128_bytes(tk_i128 first, tk_bytes second)
+TK_CONSTEXPR tk_pair_i128_bytes tk_new_pair_i128_bytes(tk_i128 first, tk_bytes second)
 {
     return TK_MAKE(tk_pair_i128_bytes, first, second);
 }
@@ -650,12 +640,12 @@ typedef struct tk_option_pair_i128_bytes {
     tk_pair_i128_bytes value;
 } tk_option_pair_i128_bytes;
 
-TK_INLINE tk_option_pair_i128_bytes tk_some_pair_i128_bytes(tk_pair_i128_bytes value)
+TK_CONSTEXPR tk_option_pair_i128_bytes tk_some_pair_i128_bytes(tk_pair_i128_bytes value)
 {
     return TK_MAKE(tk_option_pair_i128_bytes, true, value);
 }
 
-TK_INLINE tk_option_pair_i128_bytes tk_none_pair_i128_bytes(void)
+TK_CONSTEXPR tk_option_pair_i128_bytes tk_none_pair_i128_bytes(void)
 {
     return TK_MAKE(tk_option_pair_i128_bytes, false, tk_new_pair_i128_bytes(tk_i128_of(0), tk_bytes_of(NULL, 0)));
 }
@@ -665,7 +655,7 @@ typedef struct tk_pair_u128_bytes {
     tk_bytes second;
 } tk_pair_u128_bytes;
 
-TK_INLINE tk_pair_u128_bytes tk_new_pair_u128_bytes(tk_u128 first, tk_bytes second)
+TK_CONSTEXPR tk_pair_u128_bytes tk_new_pair_u128_bytes(tk_u128 first, tk_bytes second)
 {
     return TK_MAKE(tk_pair_u128_bytes, first, second);
 }
@@ -675,12 +665,12 @@ typedef struct tk_option_pair_u128_bytes {
     tk_pair_u128_bytes value;
 } tk_option_pair_u128_bytes;
 
-TK_INLINE tk_option_pair_u128_bytes tk_some_pair_u128_bytes(tk_pair_u128_bytes value)
+TK_CONSTEXPR tk_option_pair_u128_bytes tk_some_pair_u128_bytes(tk_pair_u128_bytes value)
 {
     return TK_MAKE(tk_option_pair_u128_bytes, true, value);
 }
 
-TK_INLINE tk_option_pair_u128_bytes tk_none_pair_u128_bytes(void)
+TK_CONSTEXPR tk_option_pair_u128_bytes tk_none_pair_u128_bytes(void)
 {
     return TK_MAKE(tk_option_pair_u128_bytes, false, tk_new_pair_u128_bytes(tk_u128_of(0), tk_bytes_of(NULL, 0)));
 }
@@ -697,7 +687,7 @@ typedef struct tk_fields {
     size_t end;
 } tk_fields;
 
-TK_INLINE tk_fields tk_new_fields(tk_bytes rest, uint8_t separator, bool is_lines, size_t index, size_t end)
+TK_CONSTEXPR tk_fields tk_new_fields(tk_bytes rest, uint8_t separator, bool is_lines, size_t index, size_t end)
 {
     return TK_MAKE(tk_fields, rest, separator, is_lines, index, end);
 }
@@ -707,7 +697,7 @@ typedef struct tk_pair_size_size {
     size_t second;
 } tk_pair_size_size;
 
-TK_INLINE tk_pair_size_size tk_new_pair_size_size(size_t first, size_t second)
+TK_CONSTEXPR tk_pair_size_size tk_new_pair_size_size(size_t first, size_t second)
 {
     return TK_MAKE(tk_pair_size_size, first, second);
 }
@@ -720,7 +710,7 @@ typedef struct tk_guess {
     bool have_minus;
 } tk_guess;
 
-TK_INLINE tk_guess tk_new_guess(size_t width, bool has_return, bool mostly_one_digit, bool have_minus)
+TK_CONSTEXPR tk_guess tk_new_guess(size_t width, bool has_return, bool mostly_one_digit, bool have_minus)
 {
     return TK_MAKE(tk_guess, width, has_return, mostly_one_digit, have_minus);
 }
@@ -730,7 +720,7 @@ typedef struct tk_pair_bytes_bytes {
     tk_bytes second;
 } tk_pair_bytes_bytes;
 
-TK_INLINE tk_pair_bytes_bytes tk_new_pair_bytes_bytes(tk_bytes first, tk_bytes second)
+TK_CONSTEXPR tk_pair_bytes_bytes tk_new_pair_bytes_bytes(tk_bytes first, tk_bytes second)
 {
     return TK_MAKE(tk_pair_bytes_bytes, first, second);
 }
@@ -743,7 +733,7 @@ typedef struct tk_field_error {
     tk_error cause;
 } tk_field_error;
 
-TK_INLINE tk_field_error tk_new_field_error(size_t index, size_t place, tk_bytes text, tk_error cause)
+TK_CONSTEXPR tk_field_error tk_new_field_error(size_t index, size_t place, tk_bytes text, tk_error cause)
 {
     return TK_MAKE(tk_field_error, index, place, text, cause);
 }
@@ -754,13 +744,13 @@ typedef struct tk_result_i8_field_error {
     tk_field_error error;
 } tk_result_i8_field_error;
 
-TK_INLINE tk_result_i8_field_error tk_ok_i8_field_error(int8_t value)
+TK_CONSTEXPR tk_result_i8_field_error tk_ok_i8_field_error(int8_t value)
 {
     return TK_MAKE(tk_result_i8_field_error, true, value,
                    tk_new_field_error(0, 0, tk_bytes_of(NULL, 0), tk_error_empty()));
 }
 
-TK_INLINE tk_result_i8_field_error tk_err_i8_field_error(tk_field_error error)
+TK_CONSTEXPR tk_result_i8_field_error tk_err_i8_field_error(tk_field_error error)
 {
     return TK_MAKE(tk_result_i8_field_error, false, 0, error);
 }
@@ -770,8 +760,8 @@ typedef struct tk_pair_result_i8_field_error_bytes {
     tk_bytes second;
 } tk_pair_result_i8_field_error_bytes;
 
-TK_INLINE tk_pair_result_i8_field_error_bytes tk_new_pair_result_i8_field_error_bytes(tk_result_i8_field_error first,
-                                                                                      tk_bytes second)
+TK_CONSTEXPR tk_pair_result_i8_field_error_bytes tk_new_pair_result_i8_field_error_bytes(tk_result_i8_field_error first,
+                                                                                         tk_bytes second)
 {
     return TK_MAKE(tk_pair_result_i8_field_error_bytes, first, second);
 }
@@ -781,12 +771,12 @@ typedef struct tk_option_result_i8_field_error {
     tk_result_i8_field_error value;
 } tk_option_result_i8_field_error;
 
-TK_INLINE tk_option_result_i8_field_error tk_some_result_i8_field_error(tk_result_i8_field_error value)
+TK_CONSTEXPR tk_option_result_i8_field_error tk_some_result_i8_field_error(tk_result_i8_field_error value)
 {
     return TK_MAKE(tk_option_result_i8_field_error, true, value);
 }
 
-TK_INLINE tk_option_result_i8_field_error tk_none_result_i8_field_error(void)
+TK_CONSTEXPR tk_option_result_i8_field_error tk_none_result_i8_field_error(void)
 {
     return TK_MAKE(tk_option_result_i8_field_error, false, tk_ok_i8_field_error(0));
 }
@@ -797,13 +787,13 @@ typedef struct tk_result_u8_field_error {
     tk_field_error error;
 } tk_result_u8_field_error;
 
-TK_INLINE tk_result_u8_field_error tk_ok_u8_field_error(uint8_t value)
+TK_CONSTEXPR tk_result_u8_field_error tk_ok_u8_field_error(uint8_t value)
 {
     return TK_MAKE(tk_result_u8_field_error, true, value,
                    tk_new_field_error(0, 0, tk_bytes_of(NULL, 0), tk_error_empty()));
 }
 
-TK_INLINE tk_result_u8_field_error tk_err_u8_field_error(tk_field_error error)
+TK_CONSTEXPR tk_result_u8_field_error tk_err_u8_field_error(tk_field_error error)
 {
     return TK_MAKE(tk_result_u8_field_error, false, 0, error);
 }
@@ -813,8 +803,8 @@ typedef struct tk_pair_result_u8_field_error_bytes {
     tk_bytes second;
 } tk_pair_result_u8_field_error_bytes;
 
-TK_INLINE tk_pair_result_u8_field_error_bytes tk_new_pair_result_u8_field_error_bytes(tk_result_u8_field_error first,
-                                                                                      tk_bytes second)
+TK_CONSTEXPR tk_pair_result_u8_field_error_bytes tk_new_pair_result_u8_field_error_bytes(tk_result_u8_field_error first,
+                                                                                         tk_bytes second)
 {
     return TK_MAKE(tk_pair_result_u8_field_error_bytes, first, second);
 }
@@ -824,12 +814,12 @@ typedef struct tk_option_result_u8_field_error {
     tk_result_u8_field_error value;
 } tk_option_result_u8_field_error;
 
-TK_INLINE tk_option_result_u8_field_error tk_some_result_u8_field_error(tk_result_u8_field_error value)
+TK_CONSTEXPR tk_option_result_u8_field_error tk_some_result_u8_field_error(tk_result_u8_field_error value)
 {
     return TK_MAKE(tk_option_result_u8_field_error, true, value);
 }
 
-TK_INLINE tk_option_result_u8_field_error tk_none_result_u8_field_error(void)
+TK_CONSTEXPR tk_option_result_u8_field_error tk_none_result_u8_field_error(void)
 {
     return TK_MAKE(tk_option_result_u8_field_error, false, tk_ok_u8_field_error(0));
 }
@@ -840,13 +830,13 @@ typedef struct tk_result_i16_field_error {
     tk_field_error error;
 } tk_result_i16_field_error;
 
-TK_INLINE tk_result_i16_field_error tk_ok_i16_field_error(int16_t value)
+TK_CONSTEXPR tk_result_i16_field_error tk_ok_i16_field_error(int16_t value)
 {
     return TK_MAKE(tk_result_i16_field_error, true, value,
                    tk_new_field_error(0, 0, tk_bytes_of(NULL, 0), tk_error_empty()));
 }
 
-TK_INLINE tk_result_i16_field_error tk_err_i16_field_error(tk_field_error error)
+TK_CONSTEXPR tk_result_i16_field_error tk_err_i16_field_error(tk_field_error error)
 {
     return TK_MAKE(tk_result_i16_field_error, false, 0, error);
 }
@@ -856,8 +846,8 @@ typedef struct tk_pair_result_i16_field_error_bytes {
     tk_bytes second;
 } tk_pair_result_i16_field_error_bytes;
 
-TK_INLINE tk_pair_result_i16_field_error_bytes tk_new_pair_result_i16_field_error_bytes(tk_result_i16_field_error first,
-                                                                                        tk_bytes second)
+TK_CONSTEXPR tk_pair_result_i16_field_error_bytes tk_new_pair_result_i16_field_error_bytes(
+        tk_result_i16_field_error first, tk_bytes second)
 {
     return TK_MAKE(tk_pair_result_i16_field_error_bytes, first, second);
 }
@@ -867,12 +857,12 @@ typedef struct tk_option_result_i16_field_error {
     tk_result_i16_field_error value;
 } tk_option_result_i16_field_error;
 
-TK_INLINE tk_option_result_i16_field_error tk_some_result_i16_field_error(tk_result_i16_field_error value)
+TK_CONSTEXPR tk_option_result_i16_field_error tk_some_result_i16_field_error(tk_result_i16_field_error value)
 {
     return TK_MAKE(tk_option_result_i16_field_error, true, value);
 }
 
-TK_INLINE tk_option_result_i16_field_error tk_none_result_i16_field_error(void)
+TK_CONSTEXPR tk_option_result_i16_field_error tk_none_result_i16_field_error(void)
 {
     return TK_MAKE(tk_option_result_i16_field_error, false, tk_ok_i16_field_error(0));
 }
@@ -883,13 +873,13 @@ typedef struct tk_result_u16_field_error {
     tk_field_error error;
 } tk_result_u16_field_error;
 
-TK_INLINE tk_result_u16_field_error tk_ok_u16_field_error(uint16_t value)
+TK_CONSTEXPR tk_result_u16_field_error tk_ok_u16_field_error(uint16_t value)
 {
     return TK_MAKE(tk_result_u16_field_error, true, value,
                    tk_new_field_error(0, 0, tk_bytes_of(NULL, 0), tk_error_empty()));
 }
 
-TK_INLINE tk_result_u16_field_error tk_err_u16_field_error(tk_field_error error)
+TK_CONSTEXPR tk_result_u16_field_error tk_err_u16_field_error(tk_field_error error)
 {
     return TK_MAKE(tk_result_u16_field_error, false, 0, error);
 }
@@ -899,8 +889,8 @@ typedef struct tk_pair_result_u16_field_error_bytes {
     tk_bytes second;
 } tk_pair_result_u16_field_error_bytes;
 
-TK_INLINE tk_pair_result_u16_field_error_bytes tk_new_pair_result_u16_field_error_bytes(tk_result_u16_field_error first,
-                                                                                        tk_bytes second)
+TK_CONSTEXPR tk_pair_result_u16_field_error_bytes tk_new_pair_result_u16_field_error_bytes(
+        tk_result_u16_field_error first, tk_bytes second)
 {
     return TK_MAKE(tk_pair_result_u16_field_error_bytes, first, second);
 }
@@ -910,12 +900,12 @@ typedef struct tk_option_result_u16_field_error {
     tk_result_u16_field_error value;
 } tk_option_result_u16_field_error;
 
-TK_INLINE tk_option_result_u16_field_error tk_some_result_u16_field_error(tk_result_u16_field_error value)
+TK_CONSTEXPR tk_option_result_u16_field_error tk_some_result_u16_field_error(tk_result_u16_field_error value)
 {
     return TK_MAKE(tk_option_result_u16_field_error, true, value);
 }
 
-TK_INLINE tk_option_result_u16_field_error tk_none_result_u16_field_error(void)
+TK_CONSTEXPR tk_option_result_u16_field_error tk_none_result_u16_field_error(void)
 {
     return TK_MAKE(tk_option_result_u16_field_error, false, tk_ok_u16_field_error(0));
 }
@@ -926,13 +916,13 @@ typedef struct tk_result_i32_field_error {
     tk_field_error error;
 } tk_result_i32_field_error;
 
-TK_INLINE tk_result_i32_field_error tk_ok_i32_field_error(int32_t value)
+TK_CONSTEXPR tk_result_i32_field_error tk_ok_i32_field_error(int32_t value)
 {
     return TK_MAKE(tk_result_i32_field_error, true, value,
                    tk_new_field_error(0, 0, tk_bytes_of(NULL, 0), tk_error_empty()));
 }
 
-TK_INLINE tk_result_i32_field_error tk_err_i32_field_error(tk_field_error error)
+TK_CONSTEXPR tk_result_i32_field_error tk_err_i32_field_error(tk_field_error error)
 {
     return TK_MAKE(tk_result_i32_field_error, false, 0, error);
 }
@@ -942,8 +932,8 @@ typedef struct tk_pair_result_i32_field_error_bytes {
     tk_bytes second;
 } tk_pair_result_i32_field_error_bytes;
 
-TK_INLINE tk_pair_result_i32_field_error_bytes tk_new_pair_result_i32_field_error_bytes(tk_result_i32_field_error first,
-                                                                                        tk_bytes second)
+TK_CONSTEXPR tk_pair_result_i32_field_error_bytes tk_new_pair_result_i32_field_error_bytes(
+        tk_result_i32_field_error first, tk_bytes second)
 {
     return TK_MAKE(tk_pair_result_i32_field_error_bytes, first, second);
 }
@@ -953,12 +943,12 @@ typedef struct tk_option_result_i32_field_error {
     tk_result_i32_field_error value;
 } tk_option_result_i32_field_error;
 
-TK_INLINE tk_option_result_i32_field_error tk_some_result_i32_field_error(tk_result_i32_field_error value)
+TK_CONSTEXPR tk_option_result_i32_field_error tk_some_result_i32_field_error(tk_result_i32_field_error value)
 {
     return TK_MAKE(tk_option_result_i32_field_error, true, value);
 }
 
-TK_INLINE tk_option_result_i32_field_error tk_none_result_i32_field_error(void)
+TK_CONSTEXPR tk_option_result_i32_field_error tk_none_result_i32_field_error(void)
 {
     return TK_MAKE(tk_option_result_i32_field_error, false, tk_ok_i32_field_error(0));
 }
@@ -969,13 +959,13 @@ typedef struct tk_result_u32_field_error {
     tk_field_error error;
 } tk_result_u32_field_error;
 
-TK_INLINE tk_result_u32_field_error tk_ok_u32_field_error(uint32_t value)
+TK_CONSTEXPR tk_result_u32_field_error tk_ok_u32_field_error(uint32_t value)
 {
     return TK_MAKE(tk_result_u32_field_error, true, value,
                    tk_new_field_error(0, 0, tk_bytes_of(NULL, 0), tk_error_empty()));
 }
 
-TK_INLINE tk_result_u32_field_error tk_err_u32_field_error(tk_field_error error)
+TK_CONSTEXPR tk_result_u32_field_error tk_err_u32_field_error(tk_field_error error)
 {
     return TK_MAKE(tk_result_u32_field_error, false, 0, error);
 }
@@ -985,8 +975,8 @@ typedef struct tk_pair_result_u32_field_error_bytes {
     tk_bytes second;
 } tk_pair_result_u32_field_error_bytes;
 
-TK_INLINE tk_pair_result_u32_field_error_bytes tk_new_pair_result_u32_field_error_bytes(tk_result_u32_field_error first,
-                                                                                        tk_bytes second)
+TK_CONSTEXPR tk_pair_result_u32_field_error_bytes tk_new_pair_result_u32_field_error_bytes(
+        tk_result_u32_field_error first, tk_bytes second)
 {
     return TK_MAKE(tk_pair_result_u32_field_error_bytes, first, second);
 }
@@ -996,12 +986,12 @@ typedef struct tk_option_result_u32_field_error {
     tk_result_u32_field_error value;
 } tk_option_result_u32_field_error;
 
-TK_INLINE tk_option_result_u32_field_error tk_some_result_u32_field_error(tk_result_u32_field_error value)
+TK_CONSTEXPR tk_option_result_u32_field_error tk_some_result_u32_field_error(tk_result_u32_field_error value)
 {
     return TK_MAKE(tk_option_result_u32_field_error, true, value);
 }
 
-TK_INLINE tk_option_result_u32_field_error tk_none_result_u32_field_error(void)
+TK_CONSTEXPR tk_option_result_u32_field_error tk_none_result_u32_field_error(void)
 {
     return TK_MAKE(tk_option_result_u32_field_error, false, tk_ok_u32_field_error(0));
 }
@@ -1012,13 +1002,13 @@ typedef struct tk_result_i64_field_error {
     tk_field_error error;
 } tk_result_i64_field_error;
 
-TK_INLINE tk_result_i64_field_error tk_ok_i64_field_error(int64_t value)
+TK_CONSTEXPR tk_result_i64_field_error tk_ok_i64_field_error(int64_t value)
 {
     return TK_MAKE(tk_result_i64_field_error, true, value,
                    tk_new_field_error(0, 0, tk_bytes_of(NULL, 0), tk_error_empty()));
 }
 
-TK_INLINE tk_result_i64_field_error tk_err_i64_field_error(tk_field_error error)
+TK_CONSTEXPR tk_result_i64_field_error tk_err_i64_field_error(tk_field_error error)
 {
     return TK_MAKE(tk_result_i64_field_error, false, 0, error);
 }
@@ -1028,8 +1018,8 @@ typedef struct tk_pair_result_i64_field_error_bytes {
     tk_bytes second;
 } tk_pair_result_i64_field_error_bytes;
 
-TK_INLINE tk_pair_result_i64_field_error_bytes tk_new_pair_result_i64_field_error_bytes(tk_result_i64_field_error first,
-                                                                                        tk_bytes second)
+TK_CONSTEXPR tk_pair_result_i64_field_error_bytes tk_new_pair_result_i64_field_error_bytes(
+        tk_result_i64_field_error first, tk_bytes second)
 {
     return TK_MAKE(tk_pair_result_i64_field_error_bytes, first, second);
 }
@@ -1039,12 +1029,12 @@ typedef struct tk_option_result_i64_field_error {
     tk_result_i64_field_error value;
 } tk_option_result_i64_field_error;
 
-TK_INLINE tk_option_result_i64_field_error tk_some_result_i64_field_error(tk_result_i64_field_error value)
+TK_CONSTEXPR tk_option_result_i64_field_error tk_some_result_i64_field_error(tk_result_i64_field_error value)
 {
     return TK_MAKE(tk_option_result_i64_field_error, true, value);
 }
 
-TK_INLINE tk_option_result_i64_field_error tk_none_result_i64_field_error(void)
+TK_CONSTEXPR tk_option_result_i64_field_error tk_none_result_i64_field_error(void)
 {
     return TK_MAKE(tk_option_result_i64_field_error, false, tk_ok_i64_field_error(0));
 }
@@ -1055,13 +1045,13 @@ typedef struct tk_result_u64_field_error {
     tk_field_error error;
 } tk_result_u64_field_error;
 
-TK_INLINE tk_result_u64_field_error tk_ok_u64_field_error(uint64_t value)
+TK_CONSTEXPR tk_result_u64_field_error tk_ok_u64_field_error(uint64_t value)
 {
     return TK_MAKE(tk_result_u64_field_error, true, value,
                    tk_new_field_error(0, 0, tk_bytes_of(NULL, 0), tk_error_empty()));
 }
 
-TK_INLINE tk_result_u64_field_error tk_err_u64_field_error(tk_field_error error)
+TK_CONSTEXPR tk_result_u64_field_error tk_err_u64_field_error(tk_field_error error)
 {
     return TK_MAKE(tk_result_u64_field_error, false, 0, error);
 }
@@ -1071,8 +1061,8 @@ typedef struct tk_pair_result_u64_field_error_bytes {
     tk_bytes second;
 } tk_pair_result_u64_field_error_bytes;
 
-TK_INLINE tk_pair_result_u64_field_error_bytes tk_new_pair_result_u64_field_error_bytes(tk_result_u64_field_error first,
-                                                                                        tk_bytes second)
+TK_CONSTEXPR tk_pair_result_u64_field_error_bytes tk_new_pair_result_u64_field_error_bytes(
+        tk_result_u64_field_error first, tk_bytes second)
 {
     return TK_MAKE(tk_pair_result_u64_field_error_bytes, first, second);
 }
@@ -1082,12 +1072,12 @@ typedef struct tk_option_result_u64_field_error {
     tk_result_u64_field_error value;
 } tk_option_result_u64_field_error;
 
-TK_INLINE tk_option_result_u64_field_error tk_some_result_u64_field_error(tk_result_u64_field_error value)
+TK_CONSTEXPR tk_option_result_u64_field_error tk_some_result_u64_field_error(tk_result_u64_field_error value)
 {
     return TK_MAKE(tk_option_result_u64_field_error, true, value);
 }
 
-TK_INLINE tk_option_result_u64_field_error tk_none_result_u64_field_error(void)
+TK_CONSTEXPR tk_option_result_u64_field_error tk_none_result_u64_field_error(void)
 {
     return TK_MAKE(tk_option_result_u64_field_error, false, tk_ok_u64_field_error(0));
 }
@@ -1098,13 +1088,13 @@ typedef struct tk_result_i128_field_error {
     tk_field_error error;
 } tk_result_i128_field_error;
 
-TK_INLINE tk_result_i128_field_error tk_ok_i128_field_error(tk_i128 value)
+TK_CONSTEXPR tk_result_i128_field_error tk_ok_i128_field_error(tk_i128 value)
 {
     return TK_MAKE(tk_result_i128_field_error, true, value,
                    tk_new_field_error(0, 0, tk_bytes_of(NULL, 0), tk_error_empty()));
 }
 
-TK_INLINE tk_result_i128_field_error tk_err_i128_field_error(tk_field_error error)
+TK_CONSTEXPR tk_result_i128_field_error tk_err_i128_field_error(tk_field_error error)
 {
     return TK_MAKE(tk_result_i128_field_error, false, tk_i128_of(0), error);
 }
@@ -1114,7 +1104,7 @@ typedef struct tk_pair_result_i128_field_error_bytes {
     tk_bytes second;
 } tk_pair_result_i128_field_error_bytes;
 
-TK_INLINE tk_pair_result_i128_field_error_bytes tk_new_pair_result_i128_field_error_bytes(
+TK_CONSTEXPR tk_pair_result_i128_field_error_bytes tk_new_pair_result_i128_field_error_bytes(
         tk_result_i128_field_error first, tk_bytes second)
 {
     return TK_MAKE(tk_pair_result_i128_field_error_bytes, first, second);
@@ -1125,12 +1115,12 @@ typedef struct tk_option_result_i128_field_error {
     tk_result_i128_field_error value;
 } tk_option_result_i128_field_error;
 
-TK_INLINE tk_option_result_i128_field_error tk_some_result_i128_field_error(tk_result_i128_field_error value)
+TK_CONSTEXPR tk_option_result_i128_field_error tk_some_result_i128_field_error(tk_result_i128_field_error value)
 {
     return TK_MAKE(tk_option_result_i128_field_error, true, value);
 }
 
-TK_INLINE tk_option_result_i128_field_error tk_none_result_i128_field_error(void)
+TK_CONSTEXPR tk_option_result_i128_field_error tk_none_result_i128_field_error(void)
 {
     return TK_MAKE(tk_option_result_i128_field_error, false, tk_ok_i128_field_error(tk_i128_of(0)));
 }
@@ -1141,13 +1131,13 @@ typedef struct tk_result_u128_field_error {
     tk_field_error error;
 } tk_result_u128_field_error;
 
-TK_INLINE tk_result_u128_field_error tk_ok_u128_field_error(tk_u128 value)
+TK_CONSTEXPR tk_result_u128_field_error tk_ok_u128_field_error(tk_u128 value)
 {
     return TK_MAKE(tk_result_u128_field_error, true, value,
                    tk_new_field_error(0, 0, tk_bytes_of(NULL, 0), tk_error_empty()));
 }
 
-TK_INLINE tk_result_u128_field_error tk_err_u128_field_error(tk_field_error error)
+TK_CONSTEXPR tk_result_u128_field_error tk_err_u128_field_error(tk_field_error error)
 {
     return TK_MAKE(tk_result_u128_field_error, false, tk_u128_of(0), error);
 }
@@ -1157,7 +1147,7 @@ typedef struct tk_pair_result_u128_field_error_bytes {
     tk_bytes second;
 } tk_pair_result_u128_field_error_bytes;
 
-TK_INLINE tk_pair_result_u128_field_error_bytes tk_new_pair_result_u128_field_error_bytes(
+TK_CONSTEXPR tk_pair_result_u128_field_error_bytes tk_new_pair_result_u128_field_error_bytes(
         tk_result_u128_field_error first, tk_bytes second)
 {
     return TK_MAKE(tk_pair_result_u128_field_error_bytes, first, second);
@@ -1168,12 +1158,12 @@ typedef struct tk_option_result_u128_field_error {
     tk_result_u128_field_error value;
 } tk_option_result_u128_field_error;
 
-TK_INLINE tk_option_result_u128_field_error tk_some_result_u128_field_error(tk_result_u128_field_error value)
+TK_CONSTEXPR tk_option_result_u128_field_error tk_some_result_u128_field_error(tk_result_u128_field_error value)
 {
     return TK_MAKE(tk_option_result_u128_field_error, true, value);
 }
 
-TK_INLINE tk_option_result_u128_field_error tk_none_result_u128_field_error(void)
+TK_CONSTEXPR tk_option_result_u128_field_error tk_none_result_u128_field_error(void)
 {
     return TK_MAKE(tk_option_result_u128_field_error, false, tk_ok_u128_field_error(tk_u128_of(0)));
 }
@@ -1183,7 +1173,7 @@ typedef struct tk_room_i8 {
     size_t len;
 } tk_room_i8;
 
-TK_INLINE tk_room_i8 tk_room_i8_of(int8_t *at, size_t len)
+TK_CONSTEXPR tk_room_i8 tk_room_i8_of(int8_t *at, size_t len)
 {
     return TK_MAKE(tk_room_i8, at, len);
 }
@@ -1193,7 +1183,7 @@ typedef struct tk_pair_bool_u128 {
     tk_u128 second;
 } tk_pair_bool_u128;
 
-TK_INLINE tk_pair_bool_u128 tk_new_pair_bool_u128(bool first, tk_u128 second)
+TK_CONSTEXPR tk_pair_bool_u128 tk_new_pair_bool_u128(bool first, tk_u128 second)
 {
     return TK_MAKE(tk_pair_bool_u128, first, second);
 }
@@ -1203,7 +1193,7 @@ typedef struct tk_slice_i8 {
     size_t len;
 } tk_slice_i8;
 
-TK_INLINE tk_slice_i8 tk_slice_i8_of(const int8_t *at, size_t len)
+TK_CONSTEXPR tk_slice_i8 tk_slice_i8_of(const int8_t *at, size_t len)
 {
     return TK_MAKE(tk_slice_i8, at, len);
 }
@@ -1213,7 +1203,7 @@ typedef struct tk_room_i16 {
     size_t len;
 } tk_room_i16;
 
-TK_INLINE tk_room_i16 tk_room_i16_of(int16_t *at, size_t len)
+TK_CONSTEXPR tk_room_i16 tk_room_i16_of(int16_t *at, size_t len)
 {
     return TK_MAKE(tk_room_i16, at, len);
 }
@@ -1223,7 +1213,7 @@ typedef struct tk_slice_i16 {
     size_t len;
 } tk_slice_i16;
 
-TK_INLINE tk_slice_i16 tk_slice_i16_of(const int16_t *at, size_t len)
+TK_CONSTEXPR tk_slice_i16 tk_slice_i16_of(const int16_t *at, size_t len)
 {
     return TK_MAKE(tk_slice_i16, at, len);
 }
@@ -1233,7 +1223,7 @@ typedef struct tk_room_u16 {
     size_t len;
 } tk_room_u16;
 
-TK_INLINE tk_room_u16 tk_room_u16_of(uint16_t *at, size_t len)
+TK_CONSTEXPR tk_room_u16 tk_room_u16_of(uint16_t *at, size_t len)
 {
     return TK_MAKE(tk_room_u16, at, len);
 }
@@ -1243,7 +1233,7 @@ typedef struct tk_slice_u16 {
     size_t len;
 } tk_slice_u16;
 
-TK_INLINE tk_slice_u16 tk_slice_u16_of(const uint16_t *at, size_t len)
+TK_CONSTEXPR tk_slice_u16 tk_slice_u16_of(const uint16_t *at, size_t len)
 {
     return TK_MAKE(tk_slice_u16, at, len);
 }
@@ -1253,7 +1243,7 @@ typedef struct tk_room_i32 {
     size_t len;
 } tk_room_i32;
 
-TK_INLINE tk_room_i32 tk_room_i32_of(int32_t *at, size_t len)
+TK_CONSTEXPR tk_room_i32 tk_room_i32_of(int32_t *at, size_t len)
 {
     return TK_MAKE(tk_room_i32, at, len);
 }
@@ -1263,7 +1253,7 @@ typedef struct tk_slice_i32 {
     size_t len;
 } tk_slice_i32;
 
-TK_INLINE tk_slice_i32 tk_slice_i32_of(const int32_t *at, size_t len)
+TK_CONSTEXPR tk_slice_i32 tk_slice_i32_of(const int32_t *at, size_t len)
 {
     return TK_MAKE(tk_slice_i32, at, len);
 }
@@ -1273,7 +1263,7 @@ typedef struct tk_room_u32 {
     size_t len;
 } tk_room_u32;
 
-TK_INLINE tk_room_u32 tk_room_u32_of(uint32_t *at, size_t len)
+TK_CONSTEXPR tk_room_u32 tk_room_u32_of(uint32_t *at, size_t len)
 {
     return TK_MAKE(tk_room_u32, at, len);
 }
@@ -1283,7 +1273,7 @@ typedef struct tk_slice_u32 {
     size_t len;
 } tk_slice_u32;
 
-TK_INLINE tk_slice_u32 tk_slice_u32_of(const uint32_t *at, size_t len)
+TK_CONSTEXPR tk_slice_u32 tk_slice_u32_of(const uint32_t *at, size_t len)
 {
     return TK_MAKE(tk_slice_u32, at, len);
 }
@@ -1293,7 +1283,7 @@ typedef struct tk_room_i64 {
     size_t len;
 } tk_room_i64;
 
-TK_INLINE tk_room_i64 tk_room_i64_of(int64_t *at, size_t len)
+TK_CONSTEXPR tk_room_i64 tk_room_i64_of(int64_t *at, size_t len)
 {
     return TK_MAKE(tk_room_i64, at, len);
 }
@@ -1303,7 +1293,7 @@ typedef struct tk_slice_i64 {
     size_t len;
 } tk_slice_i64;
 
-TK_INLINE tk_slice_i64 tk_slice_i64_of(const int64_t *at, size_t len)
+TK_CONSTEXPR tk_slice_i64 tk_slice_i64_of(const int64_t *at, size_t len)
 {
     return TK_MAKE(tk_slice_i64, at, len);
 }
@@ -1313,7 +1303,7 @@ typedef struct tk_room_u64 {
     size_t len;
 } tk_room_u64;
 
-TK_INLINE tk_room_u64 tk_room_u64_of(uint64_t *at, size_t len)
+TK_CONSTEXPR tk_room_u64 tk_room_u64_of(uint64_t *at, size_t len)
 {
     return TK_MAKE(tk_room_u64, at, len);
 }
@@ -1323,7 +1313,7 @@ typedef struct tk_slice_u64 {
     size_t len;
 } tk_slice_u64;
 
-TK_INLINE tk_slice_u64 tk_slice_u64_of(const uint64_t *at, size_t len)
+TK_CONSTEXPR tk_slice_u64 tk_slice_u64_of(const uint64_t *at, size_t len)
 {
     return TK_MAKE(tk_slice_u64, at, len);
 }
@@ -1333,7 +1323,7 @@ typedef struct tk_room_i128 {
     size_t len;
 } tk_room_i128;
 
-TK_INLINE tk_room_i128 tk_room_i128_of(tk_i128 *at, size_t len)
+TK_CONSTEXPR tk_room_i128 tk_room_i128_of(tk_i128 *at, size_t len)
 {
     return TK_MAKE(tk_room_i128, at, len);
 }
@@ -1343,7 +1333,7 @@ typedef struct tk_slice_i128 {
     size_t len;
 } tk_slice_i128;
 
-TK_INLINE tk_slice_i128 tk_slice_i128_of(const tk_i128 *at, size_t len)
+TK_CONSTEXPR tk_slice_i128 tk_slice_i128_of(const tk_i128 *at, size_t len)
 {
     return TK_MAKE(tk_slice_i128, at, len);
 }
@@ -1353,7 +1343,7 @@ typedef struct tk_room_u128 {
     size_t len;
 } tk_room_u128;
 
-TK_INLINE tk_room_u128 tk_room_u128_of(tk_u128 *at, size_t len)
+TK_CONSTEXPR tk_room_u128 tk_room_u128_of(tk_u128 *at, size_t len)
 {
     return TK_MAKE(tk_room_u128, at, len);
 }
@@ -1363,7 +1353,7 @@ typedef struct tk_slice_u128 {
     size_t len;
 } tk_slice_u128;
 
-TK_INLINE tk_slice_u128 tk_slice_u128_of(const tk_u128 *at, size_t len)
+TK_CONSTEXPR tk_slice_u128 tk_slice_u128_of(const tk_u128 *at, size_t len)
 {
     return TK_MAKE(tk_slice_u128, at, len);
 }
@@ -1386,28 +1376,23 @@ static const uint8_t tk_short[9][8] = {
 
 #define TK_FOUR_ZEROS 0x30303030
 
-TK_INLINE uint32_t tk_u32_min(uint32_t a, uint32_t b)
+TK_CONSTEXPR uint32_t tk_u32_min(uint32_t a, uint32_t b)
 {
     return b < a ? b : a;
 }
 
-TK_INLINE bool tk_u128_sum_fits(tk_u128 a, tk_u128 b)
-{
-    return !(tk_u128_less(tk_u128_wrapping_add(a, b), a));
-}
-
-TK_INLINE size_t tk_size_min(size_t a, size_t b)
+TK_CONSTEXPR size_t tk_size_min(size_t a, size_t b)
 {
     return b < a ? b : a;
 }
 
-TK_INLINE tk_bytes tk_bytes_to(tk_bytes s, size_t high)
+TK_CONSTEXPR tk_bytes tk_bytes_to(tk_bytes s, size_t high)
 {
     TORKETTLE_CHECK(high <= s.len);
     return tk_bytes_of(s.at, high);
 }
 
-TK_INLINE tk_room_u8 tk_room_u8_between(tk_room_u8 s, size_t low, size_t high)
+TK_CONSTEXPR tk_room_u8 tk_room_u8_between(tk_room_u8 s, size_t low, size_t high)
 {
     TORKETTLE_CHECK(low <= high && high <= s.len);
     return tk_room_u8_of(s.at + low, high - low);
@@ -1427,17 +1412,17 @@ TK_HINTED void tk_copy(tk_room_u8 to, tk_bytes from)
 /* What is guessed of the first field. */
 static const tk_guess tk_no_guess = {0, false, true, false};
 
-TK_INLINE tk_u128 tk_u128_saturating_sub(tk_u128 a, tk_u128 b)
+TK_CONSTEXPR tk_u128 tk_u128_saturating_sub(tk_u128 a, tk_u128 b)
 {
     return tk_u128_less(a, b) ? tk_u128_of(0) : tk_u128_sub(a, b);
 }
 
-TK_INLINE size_t tk_size_saturating_add(size_t a, size_t b)
+TK_CONSTEXPR size_t tk_size_saturating_add(size_t a, size_t b)
 {
     return a + b < a ? TK_CAST(size_t, -1) : a + b;
 }
 
-TK_INLINE size_t tk_size_max(size_t a, size_t b)
+TK_CONSTEXPR size_t tk_size_max(size_t a, size_t b)
 {
     return a < b ? b : a;
 }
@@ -1446,12 +1431,12 @@ static const tk_guess tk_with_minus = {0, false, false, true};
 
 static const tk_guess tk_long = {0, false, false, false};
 
-TK_INLINE uint8_t tk_i8_unsigned_abs(int8_t a)
+TK_CONSTEXPR uint8_t tk_i8_unsigned_abs(int8_t a)
 {
     return TK_CAST(uint8_t, a < 0 ? 0 - TK_CAST(uint64_t, a) : TK_CAST(uint64_t, a));
 }
 
-TK_INLINE size_t tk_size_saturating_sub(size_t a, size_t b)
+TK_CONSTEXPR size_t tk_size_saturating_sub(size_t a, size_t b)
 {
     return a < b ? 0 : a - b;
 }
@@ -1460,123 +1445,123 @@ TK_INLINE size_t tk_size_saturating_sub(size_t a, size_t b)
 
 #define TK_PART 4
 
-TK_INLINE tk_room_i8 tk_room_i8_between(tk_room_i8 s, size_t low, size_t high)
+TK_CONSTEXPR tk_room_i8 tk_room_i8_between(tk_room_i8 s, size_t low, size_t high)
 {
     TORKETTLE_CHECK(low <= high && high <= s.len);
     return tk_room_i8_of(s.at + low, high - low);
 }
 
-TK_INLINE tk_slice_i8 tk_slice_i8_shared(tk_room_i8 s)
+TK_CONSTEXPR tk_slice_i8 tk_slice_i8_shared(tk_room_i8 s)
 {
     return tk_slice_i8_of(s.at, s.len);
 }
 
 #define TK_LONG_PART 1024
 
-TK_INLINE tk_bytes tk_bytes_shared(tk_room_u8 s)
+TK_CONSTEXPR tk_bytes tk_bytes_shared(tk_room_u8 s)
 {
     return tk_bytes_of(s.at, s.len);
 }
 
-TK_INLINE uint16_t tk_i16_unsigned_abs(int16_t a)
+TK_CONSTEXPR uint16_t tk_i16_unsigned_abs(int16_t a)
 {
     return TK_CAST(uint16_t, a < 0 ? 0 - TK_CAST(uint64_t, a) : TK_CAST(uint64_t, a));
 }
 
-TK_INLINE tk_room_i16 tk_room_i16_between(tk_room_i16 s, size_t low, size_t high)
+TK_CONSTEXPR tk_room_i16 tk_room_i16_between(tk_room_i16 s, size_t low, size_t high)
 {
     TORKETTLE_CHECK(low <= high && high <= s.len);
     return tk_room_i16_of(s.at + low, high - low);
 }
 
-TK_INLINE tk_slice_i16 tk_slice_i16_shared(tk_room_i16 s)
+TK_CONSTEXPR tk_slice_i16 tk_slice_i16_shared(tk_room_i16 s)
 {
     return tk_slice_i16_of(s.at, s.len);
 }
 
-TK_INLINE tk_room_u16 tk_room_u16_between(tk_room_u16 s, size_t low, size_t high)
+TK_CONSTEXPR tk_room_u16 tk_room_u16_between(tk_room_u16 s, size_t low, size_t high)
 {
     TORKETTLE_CHECK(low <= high && high <= s.len);
     return tk_room_u16_of(s.at + low, high - low);
 }
 
-TK_INLINE tk_slice_u16 tk_slice_u16_shared(tk_room_u16 s)
+TK_CONSTEXPR tk_slice_u16 tk_slice_u16_shared(tk_room_u16 s)
 {
     return tk_slice_u16_of(s.at, s.len);
 }
 
-TK_INLINE uint32_t tk_i32_unsigned_abs(int32_t a)
+TK_CONSTEXPR uint32_t tk_i32_unsigned_abs(int32_t a)
 {
     return TK_CAST(uint32_t, a < 0 ? 0 - TK_CAST(uint64_t, a) : TK_CAST(uint64_t, a));
 }
 
-TK_INLINE tk_room_i32 tk_room_i32_between(tk_room_i32 s, size_t low, size_t high)
+TK_CONSTEXPR tk_room_i32 tk_room_i32_between(tk_room_i32 s, size_t low, size_t high)
 {
     TORKETTLE_CHECK(low <= high && high <= s.len);
     return tk_room_i32_of(s.at + low, high - low);
 }
 
-TK_INLINE tk_slice_i32 tk_slice_i32_shared(tk_room_i32 s)
+TK_CONSTEXPR tk_slice_i32 tk_slice_i32_shared(tk_room_i32 s)
 {
     return tk_slice_i32_of(s.at, s.len);
 }
 
-TK_INLINE tk_room_u32 tk_room_u32_between(tk_room_u32 s, size_t low, size_t high)
+TK_CONSTEXPR tk_room_u32 tk_room_u32_between(tk_room_u32 s, size_t low, size_t high)
 {
     TORKETTLE_CHECK(low <= high && high <= s.len);
     return tk_room_u32_of(s.at + low, high - low);
 }
 
-TK_INLINE tk_slice_u32 tk_slice_u32_shared(tk_room_u32 s)
+TK_CONSTEXPR tk_slice_u32 tk_slice_u32_shared(tk_room_u32 s)
 {
     return tk_slice_u32_of(s.at, s.len);
 }
 
-TK_INLINE uint64_t tk_i64_unsigned_abs(int64_t a)
+TK_CONSTEXPR uint64_t tk_i64_unsigned_abs(int64_t a)
 {
     return a < 0 ? 0 - TK_CAST(uint64_t, a) : TK_CAST(uint64_t, a);
 }
 
-TK_INLINE tk_room_i64 tk_room_i64_between(tk_room_i64 s, size_t low, size_t high)
+TK_CONSTEXPR tk_room_i64 tk_room_i64_between(tk_room_i64 s, size_t low, size_t high)
 {
     TORKETTLE_CHECK(low <= high && high <= s.len);
     return tk_room_i64_of(s.at + low, high - low);
 }
 
-TK_INLINE tk_slice_i64 tk_slice_i64_shared(tk_room_i64 s)
+TK_CONSTEXPR tk_slice_i64 tk_slice_i64_shared(tk_room_i64 s)
 {
     return tk_slice_i64_of(s.at, s.len);
 }
 
-TK_INLINE tk_room_u64 tk_room_u64_between(tk_room_u64 s, size_t low, size_t high)
+TK_CONSTEXPR tk_room_u64 tk_room_u64_between(tk_room_u64 s, size_t low, size_t high)
 {
     TORKETTLE_CHECK(low <= high && high <= s.len);
     return tk_room_u64_of(s.at + low, high - low);
 }
 
-TK_INLINE tk_slice_u64 tk_slice_u64_shared(tk_room_u64 s)
+TK_CONSTEXPR tk_slice_u64 tk_slice_u64_shared(tk_room_u64 s)
 {
     return tk_slice_u64_of(s.at, s.len);
 }
 
-TK_INLINE tk_room_i128 tk_room_i128_between(tk_room_i128 s, size_t low, size_t high)
+TK_CONSTEXPR tk_room_i128 tk_room_i128_between(tk_room_i128 s, size_t low, size_t high)
 {
     TORKETTLE_CHECK(low <= high && high <= s.len);
     return tk_room_i128_of(s.at + low, high - low);
 }
 
-TK_INLINE tk_slice_i128 tk_slice_i128_shared(tk_room_i128 s)
+TK_CONSTEXPR tk_slice_i128 tk_slice_i128_shared(tk_room_i128 s)
 {
     return tk_slice_i128_of(s.at, s.len);
 }
 
-TK_INLINE tk_room_u128 tk_room_u128_between(tk_room_u128 s, size_t low, size_t high)
+TK_CONSTEXPR tk_room_u128 tk_room_u128_between(tk_room_u128 s, size_t low, size_t high)
 {
     TORKETTLE_CHECK(low <= high && high <= s.len);
     return tk_room_u128_of(s.at + low, high - low);
 }
 
-TK_INLINE tk_slice_u128 tk_slice_u128_shared(tk_room_u128 s)
+TK_CONSTEXPR tk_slice_u128 tk_slice_u128_shared(tk_room_u128 s)
 {
     return tk_slice_u128_of(s.at, s.len);
 }
@@ -1609,13 +1594,6 @@ TK_INLINE uint64_t tk_load_from(tk_bytes s, size_t at)
 TK_HINTED tk_u128 tk_append_digits(uint64_t high, uint32_t digits, uint64_t low)
 {
     return tk_u128_add(tk_u128_mul(tk_u128_of(high), tk_u128_of(tk_power_of_ten(digits))), tk_u128_of(low));
-}
-
-/* Returns the magnitude of `T::MIN` if `minus` is set, otherwise `T::MAX`. */
-/* atoi_core/src/number.rt:71 */
-TK_HINTED tk_u128 tk_greatest_magnitude(tk_u128 greatest, bool minus)
-{
-    return tk_u128_add(greatest, tk_u128_of(minus));
 }
 
 /* The number of 16 to 20 bytes, of which the first sixteen spell `high`, with a zero for a minus. */
@@ -4205,24 +4183,6 @@ TK_HINTED tk_option_u128 tk_canonical_u128(tk_bytes text)
         return tk_none_u128();
     }
     return tk_some_u128(number);
-}
-
-/*
- * Consumes a `+` if `skip_plus`, or a `-` if `signed`. Returns whether it was a `-`, and the body
- * after it.
- */
-/* atoi_core/src/calls.rt:59 */
-TK_INLINE tk_pair_bool_bytes tk_atoi_core_take_sign(bool signed_, bool skip_plus, tk_bytes s)
-{
-    if (s.len >= 1 && s.at[0] == '+' && skip_plus) {
-        tk_bytes body = tk_bytes_from(s, 1);
-        return tk_new_pair_bool_bytes(false, body);
-    }
-    if (s.len >= 1 && s.at[0] == '-' && signed_) {
-        tk_bytes body = tk_bytes_from(s, 1);
-        return tk_new_pair_bool_bytes(true, body);
-    }
-    return tk_new_pair_bool_bytes(false, s);
 }
 
 /* Returns what follows `byte` if `text` begins with it, and otherwise `None`. */

@@ -81,6 +81,11 @@ void parses(Test &test)
     const Answer<T> all = whole(C::parse), start = prefix(C::parse_prefix);
     test.require(all.is(whole(C::called_parse)) && all.is_found(C::whole(text, length, flags)), "a parse");
     test.require(start.is(prefix(C::called_prefix)) && start.is_found(C::prefix(text, length, flags)), "a prefix");
+    // What these return in a constant expression. There, only a parse of a whole text has flags.
+    using Constant = torkettle::detail::functions_of<T>;
+    const torkettle::detail::copied bytes(text, length);
+    const bool is_same = flags != TORKETTLE_SKIP_ZEROES || start.is_found(Constant::constant_prefix(bytes));
+    test.require(is_same && all.is_found(Constant::constant_whole(bytes, flags)), "a constant");
     all.push(test);
     push_error(test, C::parse_error(text, length, flags), all.status);
     start.push(test);

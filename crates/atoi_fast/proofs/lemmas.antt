@@ -17,3 +17,4 @@ pub mod SignedWords
 pub mod ShortPrefixes
 pub mod FirstBytes
 pub mod ShortSlices
+pub mod ByDigits

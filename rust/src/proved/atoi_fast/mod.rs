@@ -4,6 +4,7 @@
 // #![tactic(auto)]
 
 mod after_16;
+mod by_digits;
 mod calls;
 mod digits;
 mod in_range;
@@ -16,6 +17,7 @@ mod sign;
 mod swar;
 #[cfg(feature = "lanes")] mod vectors;
 
+pub use crate::proved::atoi_fast::by_digits::{prefix_by_digits, whole_by_digits};
 pub use crate::proved::atoi_fast::calls::{parse_prefix_text, parse_text, whole_neg, whole_pos};
 pub use crate::proved::atoi_fast::quick::{one_digit, quick_prefix};
 pub use crate::proved::atoi_fast::swar::Swar;

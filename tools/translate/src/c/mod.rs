@@ -16,7 +16,7 @@ use crate::modules::{Package, read_text};
 use crate::resolve::{Definition, Namespace, Scopes};
 use crate::source::Fault;
 use ir::{Bindings, Callee, Done, Id, Type};
-use special::{Key, Special};
+use special::{Chosen, Key, Special};
 use std::collections::BTreeSet;
 use std::path::Path;
 use world::{Place, World};
@@ -26,9 +26,11 @@ pub const TYPES: [&str; 10] =
     ["i8", "u8", "i16", "u16", "i32", "u32", "i64", "u64", "i128", "u128"];
 
 /// What C calls: functions by their crate and path, `Self::` for one of a type, and for each type of integers.
-const ROOTS: [(&str, &str); 15] = [
+const ROOTS: [(&str, &str); 17] = [
     ("atoi_fast", "one_digit"),
     ("atoi_fast", "quick_prefix"),
+    ("atoi_fast", "prefix_by_digits"),
+    ("atoi_fast", "whole_by_digits"),
     ("atoi_simd", "T::atoi_simd_parse"),
     ("atoi_simd", "T::atoi_simd_parse_prefix"),
     ("atoi_simd", "T::atoi_simd_parse_pos"),
@@ -48,7 +50,11 @@ const HEAD: &str =
     "/* Made by .ci/translate from the proved sources and c/interface. Do not edit. */\n";
 
 /// The roots that `torkettle.h` has inline.
-const INLINE: [&str; 3] = ["one_digit", "quick_prefix", "is_separator"];
+const INLINE: [&str; 5] =
+    ["one_digit", "quick_prefix", "prefix_by_digits", "whole_by_digits", "is_separator"];
+
+/// The roots that a compiler of C++20 may call, with all that they call.
+const CONSTANT: [&str; 2] = ["prefix_by_digits", "whole_by_digits"];
 
 /// What these call, and the header does not contain, as it is long.
 const FAR: [&str; 1] = ["prefix_of_three_words"];
@@ -103,6 +109,7 @@ pub fn print(
     }
     let mut printer = print::Printer::new(&special, is_checked)?;
     let near = near(&special, open, &mut printer.far);
+    printer.constant = constant(&special);
     let of = |keys: &BTreeSet<Key>, is_in: bool| {
         let found = special.functions.iter().filter(|it| keys.contains(&it.key) == is_in);
         found.collect::<Vec<_>>()
@@ -118,6 +125,20 @@ pub fn print(
         printer.function(chosen, false)?;
     }
     Ok((inline, printer.take()))
+}
+
+// Returns the functions that a compiler may call.
+fn constant(special: &Special) -> BTreeSet<Key> {
+    let is_root = |it: &&Chosen| CONSTANT.contains(&special.world.name(it.key.0));
+    let mut open: Vec<&Chosen> = special.functions.iter().filter(is_root).collect();
+    let mut found = BTreeSet::new();
+    while let Some(chosen) = open.pop() {
+        if found.insert(chosen.key.clone()) {
+            let called = special::called(&chosen.function);
+            open.extend(special.functions.iter().filter(|it| called.contains(&it.key)));
+        }
+    }
+    found
 }
 
 // Returns the functions that are inlined in those that are open, and adds the others that they call.

@@ -22,6 +22,8 @@ pub struct Printer<'a> {
     pub functions: Vec<String>,
     /// The functions that other files call.
     pub far: BTreeSet<Key>,
+    /// The functions that a compiler of C++20 may call.
+    pub constant: BTreeSet<Key>,
 }
 
 /// One function that is printed.
@@ -48,6 +50,7 @@ impl<'a> Printer<'a> {
             known: BTreeMap::new(),
             functions: Vec::new(),
             far: BTreeSet::new(),
+            constant: BTreeSet::new(),
         })
     }
 
@@ -90,7 +93,7 @@ impl<'a> Printer<'a> {
     pub fn small(&mut self, name: &str, head: &str, check: &str, value: &str) {
         let check =
             if check.is_empty() { "".into() } else { format!("    TORKETTLE_CHECK({check});\n") };
-        self.helper(name, || format!("TK_INLINE {head}\n{{\n{check}    return {value};\n}}\n"));
+        self.helper(name, || format!("TK_CONSTEXPR {head}\n{{\n{check}    return {value};\n}}\n"));
     }
 
     /// Adds a small function or a constant, unless it is there.
@@ -150,6 +153,7 @@ impl Body<'_, '_> {
         let qualifier = match (qualifier, self.printer.far.contains(key)) {
             ("TK_COLD", true) => "TK_FAR_COLD",
             (_, true) => "TK_FAR",
+            _ if self.printer.constant.contains(key) => "TK_CONSTEXPR",
             (own, false) => own,
         };
         let line = format!("{qualifier} {}({parameters})", declared(&result, &name));

@@ -234,7 +234,7 @@ impl<'a> Types<'a> {
         }
         let parameters = if parameters.is_empty() { "void".into() } else { parameters.join(", ") };
         let (maker, values) = (self.maker(of, shape), values.join(", "));
-        let head = text::wrapped(&format!("TK_INLINE {name} {maker}({parameters})"));
+        let head = text::wrapped(&format!("TK_CONSTEXPR {name} {maker}({parameters})"));
         let line = text::wrapped(&format!("    return TK_MAKE({name}, {values});"));
         Ok(format!("\n{head}\n{{\n{line}\n}}\n"))
     }
