@@ -2,7 +2,7 @@
 
 use crate::modules::{CRATES, Package};
 use crate::parser::is_capital;
-use crate::resolve::{Definition, Namespace, Scopes};
+use crate::resolve::{Definition, Scopes};
 use crate::source::{Done, Source, Span};
 use crate::std_names::{self, has};
 use crate::tree::*;
@@ -28,44 +28,41 @@ pub fn check(package: &Package, scopes: &Scopes) -> Done<()> {
 
 // The names of what belongs to types of the package.
 #[derive(Default)]
-struct Members {
+struct Members<'a> {
     // All functions and constants, and which of these are methods.
-    all: BTreeSet<String>,
-    methods: BTreeSet<String>,
+    all: BTreeSet<&'a str>,
+    methods: BTreeSet<&'a str>,
 }
 
-impl Members {
+impl<'a> Members<'a> {
     // Collects them. Refuses a method of a trait of ours that has the name of another method of ours: which
     // one a call means depends on the type.
-    fn new(package: &Package) -> Done<Members> {
+    fn new(package: &'a Package) -> Done<Members<'a>> {
         let mut members = Members::default();
         for is_trait in [false, true] {
             for module in &package.modules {
-                for item in &module.tree.items {
-                    let is_own = matches!(item.kind, ItemKind::Implementation { of: None, .. });
-                    if is_own && !is_trait
-                        || matches!(item.kind, ItemKind::Trait { .. }) && is_trait
-                    {
-                        let mut found = item.members().iter();
-                        found.try_for_each(|it| members.add(it, is_trait, &module.source))?;
-                    }
-                }
+                let items = module.tree.items.iter().filter(|item| match item.kind {
+                    ItemKind::Trait { .. } => is_trait,
+                    ItemKind::Implementation { of: None, .. } => !is_trait,
+                    _ => false,
+                });
+                let mut found = items.flat_map(Item::members);
+                found.try_for_each(|member| members.add(member, is_trait, &module.source))?;
             }
         }
         Ok(members)
     }
 
-    fn add(&mut self, member: &Item, is_trait: bool, source: &Source) -> Done<()> {
-        let Item { name, kind, .. } = member;
+    fn add(&mut self, member: &'a Item, is_trait: bool, source: &Source) -> Done<()> {
+        let Item { name: Name { text, span }, kind, .. } = member;
         let is_method = match kind {
             ItemKind::Function(function) => function.is_method(),
             ItemKind::Constant { .. } => false,
             _ => return Ok(()),
         };
-        self.all.insert(name.text.clone());
-        if is_method && !self.methods.insert(name.text.clone()) && is_trait {
-            let reason = format!("a second method by the name `{}`", name.text);
-            return Err(source.fault(name.span, reason));
+        self.all.insert(text);
+        if is_method && !self.methods.insert(text) && is_trait {
+            return Err(source.fault(*span, format!("a second method by the name `{text}`")));
         }
         Ok(())
     }
@@ -75,13 +72,13 @@ struct Names<'a> {
     scopes: &'a Scopes<'a>,
     module: usize,
     source: &'a Source,
-    members: &'a Members,
+    members: &'a Members<'a>,
     // The local names of the scopes that are open, the innermost last.
-    locals: Vec<Vec<String>>,
+    locals: Vec<Vec<&'a str>>,
 }
 
-impl Names<'_> {
-    fn item(&mut self, item: &Item) -> Done<()> {
+impl<'a> Names<'a> {
+    fn item(&mut self, item: &'a Item) -> Done<()> {
         self.declaration(item)?;
         self.locals.push(Vec::new());
         item.mentions.iter().try_for_each(|mention| self.mention(mention))?;
@@ -90,25 +87,21 @@ impl Names<'_> {
         Ok(())
     }
 
-    fn mention(&mut self, mention: &Mention) -> Done<()> {
+    fn mention(&mut self, mention: &'a Mention) -> Done<()> {
         match mention {
-            Mention::Path(path, role) if !self.is_known(path, *role) => self.refuse(path.span),
-            Mention::Method(name) if !self.is_known_method(&name.text) => self.refuse(name.span),
-            Mention::Local(name) if self.hides(&name.text) => self.refuse(name.span),
+            Mention::Path(path, role) => self.assert(self.is_known(path, *role), path.span)?,
+            Mention::Method(name) => self.assert(self.is_known_method(&name.text), name.span)?,
             Mention::Local(name) => {
-                self.locals.last_mut().into_iter().for_each(|it| it.push(name.text.clone()));
-                Ok(())
+                // It must not hide a type or a constant, or mean something without being declared.
+                let is_declared = self.scopes.get(self.module, &name.text).is_some();
+                let hides = is_declared && is_capital(&name.text) || is_reserved(&name.text);
+                self.assert(!hides, name.span)?;
+                self.locals.last_mut().into_iter().for_each(|scope| scope.push(&name.text));
             }
-            Mention::Enter => {
-                self.locals.push(Vec::new());
-                Ok(())
-            }
-            Mention::Leave => {
-                self.locals.pop();
-                Ok(())
-            }
-            Mention::Path(..) | Mention::Method(_) => Ok(()),
+            Mention::Enter => self.locals.push(Vec::new()),
+            Mention::Leave => _ = self.locals.pop(),
         }
+        Ok(())
     }
 
     fn declaration(&self, item: &Item) -> Done<()> {
@@ -116,11 +109,9 @@ impl Names<'_> {
             ItemKind::Use(imports) => return imports.iter().try_for_each(|it| self.import(it)),
             ItemKind::Implementation { of, .. } => return self.implementation(of, item),
             ItemKind::Ghost | ItemKind::GhostUse { .. } => return Ok(()),
-            ItemKind::Struct { fields, .. } => self.check_fields(fields)?,
-            ItemKind::Enum(variants) => variants.iter().try_for_each(|variant| {
-                self.check_case(&variant.name, true)?;
-                self.check_fields(&variant.fields)
-            })?,
+            ItemKind::Enum(variants) => {
+                variants.iter().try_for_each(|variant| self.declare(&variant.name, true))?;
+            }
             _ => {}
         }
         self.declare(&item.name, !matches!(item.kind, ItemKind::Module | ItemKind::Function(_)))
@@ -131,46 +122,26 @@ impl Names<'_> {
     fn import(&self, import: &Import) -> Done<()> {
         let last = import.last();
         match &import.alias {
-            Some(name) if import.path.len() > 1 => self.refuse(name.span),
+            Some(name) if import.path.len() > 1 => self.assert(false, name.span),
             Some(name) => self.declare(name, false),
-            None if std_names::is_built_in(&last.text) => self.refuse(last.span),
-            None => Ok(()),
+            None => self.assert(!std_names::is_built_in(&last.text), last.span),
         }
     }
 
-    fn is_known_method(&self, name: &str) -> bool {
-        let is_own = self.members.methods.contains(name);
-        has(if is_own { OWN_METHODS } else { std_names::METHODS }, name)
+    // Refuses a name that hides another, or looks like one of another kind. Patterns are read by the case of their
+    // names: a small one binds.
+    fn declare(&self, name: &Name, is_large: bool) -> Done<()> {
+        self.assert(is_capital(&name.text) == is_large && !is_reserved(&name.text), name.span)
     }
 
-    // Whether a local name hides a type, or means something without being declared.
-    fn hides(&self, name: &str) -> bool {
-        let is_type = self.scopes.get(self.module, Namespace::Types, name).is_some();
-        is_type && is_capital(name) || is_reserved(name)
-    }
-
-    fn refuse(&self, span: Span) -> Done<()> {
+    // Refuses a name that is not as it should be.
+    fn assert(&self, is_right: bool, span: Span) -> Done<()> {
+        if is_right {
+            return Ok(());
+        }
         let text = self.source.at(span).lines().next().unwrap_or_default();
         let reason = format!("`{text}` is not known here, or means something else in Rust");
         Err(self.source.fault(span, reason))
-    }
-
-    // Refuses a name of an item that hides another, or looks like one of another kind.
-    fn declare(&self, name: &Name, is_large: bool) -> Done<()> {
-        if is_reserved(&name.text) {
-            self.refuse(name.span)
-        } else {
-            self.check_case(name, is_large)
-        }
-    }
-
-    // Patterns are read by the case of their names: a small one binds.
-    fn check_case(&self, name: &Name, is_large: bool) -> Done<()> {
-        if is_capital(&name.text) == is_large { Ok(()) } else { self.refuse(name.span) }
-    }
-
-    fn check_fields(&self, fields: &[Field]) -> Done<()> {
-        fields.iter().try_for_each(|field| self.check_case(&field.name, false))
     }
 
     // Refuses an `impl` of a trait of ours for types that users can make: each parameter must have a trait of
@@ -191,13 +162,18 @@ impl Names<'_> {
     }
 
     fn is_own_trait(&self, names: &[&str]) -> bool {
-        let found = self.scopes.resolve(self.module, Namespace::Types, names);
+        let found = self.scopes.resolve(self.module, names);
         let item = found.and_then(|found| self.scopes.item(&found.definition));
         item.is_some_and(|item| matches!(item.kind, ItemKind::Trait { .. }))
     }
 
+    fn is_known_method(&self, name: &str) -> bool {
+        let is_own = self.members.methods.contains(name);
+        has(if is_own { OWN_METHODS } else { std_names::METHODS }, name)
+    }
+
     fn is_local(&self, name: &str) -> bool {
-        self.locals.iter().flatten().any(|local| local == name)
+        self.locals.iter().flatten().any(|local| *local == name)
     }
 
     fn is_known(&self, path: &Path, role: Role) -> bool {
@@ -216,24 +192,12 @@ impl Names<'_> {
     }
 
     fn is_resolved(&self, names: &[&str], role: Role) -> bool {
-        let spaces: &[Namespace] = match role {
-            Role::Value | Role::Callee | Role::Pattern => &[Namespace::Values],
-            // An argument may be a constant.
-            Role::Type => &[Namespace::Types, Namespace::Values],
-            Role::Bound | Role::Trait | Role::Struct => &[Namespace::Types],
-        };
-        let found = spaces.iter().find_map(|it| self.scopes.resolve(self.module, *it, names));
-        let Some(found) = found else { return false };
+        let Some(found) = self.scopes.resolve(self.module, names) else { return false };
+        let item = self.scopes.item(&found.definition);
         match (&names[found.used..], &found.definition) {
-            ([], Definition::Foreign(path)) => is_right(path, role),
-            ([], Definition::Module(_)) => false,
+            ([], Definition::Foreign(path)) => may_be_foreign(path, role),
             ([], Definition::Variant { .. }) => true,
-            ([], Definition::Item { .. }) => match (self.scopes.item(&found.definition), role) {
-                // What is called through a value need not meet its conditions.
-                (Some(Item { kind: ItemKind::Function(_), .. }), role) => role == Role::Callee,
-                (_, Role::Bound | Role::Trait) => self.is_own_trait(names),
-                _ => true,
-            },
+            ([], _) => item.is_some_and(|item| may_be(item, role)),
             ([name], Definition::Foreign(_)) => {
                 has(std_names::ASSOCIATED, name) && is_used(name, role)
             }
@@ -244,12 +208,26 @@ impl Names<'_> {
 }
 
 // Whether something of `std` may have a role.
-fn is_right(path: &str, role: Role) -> bool {
+fn may_be_foreign(path: &str, role: Role) -> bool {
     match role {
         Role::Bound => has(std_names::BOUNDS, path),
         Role::Trait => has(std_names::IMPLEMENTED, path),
         Role::Callee => has("Some Ok Err std::str::from_utf8", path),
         _ => path != "std::str::from_utf8" && path != "std::fmt",
+    }
+}
+
+// Whether an item of ours may have a role. What is called through a value need not meet its conditions.
+fn may_be(item: &Item, role: Role) -> bool {
+    match &item.kind {
+        ItemKind::Function(_) => role == Role::Callee,
+        ItemKind::Trait { .. } => matches!(role, Role::Bound | Role::Trait),
+        // An argument of a type may be a constant.
+        ItemKind::Constant { .. } => matches!(role, Role::Value | Role::Pattern | Role::Type),
+        ItemKind::Struct { fields, .. } if fields.is_empty() => {
+            !matches!(role, Role::Callee | Role::Bound | Role::Trait)
+        }
+        _ => matches!(role, Role::Type | Role::Struct),
     }
 }
 

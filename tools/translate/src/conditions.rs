@@ -2,10 +2,9 @@
 //! becomes a test at the start of its function, or is refused.
 
 use crate::modules::{Module, Package};
-use crate::resolve::{Definition, Namespace, Scopes};
 use crate::source::{Done, Span};
 use crate::std_names::has;
-use crate::tree::{Block, Field, Function, Item, ItemKind, Type, TypeKind, Visibility};
+use crate::tree::*;
 use std::collections::{BTreeMap, BTreeSet};
 
 /// The tests of a module, by the offset of the body that each goes into.
@@ -15,7 +14,7 @@ pub type Tests = BTreeMap<usize, String>;
 /// about, and what tests it in Rust.
 struct Condition {
     clause: &'static str,
-    parameters: &'static [(&'static str, &'static str)],
+    parameters: &'static [&'static str],
     test: &'static str,
 }
 
@@ -23,13 +22,13 @@ const CONDITIONS: [Condition; 3] = [
     Condition {
         clause: "Rattle.atoi_column.specs.Fields.is_separator separator \
             Rattle.std.specs.Prelude.≡ Rattle.std.specs.Prelude.true",
-        parameters: &[("separator", "u8")],
+        parameters: &["separator: u8"],
         test: "assert!(crate::column::is_separator(separator), \"a sign or a digit separates fields\");",
     },
     Condition {
         clause: "Rattle.std.specs.Prelude.IsFalse ( Rattle.atoi_core.specs.Digit.is_digit \
             Rattle.atoi_core.specs.Digit.decimal_table byte )",
-        parameters: &[("byte", "u8")],
+        parameters: &["byte: u8"],
         test: "assert!(!byte.is_ascii_digit(), \"a digit is to follow the number\");",
     },
     Condition {
@@ -37,14 +36,14 @@ const CONDITIONS: [Condition; 3] = [
             Rattle.std.specs.Prelude.< 2 Rattle.std.specs.Prelude.^ 64 ) \
             × ( place Rattle.std.specs.Prelude.+ Rattle.std.specs.Prelude.length self.rest \
             Rattle.std.specs.Prelude.< 2 Rattle.std.specs.Prelude.^ 64 )",
-        parameters: &[("index", "usize"), ("place", "usize")],
+        parameters: &["index: usize", "place: usize"],
         test: "assert!(self.rest.len() <= usize::MAX - index, \"the fields have too many indices\"); \
             assert!(self.rest.len() <= usize::MAX - place, \"the fields end above usize::MAX\");",
     },
 ];
 
-// The clauses of methods that nothing tests. DIFFERENCES describes those of the first two traits. No item that
-// users can name mentions `Engine`, and the others are private methods of `impl`.
+// The clauses of methods that nothing tests, by the modules in which these are written. DIFFERENCES describes those
+// of the first two traits. No item that users can name mentions `Engine`, and the others are private methods.
 const UNTESTED: [(&str, &str); 9] = [
     ("atoi_core::number::Number::from_pos", "value ≤ GREATEST"),
     ("atoi_core::number::Number::from_parts", "minus ≡ true → SIGNED ≡ true"),
@@ -52,19 +51,18 @@ const UNTESTED: [(&str, &str); 9] = [
     ("atoi_core::number::Signed::from_neg", "magnitude ≤ LEAST_MAGNITUDE"),
     ("atoi_core::engine::Engine::prefix_64", "IsBound64 limit bound"),
     ("atoi_core::engine::Engine::prefix_128", "HasDigits 39 bound"),
-    ("atoi_column::fields::Fields::read_plain", "from + most ≤ length values.old"),
-    ("atoi_column::fields::Fields::read_guessed", "from ≤ length values.old"),
-    ("atoi_column::fields::Fields::read_part", "from + most ≤ length values.old"),
+    ("atoi_column::fields::read::Fields::read_plain", "from + most ≤ length values.old"),
+    ("atoi_column::fields::read::Fields::read_guessed", "from ≤ length values.old"),
+    ("atoi_column::fields::read::Fields::read_part", "from + most ≤ length values.old"),
 ];
 
 // The crates of which not all public functions are exported.
 const INNER_CRATES: &str = "atoi_core atoi_fast atoi_lanes";
 
 /// Returns the tests of each module. Users can call the functions whose names are `exported`.
-pub fn tests(package: &Package, scopes: &Scopes, exported: &[&str]) -> Done<Vec<Tests>> {
-    let modules = package.modules.iter().enumerate();
-    let tests = modules.map(|(number, module)| {
-        let mut finder = Finder { module, number, scopes, exported, tests: Tests::new() };
+pub fn tests(package: &Package, exported: &[&str]) -> Done<Vec<Tests>> {
+    let tests = package.modules.iter().map(|module| {
+        let mut finder = Finder { module, exported, tests: Tests::new() };
         module.tree.items.iter().try_for_each(|item| finder.item(item))?;
         Ok(finder.tests)
     });
@@ -73,8 +71,6 @@ pub fn tests(package: &Package, scopes: &Scopes, exported: &[&str]) -> Done<Vec<
 
 struct Finder<'a> {
     module: &'a Module,
-    number: usize,
-    scopes: &'a Scopes<'a>,
     exported: &'a [&'a str],
     tests: Tests,
 }
@@ -83,19 +79,17 @@ impl Finder<'_> {
     fn item(&mut self, item: &Item) -> Done<()> {
         match &item.kind {
             ItemKind::Function(function) if self.is_callable(item) => {
-                self.test(item, function, "", function.body.as_ref())
+                self.test("", item, function, function.body.as_ref())
             }
             // A test in a provided method would not be in those that replace it.
-            ItemKind::Trait { .. } => {
-                let path = path_of(self.module, &item.name.text);
-                functions(item).try_for_each(|(it, method)| self.test(it, method, &path, None))
-            }
+            ItemKind::Trait { .. } => functions(item)
+                .try_for_each(|(method, it)| self.test(&item.name.text, method, it, None)),
             ItemKind::Implementation { target, .. } if item.is_model() => self.model(item, target),
             ItemKind::Implementation { of, target, .. } => {
-                let path = self.target(target).map(|(path, _)| path).unwrap_or_default();
-                functions(item).try_for_each(|(it, method)| {
-                    let is_private = of.is_none() && it.visibility == Visibility::Private;
-                    self.test(it, method, if is_private { &path } else { "" }, method.body.as_ref())
+                functions(item).try_for_each(|(method, it)| {
+                    let is_private = of.is_none() && method.visibility == Visibility::Private;
+                    let owner = if is_private { name_of(target) } else { "" };
+                    self.test(owner, method, it, it.body.as_ref())
                 })
             }
             ItemKind::Struct { fields, ghosts } if !is_sealed(fields) => match ghosts.first() {
@@ -112,47 +106,38 @@ impl Finder<'_> {
         Err(self.module.source.fault(span, reason))
     }
 
-    // Whether users may call a function of the module.
+    // Whether users may call a function of the module. All public functions of the other crates are to be exported.
     fn is_callable(&self, item: &Item) -> bool {
-        // All public functions of the other crates are to be exported.
         let is_exported = !has(INNER_CRATES, self.module.crate_name)
             || self.exported.contains(&item.name.text.as_str());
         item.visibility == Visibility::Public && is_exported
     }
 
-    // The path of the type of an `impl`, and whether it is a sealed struct of the module.
-    fn target(&self, target: &Type) -> Option<(String, bool)> {
-        let TypeKind::Path(path) = &target.kind else { return None };
-        let [name] = path.names()[..] else { return None };
-        let resolved = self.scopes.resolve(self.number, Namespace::Types, &[name])?;
-        let Definition::Item { module, .. } = resolved.definition else { return None };
-        let is_sealed = match &self.scopes.item(&resolved.definition)?.kind {
-            ItemKind::Struct { fields, .. } => module == self.number && is_sealed(fields),
-            _ => false,
-        };
-        Some((path_of(self.scopes.module(module), name), is_sealed))
-    }
-
-    // Puts what tests the conditions of a function into its body, if it has one. The path of its owner says which
-    // conditions need no test.
+    // Puts what tests the conditions of a function into its body, if it has one. Its owner, a trait or a type of
+    // the module, says which conditions need no test.
     fn test(
         &mut self,
+        owner: &str,
         item: &Item,
         function: &Function,
-        owner: &str,
         body: Option<&Block>,
     ) -> Done<()> {
-        let path = format!("{owner}::{}", item.name.text);
+        let Module { crate_name, path, source, .. } = self.module;
+        let path = format!("{crate_name}::{}::{owner}::{}", path.join("::"), item.name.text);
+        let parameters = function.parameters.iter();
+        let parameters = parameters
+            .map(|it| format!("{}: {}", it.name.text, source.at(it.annotation.span)))
+            .collect::<Vec<_>>();
         for clause in function.clauses.iter().filter(|clause| clause.is_condition) {
-            let text = self.module.source.at(clause.text);
+            let text = source.at(clause.text);
             let words: Vec<&str> = text.split_whitespace().collect();
             if UNTESTED.contains(&(&path, &words.join(" "))) {
                 continue;
             }
             let text = self.with_paths(item, function, text);
             let known = CONDITIONS.iter().find(|known| {
-                let mut parameters = known.parameters.iter();
-                known.clause == text && parameters.all(|it| self.has_parameter(function, it))
+                let has = |parameter: &&str| parameters.iter().any(|it| it == parameter);
+                known.clause == text && known.parameters.iter().all(has)
             });
             let (Some(known), Some(body)) = (known, body) else {
                 return self.refuse(clause.span, "a condition that nothing tests in Rust");
@@ -162,18 +147,11 @@ impl Finder<'_> {
         Ok(())
     }
 
-    fn has_parameter(&self, function: &Function, &(name, kind): &(&str, &str)) -> bool {
-        function.parameters.iter().any(|parameter| {
-            let found = self.module.source.at(parameter.annotation.span);
-            parameter.name.text == name && found == kind
-        })
-    }
-
     // The clause with the path of each name that a `ghost use` imports and no parameter hides.
     fn with_paths(&self, item: &Item, function: &Function, clause: &str) -> String {
-        let generics = item.generics.iter().map(|parameter| parameter.name.text.as_str());
-        let parameters = function.parameters.iter().map(|parameter| parameter.name.text.as_str());
-        let hidden: Vec<&str> = generics.chain(parameters).collect();
+        let generics = item.generics.iter().map(|parameter| &parameter.name);
+        let parameters = function.parameters.iter().map(|parameter| &parameter.name);
+        let hidden: Vec<&str> = generics.chain(parameters).map(|name| name.text.as_str()).collect();
         let with_path = |word: &str| {
             let modules = self.modules_with(word);
             match modules.first() {
@@ -204,7 +182,11 @@ impl Finder<'_> {
     // Refuses an `impl` of `Model` with other items than ghost items, and an invariant of what users can write,
     // or change.
     fn model(&self, item: &Item, target: &Type) -> Done<()> {
-        let is_sealed = self.target(target).is_some_and(|(_, is_sealed)| is_sealed);
+        let is_target = |item: &&Item| item.name.text == name_of(target);
+        let found = self.module.tree.items.iter().find(is_target);
+        let is_sealed = found.is_some_and(
+            |found| matches!(&found.kind, ItemKind::Struct { fields, .. } if is_sealed(fields)),
+        );
         for member in item.members() {
             match &member.kind {
                 ItemKind::Ghost if member.name.text == "invariant" && !is_sealed => {
@@ -221,9 +203,12 @@ impl Finder<'_> {
     }
 }
 
-// The path of an item of a module.
-fn path_of(module: &Module, name: &str) -> String {
-    [&[module.crate_name.to_string()], &*module.path, &[name.to_string()]].concat().join("::")
+// The name of a type, if it is a name alone.
+fn name_of(target: &Type) -> &str {
+    match &target.kind {
+        TypeKind::Path(path) if path.segments.len() == 1 => &path.segments[0].name.text,
+        _ => "",
+    }
 }
 
 fn functions(item: &Item) -> impl Iterator<Item = (&Item, &Function)> {

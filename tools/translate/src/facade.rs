@@ -5,10 +5,10 @@
 use crate::lexer::Kind;
 use crate::modules::CRATES;
 use crate::parser::Parser;
-use crate::resolve::{Definition, Namespace, Scopes};
+use crate::resolve::{Definition, Scopes};
 use crate::source::{Done, Source, Span};
 use crate::std_names::has;
-use crate::tree::{Import, ItemKind, Name, Path};
+use crate::tree::{Import, ItemKind, Name};
 
 // The attributes that the facade may have.
 const ATTRIBUTES: &str = "allow cfg cfg_attr no_std rustfmt warn";
@@ -148,15 +148,15 @@ fn exported(import: &Import) -> Option<Export> {
     is_plain.then(|| Export { crate_name, name: import.last().clone() })
 }
 
-/// Refuses an export that is no function, struct, `enum` or sealed trait, or not only that.
+/// Refuses an export that is no function, struct, `enum` or sealed trait.
 pub fn check(source: &Source, exports: &[Export], scopes: &Scopes) -> Done<()> {
-    for export in exports {
-        let Export { crate_name, name } = export;
-        let found = [Namespace::Types, Namespace::Values]
-            .map(|space| scopes.in_root(crate_name, space, &name.text));
-        let is_known = found.iter().any(Option::is_some)
-            && found.iter().flatten().all(|definition| is_item(definition, exports, scopes));
-        if !is_known {
+    let exported: Vec<&Definition> = exports
+        .iter()
+        .filter_map(|export| scopes.in_root(export.crate_name, &export.name.text))
+        .collect();
+    for Export { crate_name, name } in exports {
+        let definition = scopes.in_root(crate_name, &name.text);
+        if !definition.is_some_and(|definition| may_be_exported(definition, &exported, scopes)) {
             let reason = format!("`{}` is no function, struct, `enum` or sealed trait", name.text);
             return Err(source.fault(name.span, reason));
         }
@@ -164,28 +164,18 @@ pub fn check(source: &Source, exports: &[Export], scopes: &Scopes) -> Done<()> {
     Ok(())
 }
 
-fn is_item(definition: &Definition, exports: &[Export], scopes: &Scopes) -> bool {
+// A trait is sealed if it has a supertrait of ours that is not exported: no path of a user's names that one.
+fn may_be_exported(definition: &Definition, exported: &[&Definition], scopes: &Scopes) -> bool {
+    let Definition::Item { module, .. } = definition else { return false };
     match scopes.item(definition).map(|item| &item.kind) {
         Some(ItemKind::Function(_) | ItemKind::Struct { .. } | ItemKind::Enum(_)) => true,
         Some(ItemKind::Trait { bound: Some(bound), .. }) => {
-            is_sealed(definition, bound, exports, scopes)
+            let found = scopes.resolve(*module, &bound.names()).map(|found| found.definition);
+            let is_own = |it: &Definition| scopes.item(it).is_some();
+            found.is_some_and(|it| is_own(&it) && !exported.contains(&&it))
         }
         _ => false,
     }
-}
-
-// Whether users cannot implement a trait: it has a supertrait of ours that is not exported, so that no path of
-// theirs names it.
-fn is_sealed(of: &Definition, bound: &Path, exports: &[Export], scopes: &Scopes) -> bool {
-    let Definition::Item { module, .. } = of else { return false };
-    let Some(found) = scopes.resolve(*module, Namespace::Types, &bound.names()) else {
-        return false;
-    };
-    let is_exported = |export: &Export| {
-        let other = scopes.in_root(export.crate_name, Namespace::Types, &export.name.text);
-        other == Some(&found.definition)
-    };
-    scopes.item(&found.definition).is_some() && !exports.iter().any(is_exported)
 }
 
 /// Refuses a hand-written file that is not the facade if it names the proved crates: it could export what is in

@@ -37,10 +37,8 @@ fn check() -> Vec<String> {
         Err(fault) => vec![fault.to_string()],
         Ok((files, differ)) => {
             println!("{files} files of the Cargo package and of C, {} differ", differ.len());
-            let line = |file: &std::path::PathBuf| {
-                format!("{} is not what .ci/translate makes", file.display())
-            };
-            differ.iter().map(line).collect()
+            let names = differ.keys().map(|file| file.display());
+            names.map(|name| format!("{name} is not what .ci/translate makes")).collect()
         }
     }
 }

@@ -33,12 +33,14 @@ impl Package {
     pub fn read(top: &Path) -> Done<Package> {
         let mut modules = Vec::new();
         for crate_name in CRATES {
-            let mut files = BTreeMap::new();
-            find(top, &Path::new("crates").join(crate_name).join("src"), &[], &mut files)?;
-            for (path, file) in files {
+            let folder = Path::new("crates").join(crate_name).join("src");
+            let files = files_in(top, &folder)?;
+            let sources = files.iter().filter_map(|file| Some((module_path(&folder, file)?, file)));
+            // The root of the crate comes first.
+            for (path, file) in sources.collect::<BTreeMap<_, _>>() {
                 if !engines::is_left_out(crate_name, &path) {
-                    let file = engines::twin(crate_name, &path).unwrap_or(file);
-                    let source = Source::new(&file, read_text(top, &file)?);
+                    let twin = engines::twin(crate_name, &path);
+                    let source = Source::read(top, twin.as_ref().unwrap_or(file))?;
                     modules.push(Module::new(crate_name, path, source)?);
                 }
             }
@@ -62,8 +64,7 @@ impl Package {
 
     /// Returns the number of the module that another declares by a name.
     pub fn below(&self, module: &Module, name: &str) -> Option<usize> {
-        let path = [module.path.as_slice(), &[name.to_string()]].concat();
-        self.find(module.crate_name, &path)
+        self.find(module.crate_name, &[&*module.path, &[name.to_string()]].concat())
     }
 
     // Refuses a declared module without a file, and a file that no module declares.
@@ -107,45 +108,25 @@ impl Module {
     }
 }
 
-/// Reads a file below `top` that must be UTF-8.
-pub fn read_text(top: &Path, file: &Path) -> Done<String> {
-    fs::read_to_string(top.join(file)).map_err(|error| Fault::of_file(file, error))
-}
-
-/// Returns the names of what is in a folder, in order.
-pub fn names_in(top: &Path, folder: &Path) -> Done<Vec<String>> {
+/// Returns the files in a folder and in the folders in it.
+pub fn files_in(top: &Path, folder: &Path) -> Done<Vec<PathBuf>> {
     let entries = fs::read_dir(top.join(folder)).and_then(Iterator::collect::<Result<Vec<_>, _>>);
-    let entries = entries.map_err(|error| Fault::of_file(folder, error))?;
-    let names = entries.iter().map(|entry| entry.file_name().to_string_lossy().into_owned());
-    let mut names: Vec<String> = names.collect();
-    names.sort();
-    Ok(names)
-}
-
-// Finds the sources in a folder and in the folders in it: the files with the ending `rt`. Editors and
-// systems write other files and folders beside them, also some that begin with a point.
-fn find(
-    top: &Path,
-    folder: &Path,
-    path: &[String],
-    files: &mut BTreeMap<Vec<String>, PathBuf>,
-) -> Done<()> {
-    for name in names_in(top, folder)?.iter().filter(|name| !name.starts_with('.')) {
-        let file = folder.join(name);
-        let below = |name: &str| [path, &[name.to_string()]].concat();
-        let module = match name.strip_suffix(".rt") {
-            _ if top.join(&file).is_dir() => {
-                find(top, &file, &below(name), files)?;
-                continue;
-            }
-            None => continue,
-            Some("lib") if path.is_empty() => Vec::new(),
-            Some("mod") => path.to_vec(),
-            Some(name) => below(name),
-        };
-        if let Some(other) = files.insert(module, file.clone()) {
-            return Err(Fault::of_file(&file, format!("the same module as {}", other.display())));
+    let mut files = Vec::new();
+    for entry in entries.map_err(|error| Fault::of_file(folder, error))? {
+        let path = folder.join(entry.file_name());
+        match entry.path().is_dir() {
+            true => files.extend(files_in(top, &path)?),
+            false => files.push(path),
         }
     }
-    Ok(())
+    Ok(files)
+}
+
+// The path of the module that a file in the folder of a crate is, if it ends with `.rt`. Editors and systems write
+// other files and folders beside them, also some that begin with a point.
+fn module_path(folder: &Path, file: &Path) -> Option<Vec<String>> {
+    let file = file.strip_prefix(folder).ok()?.to_str()?.strip_suffix(".rt")?;
+    let path: Vec<String> = file.split('/').map(String::from).collect();
+    let is_hidden = path.iter().any(|name| name.starts_with('.'));
+    (!is_hidden).then(|| if file == "lib" { Vec::new() } else { path })
 }

@@ -1,7 +1,7 @@
 //! A source, its parts, and what is wrong in it.
 
-use std::fmt;
 use std::path::{Path, PathBuf};
+use std::{fmt, fs};
 
 /// The text of a file. Its path is the one that faults name.
 #[derive(Clone, Debug)]
@@ -38,6 +38,12 @@ impl Span {
 impl Source {
     pub fn new(path: &Path, text: String) -> Source {
         Source { path: path.into(), text }
+    }
+
+    /// Reads a file below `top` that must be UTF-8.
+    pub fn read(top: &Path, path: &Path) -> Done<Source> {
+        let text = fs::read_to_string(top.join(path));
+        Ok(Source::new(path, text.map_err(|error| Fault::of_file(path, error))?))
     }
 
     /// Returns the text of a part.

@@ -2,7 +2,6 @@
 
 use crate::common::repository;
 use torkettle_translate::modules::Module;
-use torkettle_translate::resolve::Scopes;
 use torkettle_translate::source::Source;
 use torkettle_translate::tree::{Item, Visibility};
 use torkettle_translate::{conditions, facade};
@@ -44,9 +43,8 @@ fn each_planted_condition_is_refused_where_users_call() {
             let source = Source { text, ..before.source.clone() };
             package.modules[number] =
                 Module::new(before.crate_name, before.path.clone(), source).unwrap();
-            let scopes = Scopes::new(&package).unwrap();
             let line = 1 + head.matches('\n').count();
-            let fault = conditions::tests(&package, &scopes, &exported).err();
+            let fault = conditions::tests(&package, &exported).err();
             let place = fault.map(|fault| (fault.file, fault.line));
             let expected = is_callable.then(|| (before.source.path.clone(), Some(line)));
             assert_eq!(place, expected, "line {line} of {}", before.source.path.display());

@@ -14,7 +14,7 @@ const CRATES: [(&str, &str); 4] = [
     (
         "atoi_core/lib.rt",
         "pub mod digits;\npub mod numbers;\npub use crate::digits::of;\npub const N: u8 = 1;\n\
-        pub type T = u8;\npub fn numbers() {}\npub struct S;\npub enum E { V }\n\
+        pub type T = u8;\npub struct S;\npub enum E { V }\n\
         pub trait Parse: ParsePos {}\npub trait ParsePos {}\npub trait Open: Copy {}\n",
     ),
     (

@@ -49,13 +49,19 @@ impl Drop for Package {
     }
 }
 
+// The number of files that are made, and the names of those that differ.
+fn differing(package: &Package) -> (usize, Vec<PathBuf>) {
+    let (made, differ) = compare(&package.0).unwrap();
+    (made, differ.into_keys().collect())
+}
+
 #[test]
 fn check_names_each_file_that_differs() {
     let package = Package::new("check");
     write(&package.0).unwrap();
-    assert_eq!(compare(&package.0), Ok((7, vec![])));
-    let [other, simd, text, fast] =
-        ["atoi_core/other.rs", "atoi_simd/mod.rs", "atoi_core/text.rs", "atoi_fast/mod.rs"]
+    assert_eq!(differing(&package), (7, vec![]));
+    let [other, text, fast, simd] =
+        ["atoi_core/other.rs", "atoi_core/text.rs", "atoi_fast/mod.rs", "atoi_simd/mod.rs"]
             .map(|name| Path::new("rust/src/proved").join(name));
     let read = |file: &Path| fs::read(package.0.join(file)).unwrap();
     // One file has another byte, one a byte less, one is not there, and one should not be there.
@@ -66,10 +72,10 @@ fn check_names_each_file_that_differs() {
     package.put(simd.to_str().unwrap(), &read(&simd)[..read(&simd).len() - 1]);
     package.put(other.to_str().unwrap(), "");
     fs::remove_file(package.0.join(&fast)).unwrap();
-    assert_eq!(compare(&package.0), Ok((7, vec![other.clone(), text, fast.clone(), simd])));
+    assert_eq!(differing(&package), (7, vec![other.clone(), text, fast.clone(), simd]));
     assert!(!package.0.join(&fast).exists(), "--check writes");
     write(&package.0).unwrap();
-    assert_eq!(compare(&package.0), Ok((7, vec![])));
+    assert_eq!(differing(&package), (7, vec![]));
     assert!(!package.0.join(&other).exists());
 }
 
@@ -82,25 +88,22 @@ fn a_refusal_names_the_file_and_the_line() {
     package.put(file, b"fn size() -> u8 {\n    b'\xFF'\n}\n");
     assert!(package.fault().starts_with(&format!("{file}: ")) && package.fault().contains("UTF-8"));
     package.put(file, "fn b() {}");
-    package.put("crates/atoi_core/src/other.rt", "");
-    assert_eq!(package.fault(), "crates/atoi_core/src/other.rt: no `mod` declares this module");
-    package.put("crates/atoi_core/src/lib.rt", "mod text;\nmod other;\nmod more;");
-    assert_eq!(package.fault(), "crates/atoi_core/src/lib.rt:3: a module without a file");
+    package.put("rust/src/debug.rs", "\npub use super::proved;\n");
+    assert_eq!(package.fault(), "rust/src/debug.rs:2: `proved` outside of the facade");
 }
 
 #[test]
-fn a_module_has_one_file() {
+fn a_module_has_one_file_and_a_declaration() {
     let package = Package::new("one_file");
     package.put("crates/atoi_core/src/lib.rt", "mod text;\nmod deep;\n");
     package.put("crates/atoi_core/src/deep/text.rt", "fn size() -> u8 {\n    48\n}\n");
-    package.put("crates/atoi_core/src/deep/mod.rt", "mod text;\n");
+    assert_eq!(package.fault(), "crates/atoi_core/src/lib.rt:2: a module without a file");
+    package.put("crates/atoi_core/src/deep.rt", "mod text;\n");
     write(&package.0).unwrap();
     assert_eq!(package.rust("atoi_core/deep.rs"), "mod text;\n");
     assert!(package.rust("atoi_core/deep/text.rs").starts_with("#[inline] fn size()"));
-    package.put("crates/atoi_core/src/deep.rt", "mod text;\n");
-    for file in ["crates/atoi_core/src/deep.rt", "crates/atoi_core/src/deep/mod.rt"] {
-        assert!(package.fault().contains(file), "{}", package.fault());
-    }
+    package.put("crates/atoi_core/src/deep/mod.rt", "");
+    assert_eq!(package.fault(), "crates/atoi_core/src/deep/mod.rt: no `mod` declares this module");
 }
 
 #[test]
@@ -113,7 +116,10 @@ fn other_files_change_nothing() {
     for file in [".text.rt.swp", ".text.rt", "text.rt.swp", ".history/a.rt"] {
         package.put(&format!("crates/atoi_core/src/{file}"), b"\xFF\x00");
     }
-    assert_eq!(compare(&package.0), Ok((7, vec![])));
+    for file in [".debug.rs", ".old/debug.rs", "debug.rs~", "debug.orig"] {
+        package.put(&format!("rust/src/{file}"), "pub use crate::proved::a;");
+    }
+    assert_eq!(differing(&package), (7, vec![]));
 }
 
 #[test]

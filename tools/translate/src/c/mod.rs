@@ -12,9 +12,9 @@ pub mod types;
 pub mod world;
 
 use crate::checks;
-use crate::modules::{Package, read_text};
-use crate::resolve::{Definition, Namespace, Scopes};
-use crate::source::Fault;
+use crate::modules::Package;
+use crate::resolve::{Definition, Scopes};
+use crate::source::{Fault, Source};
 use ir::{Bindings, Callee, Done, Id, Type};
 use special::{Chosen, Key, Special};
 use std::collections::BTreeSet;
@@ -73,7 +73,7 @@ pub fn made(top: &Path, is_checked: bool) -> Done<[(&'static str, String); 2]> {
     checks::check(&package, &scopes)?;
     let world = World::new(&package, &scopes);
     let (inline, rest) = print(&world, &ROOTS, &INLINE, &TYPES, is_checked)?;
-    let part = |name: &str| read_text(top, &Path::new(INTERFACE).join(name));
+    let part = |name: &str| Done::Ok(Source::read(top, &Path::new(INTERFACE).join(name))?.text);
     let inline = format!("{}\n{inline}", part("prelude.h")?);
     let names = inline
         .lines()
@@ -172,13 +172,13 @@ fn callees(world: &World, crate_name: &str, path: &str, types: &[&str]) -> Done<
     for of in types.iter().filter_map(|it| world::integer(it)) {
         let (id, mut bindings) = match owner {
             None => {
-                let found = world.scopes.resolve(module, Namespace::Values, &[name]);
+                let found = world.scopes.resolve(module, &[name]);
                 let id = found.and_then(|it| item(&it.definition)).ok_or_else(missing)?;
                 (id, Bindings::new())
             }
             Some("T") => member(world, module, &of, name).ok_or_else(missing)?,
             Some(owner) => {
-                let found = world.scopes.resolve(module, Namespace::Types, &[owner]);
+                let found = world.scopes.resolve(module, &[owner]);
                 let id = found.and_then(|it| item(&it.definition)).ok_or_else(missing)?;
                 let arguments = vec![of.clone(); world.parameters(id).len()];
                 let own = Type::Item { id, arguments };

@@ -2,7 +2,7 @@
 
 use super::ir::{Bindings, Done, Id, Integer, Shape, Type};
 use crate::modules::{Module, Package};
-use crate::resolve::{Definition, Namespace, Resolved, Scopes};
+use crate::resolve::{Definition, Resolved, Scopes};
 use crate::source::{Fault, Source, Span};
 use crate::tree::{
     ExpressionKind, Field, Function, GenericArgument, GenericKind, GenericParameter, Item,
@@ -81,12 +81,12 @@ impl<'a> World<'a> {
     }
 
     /// Finds what the start of a path stands for.
-    pub fn resolve(&self, module: usize, space: Namespace, path: &Path) -> Option<Resolved> {
-        self.scopes.resolve(module, space, &path.names())
+    pub fn resolve(&self, module: usize, path: &Path) -> Option<Resolved> {
+        self.scopes.resolve(module, &path.names())
     }
 
     fn trait_of(&self, module: usize, path: &Path) -> Option<Id> {
-        match self.resolve(module, Namespace::Types, path)?.definition {
+        match self.resolve(module, path)?.definition {
             Definition::Item { module, item } => Some(Id { module, item, member: None }),
             _ => None,
         }
@@ -160,7 +160,7 @@ impl<'a> World<'a> {
             }
         }
         let unknown = || source.fault(path.span, "C: this type has no rule");
-        let found = self.resolve(place.module, Namespace::Types, path).ok_or_else(unknown)?;
+        let found = self.resolve(place.module, path).ok_or_else(unknown)?;
         let arguments = path.last().arguments.iter().filter_map(|argument| match argument {
             GenericArgument::Type(argument) => Some(self.type_in(place, argument)),
             _ => None,

@@ -5,7 +5,7 @@ use crate::c::ir::{
     Bindings, Callee, Id, Integer, Operation, Shape, Statement, Term, TermKind, Type,
 };
 use crate::c::world::integer;
-use crate::resolve::{Definition, Namespace};
+use crate::resolve::Definition;
 use crate::tree::{
     BinaryOperator, Expression, ExpressionKind, GenericArgument, GenericKind, LiteralKind,
     MethodCall, Path, TypeKind,
@@ -53,7 +53,7 @@ impl Lowering<'_> {
 
     // Returns what all of a path stands for.
     fn item_of(&self, path: &Path) -> Option<Definition> {
-        let found = self.world.resolve(self.place.module, Namespace::Values, path)?;
+        let found = self.world.resolve(self.place.module, path)?;
         (found.used == path.segments.len()).then_some(found.definition)
     }
 
@@ -64,7 +64,7 @@ impl Lowering<'_> {
         };
         let name = first.name.text.as_str();
         let is_own = name == "Self" || self.place.parameters.contains_key(name);
-        let found = self.world.resolve(self.place.module, Namespace::Types, path);
+        let found = self.world.resolve(self.place.module, path);
         let is_type = found.is_some_and(|it| {
             let is_item = match &it.definition {
                 Definition::Item { .. } => true,

@@ -3,7 +3,7 @@
 use super::{Branch, Done, Lowering, Target, Value, Wanted};
 use crate::c::ir::{Id, Operation, Shape, Statement, Term, TermKind, Type};
 use crate::c::world::ERROR_KINDS;
-use crate::resolve::{Definition, Namespace};
+use crate::resolve::Definition;
 use crate::tree::{
     Arm, BinaryOperator, Block, Expression, Literal, LiteralKind, Path, Pattern, PatternKind,
 };
@@ -136,7 +136,7 @@ impl Lowering<'_> {
 
     /// Returns the variant that a path names: its type, and its shape.
     pub fn variant(&mut self, path: &Path) -> Option<(Type, Shape)> {
-        let found = self.world.resolve(self.place.module, Namespace::Values, path)?;
+        let found = self.world.resolve(self.place.module, path)?;
         match found.definition {
             _ if found.used != path.segments.len() => None,
             Definition::Variant { module, item, variant } => {
