@@ -87,7 +87,7 @@ impl Finder<'_> {
             ItemKind::Implementation { target, .. } if item.is_model() => self.model(item, target),
             ItemKind::Implementation { of, target, .. } => {
                 functions(item).try_for_each(|(method, it)| {
-                    let is_private = of.is_none() && method.visibility == Visibility::Private;
+                    let is_private = of.is_none() && !method.is_public;
                     let owner = if is_private { name_of(target) } else { "" };
                     self.test(owner, method, it, it.body.as_ref())
                 })
@@ -110,7 +110,7 @@ impl Finder<'_> {
     fn is_callable(&self, item: &Item) -> bool {
         let is_exported = !has(INNER_CRATES, self.module.crate_name)
             || self.exported.contains(&item.name.text.as_str());
-        item.visibility == Visibility::Public && is_exported
+        item.is_public && is_exported
     }
 
     // Puts what tests the conditions of a function into its body, if it has one. Its owner, a trait or a type of
@@ -217,5 +217,5 @@ fn functions(item: &Item) -> impl Iterator<Item = (&Item, &Function)> {
 
 // Whether users can neither write nor change a struct, since its fields are private.
 fn is_sealed(fields: &[Field]) -> bool {
-    !fields.is_empty() && fields.iter().all(|field| field.visibility != Visibility::Public)
+    !fields.is_empty() && fields.iter().all(|field| !field.is_public)
 }

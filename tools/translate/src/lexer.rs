@@ -34,10 +34,8 @@ pub struct Token {
 }
 
 // The longer symbols first, of which a shorter one is the start.
-const SYMBOLS: &[&str] = &[
-    "<<=", ">>=", "..=", "...", "->", "=>", "::", "..", "&&", "||", "==", "!=", "<=", ">=", "+=",
-    "-=", "*=", "/=", "%=", "&=", "|=", "^=", "<<", ">>",
-];
+const SYMBOLS: &[&str] =
+    &["..=", "->", "=>", "::", "..", "&&", "||", "==", "!=", "<=", ">=", "+=", "<<", ">>"];
 const SINGLE: &str = "+-*/%&|^!=<>.,;:#(){}[]?@$~";
 
 // Prefixes of quotes and of `#` that begin raw texts, raw names and texts of C.
@@ -135,21 +133,10 @@ impl<'a> Lexer<'a> {
             [b'\'', ..] if name_length(&rest[1..]) > 0 => {
                 self.push(Kind::Lifetime, 1 + name_length(&rest[1..]))
             }
-            [b'0'..=b'9', ..] => self.number(name)?,
+            [b'0'..=b'9', ..] => self.push(Kind::Integer, name),
             _ if name > 0 => self.push(Kind::Name, name),
             _ => self.symbol()?,
         })
-    }
-
-    // Reads a whole number. Behind a point, it is the name of a field.
-    fn number(&mut self, length: usize) -> Done<&'a str> {
-        let is_field = self.tokens.last().is_some_and(|last| self.source.at(last.span) == ".");
-        let after = self.rest()[length..].strip_prefix('.');
-        let is_name = |it: char| it.is_ascii_alphabetic() || it == '_';
-        if !is_field && after.is_some_and(|it| !it.starts_with('.') && !it.starts_with(is_name)) {
-            return self.refuse("a number that is not whole");
-        }
-        Ok(self.push(Kind::Integer, length))
     }
 
     fn symbol(&mut self) -> Done<&'a str> {

@@ -6,16 +6,16 @@ use crate::conditions::Tests;
 use crate::engines;
 use crate::modules::{CRATES, Module};
 use crate::parser::WRITER;
-use crate::source::{Done, Span};
+use crate::source::{Done, Fault, Span};
 use crate::tree::*;
 
 /// Returns the text of the file that a module becomes.
 pub fn print(module: &Module, tests: &Tests) -> Done<String> {
-    let mut printer = Printer { module, tests, edits: Vec::new() };
-    printer.run()?;
-    let source = module.source.path.display();
+    let mut printer = Printer { module, tests, edits: Vec::new(), fault: None };
+    printer.run();
+    let (source, fault) = (module.source.path.display(), printer.fault.take());
     let rust = printer.finish();
-    Ok(format!("/* Made by .ci/translate from {source}. Do not edit. */ {rust}"))
+    fault.map_or(Ok(format!("/* Made by .ci/translate from {source}. Do not edit. */ {rust}")), Err)
 }
 
 struct Printer<'a> {
@@ -23,20 +23,20 @@ struct Printer<'a> {
     tests: &'a Tests,
     // What stands in the place of parts of the source.
     edits: Vec<(Span, String)>,
+    fault: Option<Fault>,
 }
 
 impl Printer<'_> {
-    fn run(&mut self) -> Done<()> {
+    fn run(&mut self) {
         let Module { tree, left_out, crate_name, path, .. } = self.module;
         let left_out = left_out.iter().map(|item| &item.span);
-        tree.hints.iter().chain(left_out).try_for_each(|span| self.comment(*span))?;
+        tree.hints.iter().chain(left_out).for_each(|span| self.comment(*span));
         for item in &tree.items {
             if path.is_empty() && engines::needs_lanes(crate_name, item) {
                 self.insert(item.span.start, "#[cfg(feature = \"lanes\")] ");
             }
-            self.item(item)?;
+            self.item(item);
         }
-        Ok(())
     }
 
     // The source with what stands in the place of its parts.
@@ -61,8 +61,12 @@ impl Printer<'_> {
         self.replace(Span { start: at, end: at }, text);
     }
 
+    fn refuse(&mut self, span: Span, reason: &str) {
+        self.fault = Some(self.module.source.fault(span, reason));
+    }
+
     // Makes a comment of a part: on each line if nothing else is on these lines, and otherwise between signs.
-    fn comment(&mut self, span: Span) -> Done<()> {
+    fn comment(&mut self, span: Span) {
         let source = &self.module.source;
         let text = source.at(span);
         let before = source.text[..span.start].rsplit('\n').next().unwrap_or_default();
@@ -70,55 +74,47 @@ impl Printer<'_> {
         let comment = if before.trim().is_empty() && after.trim().is_empty() {
             commented(text, before.len())
         } else if text.contains("/*") || text.contains("*/") {
-            return Err(source.fault(span, "`/*` or `*/` in what becomes a comment"));
+            return self.refuse(span, "`/*` or `*/` in what becomes a comment");
         } else {
             format!("/* {text} */")
         };
         self.edits.push((span, comment));
-        Ok(())
     }
 
-    fn attribute(&mut self, attribute: &Attribute, item: &Item) -> Done<()> {
+    fn attribute(&mut self, attribute: &Attribute, item: &Item) {
         match &attribute.kind {
             AttributeKind::Tactic => self.comment(attribute.span),
             AttributeKind::Derive(names) => self.derive(attribute.span, names),
             AttributeKind::AlwaysInline if is_compiled_once(item) => {
                 let text = "#[cfg_attr(not(debug_assertions), inline(always))]";
                 self.replace(attribute.span, text);
-                Ok(())
             }
-            _ => Ok(()),
+            _ => {}
         }
     }
 
     // Leaves `Drop` out, which Rust does not derive.
-    fn derive(&mut self, span: Span, names: &[String]) -> Done<()> {
+    fn derive(&mut self, span: Span, names: &[String]) {
         let kept: Vec<&str> = names.iter().map(String::as_str).filter(|it| *it != "Drop").collect();
-        if kept.is_empty() {
-            return self.comment(span);
+        match kept.is_empty() {
+            true => self.comment(span),
+            false => self.replace(span, &format!("#[derive({})]", kept.join(", "))),
         }
-        if kept.len() < names.len() {
-            self.replace(span, &format!("#[derive({})]", kept.join(", ")));
-        }
-        Ok(())
     }
 
-    fn imports(&mut self, imports: &[Import]) -> Done<()> {
-        let Some(first) = imports.first() else { return Ok(()) };
+    fn imports(&mut self, imports: &[Import]) {
+        let Some(first) = imports.first() else { return };
         match first.names()[..] {
             ["std", "simd", ..] => self.replace(first.path[0].span, "crate"),
             ["std", ..] => self.replace(first.path[0].span, "core"),
             _ => self.head(&first.path[0]),
         }
-        let source = &self.module.source;
         for name in imports.iter().map(Import::last).filter(|name| name.text == "Model") {
-            if !source.text[name.span.end..].starts_with(',') {
-                let reason = "`Model` is known only in `use std::marker::{Model, ..}`";
-                return Err(source.fault(name.span, reason));
+            if !self.module.source.text[name.span.end..].starts_with(',') {
+                self.refuse(name.span, "`Model` is known only in `use std::marker::{Model, ..}`");
             }
             self.replace(Span { end: name.span.end + 1, ..name.span }, "");
         }
-        Ok(())
     }
 
     // Replaces the first name of a path by its path in the package.
@@ -130,16 +126,14 @@ impl Printer<'_> {
         }
     }
 
-    fn function(&mut self, item: &Item, function: &Function) -> Done<()> {
-        for clause in &function.clauses {
-            self.comment(clause.span)?;
-        }
+    fn function(&mut self, item: &Item, function: &Function) {
+        function.clauses.iter().for_each(|clause| self.comment(clause.span));
         // In Rattle, a formatter has its writer as a type parameter.
         if item.name.text == "fmt" {
             let start = item.name.span.end;
             self.replace(Span { start, end: start + WRITER.len() }, "");
         }
-        let Some(body) = &function.body else { return Ok(()) };
+        let Some(body) = &function.body else { return };
         // rustc compiles crates apart, and inlines only what has a hint across them.
         let is_hint = |it: &Attribute| {
             use AttributeKind::{AlwaysInline, Inline, NeverInline};
@@ -151,10 +145,9 @@ impl Printer<'_> {
         if let Some(test) = self.tests.get(&body.span.start) {
             self.insert(body.span.start + 1, test);
         }
-        Ok(())
     }
 
-    fn item(&mut self, item: &Item) -> Done<()> {
+    fn item(&mut self, item: &Item) {
         if item.is_model() {
             return self.comment(item.span);
         }
@@ -163,29 +156,27 @@ impl Printer<'_> {
                 self.path(path);
             }
         }
-        item.members().iter().try_for_each(|member| self.item(member))?;
-        for attribute in &item.notes.attributes {
-            self.attribute(attribute, item)?;
-        }
+        item.members().iter().for_each(|member| self.item(member));
+        item.notes.attributes.iter().for_each(|attribute| self.attribute(attribute, item));
         match &item.kind {
             ItemKind::Ghost | ItemKind::GhostUse { .. } => self.comment(item.span),
             ItemKind::Use(imports) => self.imports(imports),
             ItemKind::Function(function) => self.function(item, function),
             ItemKind::Struct { ghosts, .. } => {
-                ghosts.iter().try_for_each(|ghost| self.comment(*ghost))
+                ghosts.iter().for_each(|ghost| self.comment(*ghost));
             }
-            _ => Ok(()),
+            _ => {}
         }
     }
 
+    // In Rattle, a formatter has its writer as a type parameter.
     fn path(&mut self, path: &Path) {
-        if let [first, _, ..] = path.segments.as_slice() {
-            self.head(&first.name);
-        }
-        match path.last().arguments[..] {
-            [GenericArgument::Type(ref writer)] if path.last().name.text == "Formatter" => {
-                self.replace(writer.span, "'_");
+        match path.names()[..] {
+            [.., "Formatter"] if self.module.source.at(path.span) != "fmt::Formatter<W>" => {
+                self.refuse(path.span, "`Formatter` is known only as `fmt::Formatter<W>`");
             }
+            [.., "Formatter"] => self.replace(path.span, "fmt::Formatter<'_>"),
+            [_, _] => self.head(&path.segments[0].name),
             _ => {}
         }
     }

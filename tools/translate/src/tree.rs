@@ -57,7 +57,8 @@ pub enum AttributeKind {
 pub struct Item {
     pub span: Span,
     pub notes: Notes,
-    pub visibility: Visibility,
+    /// Whether it is `pub`, and not only `pub(crate)`.
+    pub is_public: bool,
     pub name: Name,
     pub generics: Vec<GenericParameter>,
     pub kind: ItemKind,
@@ -91,14 +92,6 @@ pub enum Role {
     /// What is called.
     Callee,
     Value,
-}
-
-#[derive(Clone, Copy, Debug, PartialEq, Eq)]
-pub enum Visibility {
-    Private,
-    /// `pub(crate)`.
-    Crate,
-    Public,
 }
 
 /// Traits hold ghost items, constants and functions; an `impl` also holds names of types.
@@ -137,7 +130,7 @@ pub struct Import {
 /// A field. Those of a variant without names are called `0`, `1` and so on.
 #[derive(Clone, Debug)]
 pub struct Field {
-    pub visibility: Visibility,
+    pub is_public: bool,
     pub name: Name,
     pub annotation: Type,
 }

@@ -3,7 +3,7 @@
 use crate::common::repository;
 use torkettle_translate::modules::Module;
 use torkettle_translate::source::Source;
-use torkettle_translate::tree::{Item, Visibility};
+use torkettle_translate::tree::Item;
 use torkettle_translate::{conditions, facade};
 
 // The functions of a module: where a condition of each can stand, and whether users can call it.
@@ -12,7 +12,7 @@ fn functions(module: &Module, exported: &[&str]) -> Vec<(usize, bool)> {
     let found = |item: &Item, is_free: bool| {
         let end = item.function()?.body.as_ref().map_or(item.span.end - 1, |body| body.span.start);
         let is_exported = !is_inner || exported.contains(&item.name.text.as_str());
-        Some((end, !is_free || item.visibility == Visibility::Public && is_exported))
+        Some((end, !is_free || item.is_public && is_exported))
     };
     let items = module.tree.items.iter();
     let all = items.flat_map(|item| {

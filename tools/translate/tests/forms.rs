@@ -81,34 +81,37 @@ fn added(facade: &Source, package: &mut Package, place: &str, form: &str) -> (Do
     (rust.map(lines_of), lines)
 }
 
-// Checks that a form has become what the table says.
-fn assert_verdict(row: &str, made: Done<String>, before: usize) {
+// Says whether a form has become what the table says. So many lines come before it.
+fn is_right(row: &str, made: &Done<String>, before: usize) -> bool {
     let [place, verdict, form] = row.split('\t').map(shown).collect::<Vec<_>>().try_into().unwrap();
     match (made, verdict.strip_prefix("= ")) {
-        (Ok(_), Some("taken")) => {}
-        (Ok(rust), Some("same")) => assert_eq!(rust, form),
-        (Ok(made), Some(parts)) if place == "C" => {
-            let made = joined(&made);
-            parts.lines().for_each(|part| assert!(made.contains(part), "{row}\nis\n{made}"));
+        (Ok(_), Some("taken")) => true,
+        (Ok(rust), Some("same")) => *rust == form,
+        (Ok(c), Some(parts)) if place == "C" => {
+            let c = joined(c);
+            parts.lines().all(|part| c.contains(part))
         }
-        (Ok(rust), Some(expected)) => assert_eq!(rust.trim_end(), expected, "{row}"),
+        (Ok(rust), Some(expected)) => rust.trim_end() == expected,
         (Err(fault), None) => {
             let line = fault.line.unwrap_or_default().saturating_sub(before);
-            let is_new = (1..=form.lines().count()).contains(&line) || form.contains('⇒');
-            assert!(is_new, "{row}: {fault}");
-            assert!(format!("{line}: {}", fault.reason).contains(&verdict), "{row}: {fault}");
+            let is_in_form = (1..=form.lines().count()).contains(&line) || form.contains('⇒');
+            is_in_form && format!("{line}: {}", fault.reason).contains(&verdict)
         }
-        (made, _) => panic!("{row}: {made:?}"),
+        _ => false,
     }
 }
 
 #[test]
 fn each_form_is_refused_or_keeps_its_meaning() {
-    let mut repository = repository();
+    let (mut repository, mut wrong) = (repository(), 0);
     for row in include_str!("forms.txt").lines().filter(|row| !row.starts_with('#')) {
         let [place, _, form] = row.split('\t').collect::<Vec<_>>().try_into().expect(row);
         let place = place.split(' ').next_back().unwrap();
         let (made, before) = made(&mut repository, place, &shown(form));
-        assert_verdict(row, made, before);
+        if !is_right(row, &made, before) {
+            println!("{row}\nbecomes {made:?}");
+            wrong += 1;
+        }
     }
+    assert_eq!(wrong, 0, "forms have become something else");
 }

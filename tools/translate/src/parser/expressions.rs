@@ -7,15 +7,32 @@ use crate::source::{Done, Span};
 use crate::std_names::INTEGERS;
 use crate::tree::{BinaryOperator as Operator, ExpressionKind as Kind, *};
 
-// The level above `&&` and `||`, which mean something else behind `let PATTERN =`.
-const ABOVE_AND: u8 = 3;
-const COMPARISON: u8 = 3;
+// The operators between two values, by level. Those of later levels bind more tightly.
+const LEVELS: [&[(&str, Operator)]; 9] = [
+    &[("||", Operator::Or)],
+    &[("&&", Operator::And)],
+    &[
+        ("==", Operator::Equal),
+        ("!=", Operator::NotEqual),
+        ("<", Operator::Less),
+        (">", Operator::Greater),
+        ("<=", Operator::LessOrEqual),
+        (">=", Operator::GreaterOrEqual),
+    ],
+    &[("|", Operator::BitOr)],
+    &[("^", Operator::BitXor)],
+    &[("&", Operator::BitAnd)],
+    &[("<<", Operator::ShiftLeft), (">>", Operator::ShiftRight)],
+    &[("+", Operator::Add), ("-", Operator::Subtract)],
+    &[("*", Operator::Multiply), ("/", Operator::Divide), ("%", Operator::Remainder)],
+];
+const COMPARISONS: usize = 2;
 
 impl Parser<'_> {
     // Reads an expression. Ranges are none, except for those in an index.
     pub(super) fn expression(&mut self) -> Done<Expression> {
         let start = self.span();
-        let place = self.binary(1)?;
+        let place = self.binary(0)?;
         let operator = self.is("+=").then_some(Operator::Add);
         if operator.is_none() && !self.is("=") {
             return Ok(place);
@@ -40,11 +57,11 @@ impl Parser<'_> {
     // its last end overflows in Rust, and ends in Rattle.
     fn index(&mut self, receiver: Expression) -> Done<Kind> {
         let receiver = Box::new(receiver);
-        let low = self.unless(&[".."], Self::end_of_range)?;
+        let low = self.unless(&[".."], Self::boxed)?;
         match low {
             Some(index) if self.eat("]") => Ok(Kind::Index { receiver, index }),
             low if self.eat("..") => {
-                let high = self.unless(&["]"], Self::end_of_range)?;
+                let high = self.unless(&["]"], Self::boxed)?;
                 self.expect("]")?;
                 Ok(Kind::Part { receiver, low, high })
             }
@@ -52,27 +69,20 @@ impl Parser<'_> {
         }
     }
 
-    fn end_of_range(&mut self) -> Done<Box<Expression>> {
-        self.binary(1).map(Box::new)
-    }
-
-    // Reads operators of this level and above. Comparisons in a row have no rule.
-    fn binary(&mut self, level: u8) -> Done<Expression> {
+    // Reads operators of this level and of later ones. Comparisons in a row have no rule.
+    fn binary(&mut self, level: usize) -> Done<Expression> {
+        let Some(operators) = LEVELS.get(level) else { return self.cast() };
         let start = self.span();
-        let mut value = self.cast()?;
-        while let Some((operator, found)) = self.operator().filter(|next| next.1 >= level) {
-            let sign = self.step();
-            let (left, right) = (Box::new(value), Box::new(self.binary(found + 1)?));
-            if found == COMPARISON && self.operator().is_some_and(|next| next.1 == COMPARISON) {
-                return self.refuse_form(sign, "a comparison of a comparison");
+        let mut value = self.binary(level + 1)?;
+        while let Some((_, operator)) = operators.iter().find(|(sign, _)| self.is(sign)) {
+            self.step();
+            let (left, right) = (Box::new(value), Box::new(self.binary(level + 1)?));
+            value = self.node(start, Kind::Binary { operator: *operator, left, right });
+            if level == COMPARISONS {
+                break;
             }
-            value = self.node(start, Kind::Binary { operator, left, right });
         }
         Ok(value)
-    }
-
-    fn operator(&self) -> Option<(Operator, u8)> {
-        if self.kind() == TokenKind::Symbol { operator(self.text()) } else { None }
     }
 
     // Reads casts, which are to integers.
@@ -138,14 +148,11 @@ impl Parser<'_> {
 
     // Reads what follows the point: a field, by its name or number, or a call of a method.
     fn selection(&mut self, receiver: Box<Expression>) -> Done<Kind> {
-        if self.kind() == TokenKind::Integer && self.text().bytes().all(|it| it.is_ascii_digit()) {
-            return Ok(Kind::Field { receiver, name: self.word() });
-        }
-        let name = self.name()?;
-        let generics = self.after("::", |parser| {
-            parser.expect("<")?;
-            parser.generic_arguments()
-        })?;
+        // A number that is not whole would be read as a field of a literal.
+        let is_literal = matches!(receiver.kind, Kind::Literal(_));
+        let is_number = self.text().bytes().all(|it| it.is_ascii_digit());
+        let name = if is_number && !is_literal { self.word() } else { self.name()? };
+        let generics = self.after("::", Self::generic_arguments)?;
         if generics.is_none() && !self.is("(") {
             return Ok(Kind::Field { receiver, name });
         }
@@ -268,7 +275,8 @@ impl Parser<'_> {
         Ok(Kind::If { condition, then, otherwise })
     }
 
-    // Reads a test or `let PATTERN = VALUE`. More tests behind a `let` have no rule.
+    // Reads a test or `let PATTERN = VALUE`. More tests behind a `let` have no rule: there, `&&` and `||` mean
+    // something else.
     fn condition(&mut self) -> Done<Box<Expression>> {
         let start = self.span();
         self.with_structs(false, |parser| {
@@ -277,7 +285,7 @@ impl Parser<'_> {
             }
             let (pattern, bound) = parser.apart(Self::pattern)?;
             parser.expect("=")?;
-            let value = parser.binary(ABOVE_AND)?;
+            let value = parser.binary(COMPARISONS)?;
             parser.mentions.extend(bound);
             let found = Let { pattern, annotation: None, value, otherwise: None };
             Ok(Box::new(parser.node(start, Kind::Let(Box::new(found)))))
@@ -414,29 +422,4 @@ fn is_block_like(expression: &Expression) -> bool {
     let kind = &expression.kind;
     let is_loop = matches!(kind, Kind::For { .. } | Kind::While { .. });
     is_loop || matches!(kind, Kind::Block(_) | Kind::If { .. } | Kind::Match { .. })
-}
-
-// Returns an operator between two values, and its level. A higher one binds more tightly.
-fn operator(sign: &str) -> Option<(Operator, u8)> {
-    Some(match sign {
-        "||" => (Operator::Or, 1),
-        "&&" => (Operator::And, 2),
-        "==" => (Operator::Equal, COMPARISON),
-        "!=" => (Operator::NotEqual, COMPARISON),
-        "<" => (Operator::Less, COMPARISON),
-        ">" => (Operator::Greater, COMPARISON),
-        "<=" => (Operator::LessOrEqual, COMPARISON),
-        ">=" => (Operator::GreaterOrEqual, COMPARISON),
-        "|" => (Operator::BitOr, 4),
-        "^" => (Operator::BitXor, 5),
-        "&" => (Operator::BitAnd, 6),
-        "<<" => (Operator::ShiftLeft, 7),
-        ">>" => (Operator::ShiftRight, 7),
-        "+" => (Operator::Add, 8),
-        "-" => (Operator::Subtract, 8),
-        "*" => (Operator::Multiply, 9),
-        "/" => (Operator::Divide, 9),
-        "%" => (Operator::Remainder, 9),
-        _ => return None,
-    })
 }

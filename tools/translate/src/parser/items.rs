@@ -21,9 +21,7 @@ impl<'a> Parser<'a> {
     // Reads a whole module. A hint to the prover for all of it may stand between its items.
     pub(super) fn tree(mut self) -> Done<Tree> {
         let mut tree = Tree::default();
-        while self.kind() == Kind::InnerDoc {
-            self.step();
-        }
+        while self.eat_kind(Kind::InnerDoc) {}
         while self.kind() != Kind::End {
             let start = self.span();
             if self.is_ahead(1, "!") && self.eat("#") && self.eat("!") {
@@ -100,23 +98,23 @@ impl<'a> Parser<'a> {
         Ok(AttributeKind::Tactic)
     }
 
-    // Reads nothing, `pub` or `pub(crate)`. In a trait, only the first has a rule.
-    fn visibility(&mut self, place: Place) -> Done<Visibility> {
-        if place == Place::Trait || !self.eat("pub") {
-            return Ok(Visibility::Private);
+    // Reads nothing, `pub` or `pub(crate)`, and returns whether it is `pub`.
+    fn visibility(&mut self) -> Done<bool> {
+        if !self.eat("pub") {
+            return Ok(false);
         }
-        let is_narrow = self.after("(", |parser| {
+        let narrowed = self.after("(", |parser| {
             parser.expect("crate")?;
             parser.expect(")")
         })?;
-        Ok(if is_narrow.is_some() { Visibility::Crate } else { Visibility::Public })
+        Ok(narrowed.is_none())
     }
 
     fn item(&mut self, place: Place) -> Done<Item> {
         let outer = std::mem::take(&mut self.mentions);
         let (notes, start) = (self.notes()?, self.span());
-        let visibility = self.visibility(place)?;
-        let keyword = self.keyword(place, visibility)?;
+        let is_public = place != Place::Trait && self.visibility()?;
+        let keyword = self.keyword(place, start)?;
         let name = match keyword {
             "use" | "impl" => Name { text: String::new(), span: start },
             "ghost" => self.word(),
@@ -130,7 +128,7 @@ impl<'a> Parser<'a> {
         let kind = self.item_kind(keyword, &name.text, place)?;
         let mentions = std::mem::replace(&mut self.mentions, outer);
         let span = self.since(start);
-        let item = Item { span, notes, visibility, name, generics, kind, mentions };
+        let item = Item { span, notes, is_public, name, generics, kind, mentions };
         // Documentation of what becomes a comment would move to the next item.
         if keyword == "ghost" || keyword == "use" || item.is_model() {
             self.refuse_notes(&item.notes, start)?;
@@ -138,10 +136,10 @@ impl<'a> Parser<'a> {
         Ok(item)
     }
 
-    // Reads the keyword of an item that may stand in this place.
-    fn keyword(&mut self, place: Place, visibility: Visibility) -> Done<&'a str> {
+    // Reads the keyword of an item that may stand in this place. A ghost item begins with it.
+    fn keyword(&mut self, place: Place, start: Span) -> Done<&'a str> {
         let is_known = match self.text() {
-            "ghost" => visibility == Visibility::Private,
+            "ghost" => self.span() == start,
             "fn" | "const" => true,
             "type" => place != Place::Trait,
             "use" | "mod" | "static" | "struct" | "enum" | "trait" | "impl" => {
@@ -268,9 +266,9 @@ impl<'a> Parser<'a> {
 
     fn named_field(&mut self) -> Done<Field> {
         self.notes()?;
-        let (visibility, name) = (self.visibility(Place::Module)?, self.name()?);
+        let (is_public, name) = (self.visibility()?, self.name()?);
         self.expect(":")?;
-        Ok(Field { visibility, name, annotation: self.type_()? })
+        Ok(Field { is_public, name, annotation: self.type_()? })
     }
 
     fn enum_(&mut self) -> Done<ItemKind> {
@@ -290,7 +288,7 @@ impl<'a> Parser<'a> {
         let types = self.after("(", |parser| parser.list(")", Self::type_))?.unwrap_or_default();
         let field = |(number, annotation): (usize, Type)| {
             let name = Name { text: number.to_string(), span: annotation.span };
-            Field { visibility: Visibility::Private, name, annotation }
+            Field { is_public: false, name, annotation }
         };
         Ok(types.into_iter().enumerate().map(field).collect())
     }
@@ -312,38 +310,32 @@ impl<'a> Parser<'a> {
     fn function(&mut self) -> Done<ItemKind> {
         self.expect("(")?;
         let mut is_first = true;
-        let parameters = self.list(")", |parser| {
-            let is_receiver = std::mem::take(&mut is_first) && parser.is_receiver();
-            if is_receiver { parser.receiver() } else { parser.parameter() }
-        })?;
+        let parameters =
+            self.list(")", |parser| parser.parameter(std::mem::take(&mut is_first)))?;
         let output = self.after("->", Self::type_)?;
         let clauses = self.clauses()?;
         let body = if self.eat(";") { None } else { Some(self.block()?) };
         Ok(ItemKind::Function(Function { parameters, output, clauses, body }))
     }
 
-    fn parameter(&mut self) -> Done<Parameter> {
-        let (is_mutable, name) = (self.eat("mut"), self.name()?);
-        self.expect(":")?;
-        let annotation = self.type_()?;
-        self.mentions.push(Mention::Local(name.clone()));
-        Ok(Parameter { name, is_mutable, annotation })
-    }
-
-    // Whether `self`, `mut self`, `&self` or `&mut self` comes next.
-    fn is_receiver(&self) -> bool {
-        let before = usize::from(self.is("&"));
-        self.is_ahead(before + usize::from(self.is_ahead(before, "mut")), "self")
-    }
-
-    fn receiver(&mut self) -> Done<Parameter> {
-        let (is_reference, is_mutable) = (self.eat("&"), self.eat("mut"));
-        let name = self.word();
+    // Reads a parameter. The first may be `self`, `mut self`, `&self` or `&mut self`.
+    fn parameter(&mut self, is_first: bool) -> Done<Parameter> {
+        let start = self.span();
+        let is_reference = is_first && self.eat("&");
+        let is_mutable = self.eat("mut");
+        if !(is_reference || is_first && self.is("self")) {
+            let name = self.name()?;
+            self.expect(":")?;
+            let annotation = self.type_()?;
+            self.mentions.push(Mention::Local(name.clone()));
+            return Ok(Parameter { name, is_mutable, annotation });
+        }
+        let name = Name { text: "self".into(), span: self.expect("self")? };
         let own = Path::of(Name { text: "Self".into(), span: name.span });
-        let mut annotation = Type { span: name.span, kind: TypeKind::Path(own) };
+        let mut annotation = self.node(start, TypeKind::Path(own));
         if is_reference {
-            let kind = TypeKind::Reference { is_mutable, target: Box::new(annotation) };
-            annotation = Type { span: name.span, kind };
+            let target = Box::new(annotation);
+            annotation = self.node(start, TypeKind::Reference { is_mutable, target });
         }
         Ok(Parameter { name, is_mutable: is_mutable && !is_reference, annotation })
     }

@@ -69,8 +69,7 @@ impl<'a> Parser<'a> {
 
     // Whether the token after `count` others is this keyword or symbol.
     fn is_ahead(&self, count: usize, text: &str) -> bool {
-        let token = self.ahead(count);
-        matches!(token.kind, Kind::Name | Kind::Symbol) && self.source.at(token.span) == text
+        self.source.at(self.ahead(count).span) == text
     }
 
     fn is_one_of(&self, texts: &[&str]) -> bool {
@@ -150,9 +149,9 @@ impl<'a> Parser<'a> {
         Name { text, span: self.step() }
     }
 
-    // Steps over a lifetime if one comes next.
-    fn lifetime(&mut self) -> bool {
-        let is_next = self.kind() == Kind::Lifetime;
+    // Steps over a token of a kind if one comes next.
+    fn eat_kind(&mut self, kind: Kind) -> bool {
+        let is_next = self.kind() == kind;
         if is_next {
             self.step();
         }

@@ -10,7 +10,7 @@ impl Parser<'_> {
     pub(super) fn type_(&mut self) -> Done<Type> {
         let start = self.span();
         let kind = if self.eat_sign("&") {
-            self.lifetime();
+            self.eat_kind(Kind::Lifetime);
             let is_mutable = self.eat("mut");
             TypeKind::Reference { is_mutable, target: Box::new(self.type_()?) }
         } else if self.eat("(") {
@@ -46,11 +46,6 @@ impl Parser<'_> {
             segments.push(self.segment(second, role)?);
         }
         let path = Path { span: self.since(start), segments };
-        // In Rattle, a formatter has its writer as a type parameter, which Rust leaves out.
-        let is_formatter = path.last().name.text == "Formatter";
-        if is_formatter && self.source.at(path.span) != "fmt::Formatter<W>" {
-            return self.refuse_form(path.span, "`Formatter` without `<W>`");
-        }
         self.mentions.push(Mention::Path(path.clone(), role));
         Ok(path)
     }
@@ -59,44 +54,42 @@ impl Parser<'_> {
     fn segment(&mut self, name: Name, role: Role) -> Done<Segment> {
         let is_type = matches!(role, Role::Type | Role::Bound);
         let has_arguments = is_type || self.is_ahead(1, "<") && self.eat("::");
-        let arguments =
-            if has_arguments { self.after("<", Self::generic_arguments)? } else { None };
-        Ok(Segment { name, arguments: arguments.unwrap_or_default() })
+        let arguments = if has_arguments { self.generic_arguments()? } else { Vec::new() };
+        Ok(Segment { name, arguments })
     }
 
-    // Reads the arguments behind `<`. Blocks have no rule.
+    // Reads the arguments between `<` and `>`, if there are some. Blocks have no rule.
     pub(super) fn generic_arguments(&mut self) -> Done<Vec<GenericArgument>> {
-        let arguments = self.list(">", |parser| {
-            Ok(if parser.lifetime() {
-                None
-            } else if parser.is_literal() {
-                Some(GenericArgument::Constant(parser.literal()?))
-            } else {
-                Some(GenericArgument::Type(parser.type_()?))
-            })
-        })?;
-        Ok(arguments.into_iter().flatten().collect())
+        self.angles(|parser| match parser.is_literal() {
+            true => parser.literal().map(GenericArgument::Constant),
+            false => parser.type_().map(GenericArgument::Type),
+        })
     }
 
     // Reads the parameters between `<` and `>`, if there are some. Defaults have no rule.
     pub(super) fn generics(&mut self) -> Done<Vec<GenericParameter>> {
-        let parameters = self.after("<", |parser| {
-            parser.list(">", |parser| {
-                if parser.lifetime() {
-                    return Ok(None);
-                }
-                let is_constant = parser.eat("const");
-                let name = parser.local()?;
-                let kind = if is_constant {
-                    parser.expect(":")?;
-                    GenericKind::Constant(parser.type_()?)
-                } else {
-                    GenericKind::Type(parser.bound()?)
-                };
-                Ok(Some(GenericParameter { name, kind }))
+        self.angles(|parser| {
+            let is_constant = parser.eat("const");
+            let name = parser.local()?;
+            let kind = if is_constant {
+                parser.expect(":")?;
+                GenericKind::Constant(parser.type_()?)
+            } else {
+                GenericKind::Type(parser.bound()?)
+            };
+            Ok(GenericParameter { name, kind })
+        })
+    }
+
+    // Reads the list between `<` and `>`, if there is one, without its lifetimes.
+    fn angles<T>(&mut self, read: fn(&mut Self) -> Done<T>) -> Done<Vec<T>> {
+        let list = self.after("<", |parser| {
+            parser.list(">", |parser| match parser.eat_kind(Kind::Lifetime) {
+                true => Ok(None),
+                false => read(parser).map(Some),
             })
         })?;
-        Ok(parameters.into_iter().flatten().flatten().collect())
+        Ok(list.into_iter().flatten().flatten().collect())
     }
 
     // Reads the trait that bounds a type, if there is one. `where`, `+` and lifetimes have no rule.
