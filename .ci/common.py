@@ -58,6 +58,27 @@ def copy_tree(folder):
     return shutil.copytree(ROOT, folder, ignore=shutil.ignore_patterns("out", "target", ".git"), symlinks=True)
 
 
+def set_up_apt(apt, *architectures):
+    """Makes apt-get read and write in a folder alone, as if no package were installed. It fetches from the site that
+    this machine gets its packages from."""
+    site = re.search(r"'(\S*/debian)/dists/\S*InRelease", run(["apt-get", "update", "--print-uris"]))
+    expect(site, "apt-get gets no packages from Debian")
+    for name in ("archives/partial", "lists/partial"):
+        (apt / name).mkdir(parents=True, exist_ok=True)
+    (apt / "status").touch()
+    key = "signed-by=/usr/share/keyrings/debian-archive-keyring.gpg"
+    lines = "".join(f"{kind} [{key}] {site[1]} bookworm main\n" for kind in ("deb", "deb-src"))
+    (apt / "sources").write_text(lines)
+    settings = {"Dir::State": apt, "Dir::State::status": apt / "status", "Dir::Cache": apt}
+    settings |= {"Dir::Etc::SourceList": apt / "sources", "Dir::Etc::SourceParts": "-", "Acquire::Languages": "none"}
+    settings |= {"APT::Sandbox::User": "root", "APT::Install-Recommends": "false"}
+    text = "".join(f'{name} "{value}";\n' for name, value in settings.items())
+    listed = " ".join(f'"{name}";' for name in architectures)
+    (apt / "conf").write_text(text + (f"APT::Architectures {{ {listed} }};\n" if listed else ""))
+    os.environ["APT_CONFIG"] = str(apt / "conf")
+    run(["apt-get", "-qq", "update"])
+
+
 def call(main):
     """Runs a script. It ends with status 1, and says why, if a check fails or it is interrupted."""
     for number in (signal.SIGHUP, signal.SIGINT, signal.SIGTERM):

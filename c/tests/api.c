@@ -78,7 +78,7 @@ static answer made(int status, size_t count, uint64_t low, uint64_t high)
         return made(0, bytes, (uint64_t)value, (uint64_t)(value >> 31 >> 31 >> 2));                                    \
     }
 
-#define DEFINE_PARSES(name, type)                                                                                      \
+#define DEFINE_PARSES(name, other, type, bits, ...)                                                                    \
     DEFINE_PARSE(whole_##name, type, torkettle_parse_##name(text, length, flags, &value), length)                      \
     DEFINE_PARSE(prefix_##name, type, torkettle_parse_prefix_##name(text, length, flags, &value, &count), count)       \
     DEFINE_PARSE(canonical_##name, type, !torkettle_canonical_##name(text, length, &value), length)                    \
@@ -94,8 +94,8 @@ static void put(char *out, int status, size_t index, size_t offset, const char *
 #define PUT_NUMBER(value) snprintf(out + strlen(out), SIZE, "%ld ", (long)(value)), RESET(value)
 
 /* Defines what prints the items of a column, and of fields. */
-#define DEFINE_ALL(name, type)                                                                                         \
-    DEFINE_PARSES(name, type)                                                                                          \
+#define DEFINE_ALL(name, other, type, bits, ...)                                                                       \
+    DEFINE_PARSES(name, other, type, bits, 0)                                                                          \
     DEFINE_PARSE(pos_##name, type, torkettle_parse_pos_##name(text, length, flags, &value), length)                    \
     DEFINE_PARSE(prefix_pos_##name, type,                                                                              \
                  torkettle_parse_prefix_pos_##name(text, length, flags, &value, &count), count)                        \
@@ -133,62 +133,41 @@ static void put(char *out, int status, size_t index, size_t offset, const char *
         put(out, (int)fields.status, fields.next_index, fields.next_offset, "", 0);                                    \
     }
 
+/* The functions of a name, with those that it lacks of another, and numbers at the bounds of the type. */
+#define FUNCTIONS(name, other, type, bits, ...)                                                                        \
+    {#name, bits, __VA_ARGS__, whole_##name, prefix_##name, pos_##other, prefix_pos_##other, canonical_##name,         \
+     json_##name, torkettle_parse_prefix_error_##other, column_##other, fields_##other},
+
 #define I32 "-2147483648", "-2147483649", "2147483647", "2147483648"
 #define U32 "0", "-1", "4294967295", "4294967296"
 #define I64 "-9223372036854775808", "-9223372036854775809", "9223372036854775807", "9223372036854775808"
 #define U64 "0", "-1", "18446744073709551615", "18446744073709551616"
-#define I128                                                                                                           \
-    "-170141183460469231731687303715884105728", "-170141183460469231731687303715884105729",                            \
-        "170141183460469231731687303715884105727", "170141183460469231731687303715884105728"
-#define U128 "0", "-1", "340282366920938463463374607431768211455", "340282366920938463463374607431768211456"
-
-DEFINE_ALL(i8, int8_t)
-DEFINE_ALL(u8, uint8_t)
-DEFINE_ALL(i16, int16_t)
-DEFINE_ALL(u16, uint16_t)
-DEFINE_ALL(i32, int32_t)
-DEFINE_ALL(u32, uint32_t)
-DEFINE_ALL(i64, int64_t)
-DEFINE_ALL(u64, uint64_t)
-#ifdef __SIZEOF_INT128__
-DEFINE_ALL(i128, torkettle_i128)
-DEFINE_ALL(u128, torkettle_u128)
-#endif
-DEFINE_PARSES(l, long)
-DEFINE_PARSES(ul, unsigned long)
-DEFINE_PARSES(ll, long long)
-DEFINE_PARSES(ull, unsigned long long)
-
-/* The functions of a name, with those that it lacks of another, and the bounds. */
-#define FUNCTIONS(name, other, bits, ...)                                                                              \
-    {#name, bits, __VA_ARGS__, whole_##name, prefix_##name, pos_##other, prefix_pos_##other, canonical_##name,         \
-     json_##name, torkettle_parse_prefix_error_##other, column_##other, fields_##other},
-
-/* clang-format off */
-static const functions all[] = {
-    FUNCTIONS(i8, i8, 8, "-128", "-129", "127", "128")
-    FUNCTIONS(u8, u8, 8, "0", "-1", "255", "256")
-    FUNCTIONS(i16, i16, 16, "-32768", "-32769", "32767", "32768")
-    FUNCTIONS(u16, u16, 16, "0", "-1", "65535", "65536")
-    FUNCTIONS(i32, i32, 32, I32)
-    FUNCTIONS(u32, u32, 32, U32)
-    FUNCTIONS(i64, i64, 64, I64)
-    FUNCTIONS(u64, u64, 64, U64)
-    FUNCTIONS(ll, i64, 64, I64)
-    FUNCTIONS(ull, u64, 64, U64)
 #if ULONG_MAX == UINT64_MAX
-    FUNCTIONS(l, i64, 64, I64)
-    FUNCTIONS(ul, u64, 64, U64)
+#define LONGS(some) some(l, i64, long, 64, I64) some(ul, u64, unsigned long, 64, U64)
 #else
-    FUNCTIONS(l, i32, 32, I32)
-    FUNCTIONS(ul, u32, 32, U32)
+#define LONGS(some) some(l, i32, long, 32, I32) some(ul, u32, unsigned long, 32, U32)
 #endif
 #ifdef __SIZEOF_INT128__
-    FUNCTIONS(i128, i128, 128, I128)
-    FUNCTIONS(u128, u128, 128, U128)
+#define LARGE(all)                                                                                                     \
+    all(i128, i128, torkettle_i128, 128, "-170141183460469231731687303715884105728",                                   \
+        "-170141183460469231731687303715884105729", "170141183460469231731687303715884105727",                         \
+        "170141183460469231731687303715884105728")                                                                     \
+    all(u128, u128, torkettle_u128, 128, "0", "-1", "340282366920938463463374607431768211455",                         \
+        "340282366920938463463374607431768211456")
+#else
+#define LARGE(all)
 #endif
-};
-/* clang-format on */
+#define TYPES(all, some)                                                                                               \
+    all(i8, i8, int8_t, 8, "-128", "-129", "127", "128") all(u8, u8, uint8_t, 8, "0", "-1", "255", "256")              \
+    all(i16, i16, int16_t, 16, "-32768", "-32769", "32767", "32768")                                                   \
+    all(u16, u16, uint16_t, 16, "0", "-1", "65535", "65536")                                                           \
+    all(i32, i32, int32_t, 32, I32) all(u32, u32, uint32_t, 32, U32)                                                   \
+    all(i64, i64, int64_t, 64, I64) all(u64, u64, uint64_t, 64, U64) LARGE(all)                                        \
+    some(ll, i64, long long, 64, I64) some(ull, u64, unsigned long long, 64, U64) LONGS(some)
+
+TYPES(DEFINE_ALL, DEFINE_PARSES)
+
+static const functions all[] = {TYPES(FUNCTIONS, FUNCTIONS)};
 
 static char *exact(const char *text, size_t length)
 {
@@ -212,10 +191,10 @@ static answer spelled(const char *number, size_t count)
     return is_negative ? made(0, count, 0 - low, ~high + (low == 0)) : made(0, count, low, high);
 }
 
-static void expect(answer found, answer expected, const functions *of, const char *what, const char *text, unsigned flags)
+static void expect(answer one, answer other, const functions *of, const char *what, const char *text, unsigned flags)
 {
-    check(found.status == expected.status && found.count == expected.count && found.low == expected.low &&
-              found.high == expected.high, of, what, text, flags);
+    const int is_same = one.status == other.status && one.count == other.count;
+    check(is_same && one.low == other.low && one.high == other.high, of, what, text, flags);
 }
 
 /* All calls that read a number at the start of a text, or all of it. The number is for TORKETTLE_OK. */
@@ -263,31 +242,16 @@ static void check_parses(const functions *of, unsigned flags)
         check_parse(of, flags, zeros, TORKETTLE_SIZE, "", 0);
 }
 
-/* The length of a canonical number and of one of JSON that a text begins with, or 0. */
-static void check_format(const functions *of, const char *text, const char *number, size_t canonical, size_t json)
-{
-    char *const copy = exact(text, strlen(text));
-    const answer none = made(1, 0, 0, 0);
-    expect(of->canonical(copy, strlen(text), 0), canonical ? spelled(number, canonical) : none, of, "canonical", text, 0);
-    expect(of->json(copy, strlen(text), 0), json ? spelled(number, json) : none, of, "json_integer", text, 0);
-    free(copy);
-}
-
 static void check_formats(const functions *of)
 {
-    const char *const none[] = {"", "-", "+1", "--1", "00", "01", "-00", "-01", "x", " 1", "1.5", "1e3", "0E1", "-0."};
-    const size_t minus = of->least[0] == '-' ? 3 : 0;
-    size_t at;
-    for (at = 0; at < sizeof none / sizeof *none; at++)
-        check_format(of, none[at], "", 0, 0);
-    check_format(of, "0", "0", 1, 1);
-    check_format(of, "120", "120", 3, 3);
-    check_format(of, "-0", "0", 0, 2);
-    check_format(of, "12, 7]", "12", 0, 2);
-    check_format(of, "-42", "-42", minus, minus);
-    check_format(of, of->least, of->least, strlen(of->least), strlen(of->least));
-    check_format(of, of->greatest, of->greatest, strlen(of->greatest), strlen(of->greatest));
-    check_format(of, of->above, "", 0, 0);
+    const answer none = made(1, 0, 0, 0);
+    expect(of->canonical("120", 3, 0), spelled("120", 3), of, "canonical", "120", 0);
+    expect(of->canonical("007", 3, 0), none, of, "canonical", "007", 0);
+    expect(of->canonical(of->above, strlen(of->above), 0), none, of, "canonical", of->above, 0);
+    expect(of->json("12, 7]", 6, 0), spelled("12", 2), of, "json_integer", "12, 7]", 0);
+    expect(of->json("-0", 2, 0), spelled("0", 2), of, "json_integer", "-0", 0);
+    expect(of->json("1.5", 3, 0), none, of, "json_integer", "1.5", 0);
+    expect(of->json(of->above, strlen(of->above), 0), none, of, "json_integer", of->above, 0);
 }
 
 /* What is read of a column, and of the same as fields: numbers, errors as status, index and offset, and the end. */

@@ -1,6 +1,5 @@
-// Compares torkettle::from_chars, torkettle::parse, torkettle::canonical and torkettle::json_integer with
-// std::from_chars, for each integer type and, of from_chars, for what it leaves to that. Each text ends where memory ends
-// that may be read. Tests what of the header has to compile, and what must not.
+// Compares torkettle::from_chars, parse and canonical with std::from_chars and std::to_chars, for each integer type and,
+// of from_chars, for what it leaves to that. Tests what has to compile with torkettle.hpp, and what must not.
 //
 //     from_chars [TEXTS]
 #include "texts.hpp"
@@ -10,6 +9,7 @@
 #include <cstdint>
 #include <cstdio>
 #include <cstdlib>
+#include <cstring>
 #include <memory>
 #include <string>
 #include <string_view>
@@ -31,32 +31,6 @@ void require(bool is_right, const char *what, std::string_view text)
     calls++;
     if (!is_right && differences++ < 10)
         std::fprintf(stderr, "%s differs for \"%.*s\"\n", what, static_cast<int>(text.size()), text.data());
-}
-
-// The length of the number that a text begins with in JSON, without a fraction and an exponent, or 0.
-std::size_t json_length(std::string_view text)
-{
-    const std::size_t start = text.substr(0, 1) == "-";
-    const std::size_t found = text.find_first_not_of("0123456789", start);
-    const std::size_t end = found == text.npos ? text.size() : found;
-    const bool has_needless_zero = end > start + 1 && text[start] == '0';
-    const bool goes_on = end < text.size() && (text[end] == '.' || text[end] == 'e' || text[end] == 'E');
-    return end == start || has_needless_zero || goes_on ? 0 : end;
-}
-
-// What json_integer returns, from the grammar and std::from_chars, which takes no minus for an unsigned type.
-template <class T>
-bool is_json(std::string_view text)
-{
-    const std::optional<std::pair<T, std::string_view>> found = torkettle::json_integer<T>(text);
-    const std::size_t length = json_length(text);
-    const std::string_view number = text.substr(0, length) == "-0" ? "0" : text.substr(0, length);
-    T value = 77;
-    const std::from_chars_result read = std::from_chars(number.data(), number.data() + number.size(), value);
-    if (length == 0 || read.ec != std::errc())
-        return !found.has_value();
-    return found.has_value() && found->first == value && found->second.data() == text.data() + length &&
-           found->second.size() == text.size() - length;
 }
 
 // Whether from_chars does what std::from_chars does, with a base, a format or nothing more.
@@ -81,12 +55,14 @@ void compare(std::string_view text, const char *type)
     const bool is_whole = read.ec == std::errc() && read.ptr == text.data() + text.size();
     const std::to_chars_result written = std::to_chars(printed, printed + sizeof printed, value);
     const bool is_canonical = text == std::string_view(printed, static_cast<std::size_t>(written.ptr - printed));
-    const std::optional<T> number(value);
     accepted += read.ec == std::errc();
     out_of_range += read.ec == std::errc::result_out_of_range;
+    const auto is_found = [value](const std::optional<T> &found, bool is_here) {
+        return found.has_value() == is_here && found.value_or(value) == value;
+    };
     require(is_same_call<T>(text) && is_same_call<T>(text, 10) && is_same_call<T>(text, int(2 + calls / 16 % 35)) &&
-                torkettle::parse<T>(text) == (is_whole ? number : std::nullopt) &&
-                torkettle::canonical<T>(text) == (is_whole && is_canonical ? number : std::nullopt) && is_json<T>(text),
+                is_found(torkettle::parse<T>(text), is_whole) &&
+                is_found(torkettle::canonical<T>(text), is_whole && is_canonical),
             type, text);
 }
 
@@ -130,62 +106,27 @@ void compare_short_texts()
     }
 }
 
-// Every number of so many digits, with bytes behind it.
-void compare_all_numbers(unsigned digits)
+// Every number below a bound, with zeros in front of it or none, and with bytes behind it.
+void compare_all_numbers(int bound)
 {
-    std::string all = std::string(digits, '0') + ",777777777777777";
-    const std::string_view text = placed(all);
-    char *const to = const_cast<char *>(text.data());
-    const auto next = [&] {
-        unsigned at = digits;
-        while (at > 0 && to[at - 1] == '9')
-            to[--at] = '0';
-        if (at > 0)
-            to[at - 1]++;
-        return at > 0;
-    };
-    int number = 0, value = -1;
-    do {
-        const char *const end = torkettle::from_chars(to, to + text.size(), value).ptr;
-        require(end == to + digits && value == number, "a number", text);
-    } while (number++, next());
+    for (int number = 0, value = -1; number < bound; number++) {
+        char text[40];
+        std::snprintf(text, sizeof text, "%0*d,77777777777777777", 1 + number % 9, number);
+        const std::string_view digits(text, std::string_view(text).find(','));
+        const char *const end = torkettle::from_chars(text, text + std::strlen(text), value).ptr;
+        require(end == digits.end() && value == number, "a number", text);
+    }
 }
 
-// Letters are digits of larger bases, and functions for other types call std::from_chars.
-template <class T>
-bool is_same_floating(std::string_view text);
-
-void compare_others()
-{
-    for (const char *const text : {"", "-", "0", "7f,", "-7G", "ZZ", "0x10", "101012", "+11", "ffffffffffffffffff"})
-        for (int base = 2; base <= 36; base++)
-            require(is_same_call<int>(text, base) && is_same_call<unsigned char>(text, base) &&
-                        is_same_call<long long>(text, base) && is_same_call<unsigned long>(text, base),
-                    "another base", text);
-    for (const char *const text : {"", "-", "1.5", "-1.5e3x", "1e", "0x1p4", "1.8p-1", "inf", "nan", "1e99999", ".5"})
-        require(is_same_floating<float>(text) && is_same_floating<double>(text) && is_same_floating<long double>(text),
-                "floating point", text);
-}
-
-// Whether a call of each from_chars compiles, with a base, a format or nothing more.
-template <class, class T, class... More>
-struct is_taken : std::false_type {
-};
+// Calls of from_chars, of which it can be asked whether they compile.
+constexpr auto ours = [](auto &value, auto... more)
+    -> decltype(torkettle::from_chars(nullptr, nullptr, value, more...)) { return {}; };
+constexpr auto theirs = [](auto &value, auto... more)
+    -> decltype(std::from_chars(nullptr, nullptr, value, more...)) { return {}; };
 template <class T, class... More>
-struct is_taken<
-    std::void_t<decltype(torkettle::from_chars(nullptr, nullptr, std::declval<T &>(), std::declval<More>()...))>, T,
-    More...> : std::true_type {
-};
-template <class, class T, class... More>
-struct is_taken_by_std : std::false_type {
-};
+constexpr bool is_taken = std::is_invocable_v<decltype(ours), T &, More...>;
 template <class T, class... More>
-struct is_taken_by_std<
-    std::void_t<decltype(std::from_chars(nullptr, nullptr, std::declval<T &>(), std::declval<More>()...))>, T, More...>
-    : std::true_type {
-};
-template <class T, class... More>
-constexpr bool takes_what_std_takes = is_taken<void, T, More...>() == is_taken_by_std<void, T, More...>();
+constexpr bool takes_what_std_takes = is_taken<T, More...> == std::is_invocable_v<decltype(theirs), T &, More...>;
 template <class... Types>
 constexpr bool takes_types_of_std = ((takes_what_std_takes<Types> && takes_what_std_takes<Types, int> &&
                                       takes_what_std_takes<Types, std::chars_format> &&
@@ -193,8 +134,8 @@ constexpr bool takes_types_of_std = ((takes_what_std_takes<Types> && takes_what_
 
 enum class Number : int {};
 
-static_assert(is_taken<void, char>() && is_taken<void, std::size_t, int>() && is_taken<void, std::ptrdiff_t>());
-static_assert(!is_taken<void, bool>() && !is_taken<void, wchar_t, int>() && !is_taken<void, char *>());
+static_assert(is_taken<char> && is_taken<std::size_t, int> && is_taken<std::ptrdiff_t>);
+static_assert(!is_taken<bool> && !is_taken<wchar_t, int> && !is_taken<char *>);
 static_assert(takes_types_of_std<char, signed char, unsigned char, short, unsigned short, int, unsigned, long,
                                  unsigned long, long long, unsigned long long, const int>);
 static_assert(takes_types_of_std<bool, wchar_t, char16_t, char32_t, Number, char *, float, double, long double>);
@@ -206,11 +147,21 @@ static_assert(takes_types_of_std<char8_t, volatile char8_t>);
 template <class T>
 bool is_same_floating(std::string_view text)
 {
-    if constexpr (is_taken_by_std<void, T>())
+    if constexpr (is_taken<T>)
         return is_same_call<T>(text) && is_same_call<T>(text, std::chars_format::fixed) &&
                is_same_call<T>(text, std::chars_format::hex) && is_same_call<T>(text, std::chars_format::scientific);
-    else
-        return true;
+    return true;
+}
+
+// Letters are digits of larger bases, and functions for other types call std::from_chars.
+void compare_others()
+{
+    for (const char *const text : {"", "-", "0", "7f,", "-7G", "ZZ", "0x10", "101012", "+11", "ffffffffffffffffff"})
+        for (int base = 2; base <= 36; base++)
+            require(is_same_call<int>(text, base) && is_same_call<unsigned long>(text, base), "another base", text);
+    for (const char *const text : {"", "-", "1.5", "-1.5e3x", "1e", "0x1p4", "1.8p-1", "inf", "nan", "1e99999", ".5"})
+        require(is_same_floating<float>(text) && is_same_floating<double>(text) && is_same_floating<long double>(text),
+                "floating point", text);
 }
 
 // A function of std::from_chars has a base, which its callers may leave out, but not those of a pointer to it.
@@ -258,7 +209,7 @@ void read_ranges()
     for (const auto &item : some | std::views::take(2))
         sum += *item.value;
     require(sum == 1 && some.next_index() == 3 && *some.begin()->value == 3, "a view", "0,1,2,3,4");
-    static_assert(std::ranges::input_range<torkettle::fields<int>> && std::ranges::input_range<torkettle::column<char>>);
+    static_assert(std::ranges::input_range<torkettle::fields<int>>);
 #endif
 }
 
@@ -275,21 +226,17 @@ static_assert(std::is_same_v<std::iterator_traits<Iterator>::value_type, torkett
 static_assert(std::is_nothrow_copy_constructible_v<Iterator> && std::is_nothrow_copy_assignable_v<Iterator>);
 
 // A string that ends before the range is refused, and one that stays is not.
-template <class String, class = void>
-struct has_lines : std::false_type {
-};
-template <class String>
-struct has_lines<String, std::void_t<decltype(torkettle::lines<int>(std::declval<String>()))>> : std::true_type {
+constexpr auto lines = [](auto &&text) -> decltype(torkettle::lines<int>(std::forward<decltype(text)>(text))) {
+    return torkettle::lines<int>(std::forward<decltype(text)>(text));
 };
 using OtherString = std::basic_string<char, std::char_traits<char>, OtherAllocator>;
 template <class String>
-constexpr bool is_range = std::is_constructible_v<torkettle::fields<int>, String, char> &&has_lines<String>::value;
-template <class String>
-constexpr bool is_refused = !std::is_constructible_v<torkettle::column<int>, String, char> && !has_lines<String>::value;
-
-static_assert(is_range<std::string &> && is_range<const std::string &> && is_range<OtherString &>);
-static_assert(is_range<std::string_view> && is_range<const char *> && is_range<const char (&)[3]>);
-static_assert(is_refused<std::string> && is_refused<const std::string> && is_refused<OtherString>);
+constexpr int ranges = std::is_constructible_v<torkettle::fields<int>, String, char> +
+                       std::is_constructible_v<torkettle::column<int>, String, char> +
+                       std::is_invocable_v<decltype(lines), String>;
+static_assert(ranges<std::string &> == 3 && ranges<const std::string &> == 3 && ranges<OtherString &> == 3);
+static_assert(ranges<std::string_view> == 3 && ranges<const char *> == 3 && ranges<const char (&)[3]> == 3);
+static_assert(ranges<std::string> == 0 && ranges<const std::string> == 0 && ranges<OtherString> == 0);
 
 } // namespace
 
@@ -298,8 +245,7 @@ int main(int count, char **arguments)
     const unsigned long texts = count > 1 ? std::strtoul(arguments[1], nullptr, 10) : 2000000;
     Random random;
     compare_short_texts();
-    for (unsigned digits = 1; digits <= (texts > 1000000 ? 7 : 4); digits++)
-        compare_all_numbers(digits);
+    compare_all_numbers(texts > 1000000 ? 10000000 : 10000);
     compare_others();
     call_by_pointer();
     read_refused_separators();

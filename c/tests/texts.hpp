@@ -53,24 +53,14 @@ const char *const bounds[] = {
     "170141183460469231731687303715884105727", "170141183460469231731687303715884105728",
     "340282366920938463463374607431768211455", "999999999999999999999999999999999999999"};
 
-// Adds a small number to the decimal number in `digits`, or subtracts it.
-inline void move(std::string &digits, int by)
-{
-    for (std::size_t at = digits.size(); at > 0 && by != 0; at--) {
-        const int digit = digits[at - 1] - '0' + by;
-        by = digit < 0 ? -1 : digit / 10;
-        digits[at - 1] = static_cast<char>('0' + (digit + 10) % 10);
-    }
-    if (by > 0)
-        digits.insert(digits.begin(), '1');
-}
-
 inline std::string random_digits(Random &random)
 {
     std::string digits;
     if (random.below(3) == 0) {
         digits = random.of(bounds);
-        move(digits, static_cast<int>(random.below(7)) - 3);
+        // Most neighbors of these numbers differ in the last digit alone.
+        if (random.below(2) == 0)
+            digits[digits.size() - 1 - random.below(3) % digits.size()] = random.digit();
         return digits;
     }
     const unsigned most[] = {3, 5, 9, 20, 45};

@@ -70,7 +70,7 @@ private:
         }
         test.require(value == 99 && fields.status == TORKETTLE_OK, "the end of fields");
         test.push({fields.next_index, fields.next_offset});
-        test.compare("fields", oracle_fields, static_cast<char>(test.option), lines, starts_later);
+        test.compare(FIELDS, "fields", lines, starts_later);
     }
 
     // Whether what a call wrote at `values`, which had `count` elements of 99, are the numbers from `index` on.
@@ -206,7 +206,7 @@ private:
         }
         if (column.status != TORKETTLE_OK)
             test.push({static_cast<uint64_t>(column.status), column.index, column.offset});
-        test.compare("a column", oracle_column, static_cast<char>(test.option));
+        test.compare(COLUMN, "a column");
     }
 
     void column_range() const

@@ -1,12 +1,12 @@
-// Compares what programs call, in torkettle.h, torkettle.c and torkettle.hpp, with the Rust of the package: compare TEXTS
-// COLUMNS SEED. Each text is parsed as one type, and each column read as all. To build it:
+// Compares what programs call, in torkettle.h, torkettle.c and torkettle.hpp, with the Rust of the package, for random
+// texts, each of one type, and so many columns of each type: compare TEXTS COLUMNS SEED. To build it:
 //
 //     cargo build --release --manifest-path c/tests/proved/Cargo.toml
 //     c++ -std=gnu++17 -O1 -Ic/include -Ic/src c/tests/proved/compare.cpp
 //         c/tests/proved/target/release/libtorkettle_oracle.a
 //
-// With -DNO_RUST, it compares only calls with each other. With -DCHECKED, what is proved is asserted: bounds and, in the
-// files of `.ci/translate --c`, that nothing overflows.
+// With -DNO_RUST, it compares only calls with each other. With -DCHECKED, what is proved is asserted: bounds and, in
+// the files of `.ci/translate --c`, that nothing overflows.
 #include <cassert>
 #ifdef CHECKED
 #define TORKETTLE_CHECK(condition) assert(condition)
@@ -34,6 +34,11 @@ struct Answer {
     bool is_found(Found found) const
     {
         return status == TORKETTLE_OK ? found.length == count && found.value == value : found.length == 0;
+    }
+
+    bool is_same(const std::optional<T> &found) const
+    {
+        return status == TORKETTLE_OK ? found == value : !found;
     }
 
     void push(Test &test) const
@@ -92,13 +97,19 @@ void parses(Test &test)
     push_error(test, C::prefix_error(text, length, flags), start.status);
     whole(C::pos).push(test);
     prefix(C::prefix_pos).push(test);
-    whole([](auto at, auto size, auto, auto value) {
-        return C::canonical(at, size, value) ? TORKETTLE_OK : TORKETTLE_EMPTY;
-    }).push(test);
-    prefix([](auto at, auto size, auto, auto value, auto count) {
-        return C::json(at, size, value, count) ? TORKETTLE_OK : TORKETTLE_EMPTY;
-    }).push(test);
-    test.compare("the row of a parse", oracle_parses, flags);
+    Answer<T> canonical, json;
+    canonical.status = C::canonical(text, length, &canonical.value) ? TORKETTLE_OK : TORKETTLE_EMPTY;
+    canonical.count = canonical.status == TORKETTLE_OK ? length : 99;
+    json.status = C::json(text, length, &json.value, &json.count) ? TORKETTLE_OK : TORKETTLE_EMPTY;
+    canonical.push(test);
+    json.push(test);
+    const auto number = torkettle::json_integer<T>(test.text);
+    test.require(all.is_same(torkettle::parse<T>(test.text, flags)), "parse of C++");
+    test.require(canonical.is_same(torkettle::canonical<T>(test.text)), "canonical of C++");
+    test.require(json.is_same(number ? std::optional<T>(number->first) : std::nullopt), "json_integer of C++");
+    test.require(!number || number->second.data() == text + json.count, "the rest after json_integer");
+    test.require(!number || number->second.size() == length - json.count, "the rest after json_integer");
+    test.compare(PARSES, "the row of a parse");
 }
 
 template <class C>

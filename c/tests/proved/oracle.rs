@@ -118,61 +118,44 @@ fn column<T: Parse>(row: &mut Row<'_>, text: &[u8], separator: u8) {
     }
 }
 
-/// Calls a generic function for a type, of which C knows the place in this list.
-macro_rules! with_type {
-    ($kind:ident, $function:ident($($argument:expr),*)) => {
-        match $kind {
-            0 => $function::<i8>($($argument),*),
-            1 => $function::<u8>($($argument),*),
-            2 => $function::<i16>($($argument),*),
-            3 => $function::<u16>($($argument),*),
-            4 => $function::<i32>($($argument),*),
-            5 => $function::<u32>($($argument),*),
-            6 => $function::<i64>($($argument),*),
-            7 => $function::<u64>($($argument),*),
-            8 => $function::<i128>($($argument),*),
-            _ => $function::<u128>($($argument),*),
-        }
-    };
-}
-
-/// Arguments of C: the number of a type, a text, and the array to which the row is written.
+/// What C asks: the number of a type, the calls to make, a text, and the array to which the row is written.
 #[repr(C)]
 pub struct Call {
     kind: u32,
+    question: u32,
+    option: u32,
+    lines: bool,
+    later: bool,
     text: *const u8,
     length: usize,
     out: *mut u64,
     size: usize,
 }
 
-impl Call {
-    fn text(&self) -> &[u8] {
-        unsafe { from_raw_parts(self.text, self.length) }
+fn answer<T: Parse>(call: &Call) -> usize {
+    let text = unsafe { from_raw_parts(call.text, call.length) };
+    let mut row = Row { numbers: unsafe { from_raw_parts_mut(call.out, call.size) }, count: 0 };
+    match call.question {
+        0 => parses::<T>(&mut row, text, call.option),
+        1 => fields::<T>(&mut row, text, call.option as u8, call.lines, call.later),
+        _ => column::<T>(&mut row, text, call.option as u8),
     }
-
-    fn row(&self) -> Row<'_> {
-        Row { numbers: unsafe { from_raw_parts_mut(self.out, self.size) }, count: 0 }
-    }
-}
-
-#[unsafe(no_mangle)]
-extern "C" fn oracle_parses(call: &Call, flags: u32) -> usize {
-    let (kind, mut row) = (call.kind, call.row());
-    with_type!(kind, parses(&mut row, call.text(), flags));
     row.count
 }
 
 #[unsafe(no_mangle)]
-extern "C" fn oracle_fields(call: &Call, separator: u8, lines: bool, later: bool) -> usize {
-    let (kind, mut row) = (call.kind, call.row());
-    with_type!(kind, fields(&mut row, call.text(), separator, lines, later));
-    row.count
-}
-
-#[unsafe(no_mangle)]
-extern "C" fn oracle_column(call: &Call, separator: u8) -> usize {
-    let (kind, mut row) = (call.kind, call.row());
-    with_type!(kind, column(&mut row, call.text(), separator));
-    row.count
+extern "C" fn oracle(call: &Call) -> usize {
+    let answers = [
+        answer::<i8>,
+        answer::<u8>,
+        answer::<i16>,
+        answer::<u16>,
+        answer::<i32>,
+        answer::<u32>,
+        answer::<i64>,
+        answer::<u64>,
+        answer::<i128>,
+        answer::<u128>,
+    ];
+    answers[call.kind as usize](call)
 }
