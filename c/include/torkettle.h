@@ -341,13 +341,58 @@ TK_CONSTEXPR size_t tk_index(size_t index, size_t len)
     return index;
 }
 
-TK_CONSTEXPR bool tk_is_digit(uint8_t byte)
+TK_CONSTEXPR bool tk_u8_is_digit(uint8_t byte)
 {
     return '0' <= byte && byte <= '9';
 }
 
+TK_CONSTEXPR uint32_t tk_u32_min(uint32_t a, uint32_t b)
+{
+    return b < a ? b : a;
+}
+
+TK_CONSTEXPR size_t tk_size_min(size_t a, size_t b)
+{
+    return b < a ? b : a;
+}
+
+TK_CONSTEXPR size_t tk_size_max(size_t a, size_t b)
+{
+    return a < b ? b : a;
+}
+
+TK_CONSTEXPR size_t tk_size_saturating_add(size_t a, size_t b)
+{
+    return a + b < a ? TK_CAST(size_t, -1) : a + b;
+}
+
+TK_CONSTEXPR size_t tk_size_saturating_sub(size_t a, size_t b)
+{
+    return a < b ? 0 : a - b;
+}
+
+TK_CONSTEXPR uint64_t tk_i64_unsigned_abs(int64_t a)
+{
+    return a < 0 ? 0 - TK_CAST(uint64_t, a) : TK_CAST(uint64_t, a);
+}
+
+TK_CONSTEXPR uint32_t tk_i32_unsigned_abs(int32_t a)
+{
+    return TK_CAST(uint32_t, tk_i64_unsigned_abs(a));
+}
+
+TK_CONSTEXPR uint16_t tk_i16_unsigned_abs(int16_t a)
+{
+    return TK_CAST(uint16_t, tk_i64_unsigned_abs(a));
+}
+
+TK_CONSTEXPR uint8_t tk_i8_unsigned_abs(int8_t a)
+{
+    return TK_CAST(uint8_t, tk_i64_unsigned_abs(a));
+}
+
 /* How many low bits of a word are zero. */
-TK_INLINE uint32_t tk_trailing_zeros_64(uint64_t word)
+TK_INLINE uint32_t tk_u64_trailing_zeros(uint64_t word)
 {
 #if defined __GNUC__ || defined __clang__
     return word == 0 ? 64 : TK_CAST(uint32_t, __builtin_ctzll(word));
@@ -363,36 +408,36 @@ TK_INLINE uint32_t tk_trailing_zeros_64(uint64_t word)
 #endif
 }
 
-TK_INLINE uint32_t tk_trailing_zeros_32(uint32_t word)
+TK_INLINE uint32_t tk_u32_trailing_zeros(uint32_t word)
 {
-    return tk_trailing_zeros_64(word | UINT64_C(1) << 32);
+    return tk_u64_trailing_zeros(word | UINT64_C(1) << 32);
 }
 
 /* Words of bytes, the first one lowest, on every processor. Compilers make one load of it. */
-TK_INLINE uint16_t tk_load_16(const uint8_t *bytes)
+TK_INLINE uint16_t tk_u16_load(const uint8_t *bytes)
 {
     return TK_CAST(uint16_t, bytes[0] | bytes[1] << 8);
 }
 
-TK_INLINE uint32_t tk_load_32(const uint8_t *bytes)
+TK_INLINE uint32_t tk_u32_load(const uint8_t *bytes)
 {
 #if defined __GNUC__ && __BYTE_ORDER__ == __ORDER_LITTLE_ENDIAN__
     uint32_t word;
     __builtin_memcpy(&word, bytes, sizeof word);
     return word;
 #else
-    return TK_CAST(uint32_t, tk_load_16(bytes)) | TK_CAST(uint32_t, tk_load_16(bytes + 2)) << 16;
+    return TK_CAST(uint32_t, tk_u16_load(bytes)) | TK_CAST(uint32_t, tk_u16_load(bytes + 2)) << 16;
 #endif
 }
 
-TK_INLINE uint64_t tk_load_64(const uint8_t *bytes)
+TK_INLINE uint64_t tk_u64_load(const uint8_t *bytes)
 {
 #if defined __GNUC__ && __BYTE_ORDER__ == __ORDER_LITTLE_ENDIAN__
     uint64_t word;
     __builtin_memcpy(&word, bytes, sizeof word);
     return word;
 #else
-    return TK_CAST(uint64_t, tk_load_32(bytes)) | TK_CAST(uint64_t, tk_load_32(bytes + 4)) << 32;
+    return TK_CAST(uint64_t, tk_u32_load(bytes)) | TK_CAST(uint64_t, tk_u32_load(bytes + 4)) << 32;
 #endif
 }
 
@@ -551,9 +596,14 @@ TK_CONSTEXPR tk_u128 tk_i128_as_u128(tk_i128 value)
 }
 #endif
 
+TK_CONSTEXPR bool tk_u128_sum_fits(tk_u128 a, tk_u128 b)
+{
+    return !tk_u128_less(tk_u128_wrapping_add(a, b), a);
+}
+
 TK_CONSTEXPR tk_u128 tk_u128_add(tk_u128 a, tk_u128 b)
 {
-    TORKETTLE_CHECK(!tk_u128_less(tk_u128_wrapping_add(a, b), a));
+    TORKETTLE_CHECK(tk_u128_sum_fits(a, b));
     return tk_u128_wrapping_add(a, b);
 }
 
@@ -567,6 +617,11 @@ TK_CONSTEXPR tk_u128 tk_u128_mul(tk_u128 a, tk_u128 b)
 {
     TORKETTLE_CHECK(tk_u128_product_fits(a, b));
     return tk_u128_wrapping_mul(a, b);
+}
+
+TK_CONSTEXPR tk_u128 tk_u128_saturating_sub(tk_u128 a, tk_u128 b)
+{
+    return tk_u128_less(a, b) ? tk_u128_of(0) : tk_u128_wrapping_sub(a, b);
 }
 
 TK_CONSTEXPR uint64_t tk_u128_high(tk_u128 value)
@@ -1110,11 +1165,6 @@ TK_CONSTEXPR tk_bytes tk_bytes_from(tk_bytes s, size_t low)
 
 #define TK_MOST_IN_WORD 1000000000
 
-TK_CONSTEXPR bool tk_u128_sum_fits(tk_u128 a, tk_u128 b)
-{
-    return !(tk_u128_less(tk_u128_wrapping_add(a, b), a));
-}
-
 TK_FAR tk_option_pair_i64_size tk_prefix_of_three_words_i64(bool minus, uint64_t high,
                                                             tk_bytes s) TK_SYMBOL(tk_prefix_of_three_words_i64);
 
@@ -1319,7 +1369,7 @@ TK_HINTED uint64_t tk_load_full(tk_bytes s)
 {
     if (s.len >= 8) {
         const uint8_t *first = s.at;
-        return tk_load_64(first);
+        return tk_u64_load(first);
     }
     return 0;
 }
@@ -1359,7 +1409,7 @@ TK_HINTED uint32_t tk_leading_digits(uint64_t word)
     if (marks == 0) {
         return 8;
     }
-    return tk_trailing_zeros_64(marks) / 8;
+    return tk_u64_trailing_zeros(marks) / 8;
 }
 
 /*
@@ -1444,7 +1494,7 @@ TK_INLINE tk_option_pair_i8_size tk_prefix_of_words_i8(tk_bytes s)
     if (marks == 0) {
         return tk_prefix_of_two_words_i8(minus, tk_sum_of(digits), s);
     }
-    uint32_t len = tk_trailing_zeros_64(marks) / 8;
+    uint32_t len = tk_u64_trailing_zeros(marks) / 8;
     tk_option_i8 number_found = tk_number_in_range_i8(TK_MOST_IN_WORD, minus, tk_value_by_product(digits, len));
     if (!number_found.is_some) {
         return tk_none_pair_i8_size();
@@ -1478,7 +1528,8 @@ TK_INLINE tk_option_pair_i8_size tk_quick_prefix_i8(tk_bytes s)
     if (s.len >= 3 && '0' <= s.at[1] && s.at[1] <= '9' && '0' <= s.at[2] && s.at[2] <= '9' && s.len >= 16) {
         return tk_prefix_of_words_i8(s);
     }
-    if (s.len >= 3 && '0' <= s.at[0] && s.at[0] <= '9' && '0' <= s.at[1] && s.at[1] <= '9' && !tk_is_digit(s.at[2])) {
+    if (s.len >= 3 && '0' <= s.at[0] && s.at[0] <= '9' && '0' <= s.at[1] && s.at[1] <= '9'
+        && !tk_u8_is_digit(s.at[2])) {
         uint8_t first = s.at[0];
         uint8_t second = s.at[1];
         uint32_t tens = TK_CAST(uint32_t, TK_CAST(uint8_t, first - '0'));
@@ -1544,7 +1595,7 @@ TK_INLINE tk_option_pair_u8_size tk_prefix_of_words_u8(tk_bytes s)
     if (marks == 0) {
         return tk_prefix_of_two_words_u8(minus, tk_sum_of(digits), s);
     }
-    uint32_t len = tk_trailing_zeros_64(marks) / 8;
+    uint32_t len = tk_u64_trailing_zeros(marks) / 8;
     tk_option_u8 number_found = tk_number_in_range_u8(TK_MOST_IN_WORD, minus, tk_value_by_product(digits, len));
     if (!number_found.is_some) {
         return tk_none_pair_u8_size();
@@ -1573,7 +1624,8 @@ TK_INLINE tk_option_pair_u8_size tk_quick_prefix_u8(tk_bytes s)
     if (s.len >= 3 && '0' <= s.at[1] && s.at[1] <= '9' && '0' <= s.at[2] && s.at[2] <= '9' && s.len >= 16) {
         return tk_prefix_of_words_u8(s);
     }
-    if (s.len >= 3 && '0' <= s.at[0] && s.at[0] <= '9' && '0' <= s.at[1] && s.at[1] <= '9' && !tk_is_digit(s.at[2])) {
+    if (s.len >= 3 && '0' <= s.at[0] && s.at[0] <= '9' && '0' <= s.at[1] && s.at[1] <= '9'
+        && !tk_u8_is_digit(s.at[2])) {
         uint8_t first = s.at[0];
         uint8_t second = s.at[1];
         uint32_t tens = TK_CAST(uint32_t, TK_CAST(uint8_t, first - '0'));
@@ -1639,7 +1691,7 @@ TK_INLINE tk_option_pair_i16_size tk_prefix_of_words_i16(tk_bytes s)
     if (marks == 0) {
         return tk_prefix_of_two_words_i16(minus, tk_sum_of(digits), s);
     }
-    uint32_t len = tk_trailing_zeros_64(marks) / 8;
+    uint32_t len = tk_u64_trailing_zeros(marks) / 8;
     tk_option_i16 number_found = tk_number_in_range_i16(TK_MOST_IN_WORD, minus, tk_value_by_product(digits, len));
     if (!number_found.is_some) {
         return tk_none_pair_i16_size();
@@ -1668,7 +1720,8 @@ TK_INLINE tk_option_pair_i16_size tk_quick_prefix_i16(tk_bytes s)
     if (s.len >= 3 && '0' <= s.at[1] && s.at[1] <= '9' && '0' <= s.at[2] && s.at[2] <= '9' && s.len >= 16) {
         return tk_prefix_of_words_i16(s);
     }
-    if (s.len >= 3 && '0' <= s.at[0] && s.at[0] <= '9' && '0' <= s.at[1] && s.at[1] <= '9' && !tk_is_digit(s.at[2])) {
+    if (s.len >= 3 && '0' <= s.at[0] && s.at[0] <= '9' && '0' <= s.at[1] && s.at[1] <= '9'
+        && !tk_u8_is_digit(s.at[2])) {
         uint8_t first = s.at[0];
         uint8_t second = s.at[1];
         uint32_t tens = TK_CAST(uint32_t, TK_CAST(uint8_t, first - '0'));
@@ -1734,7 +1787,7 @@ TK_INLINE tk_option_pair_u16_size tk_prefix_of_words_u16(tk_bytes s)
     if (marks == 0) {
         return tk_prefix_of_two_words_u16(minus, tk_sum_of(digits), s);
     }
-    uint32_t len = tk_trailing_zeros_64(marks) / 8;
+    uint32_t len = tk_u64_trailing_zeros(marks) / 8;
     tk_option_u16 number_found = tk_number_in_range_u16(TK_MOST_IN_WORD, minus, tk_value_by_product(digits, len));
     if (!number_found.is_some) {
         return tk_none_pair_u16_size();
@@ -1763,7 +1816,8 @@ TK_INLINE tk_option_pair_u16_size tk_quick_prefix_u16(tk_bytes s)
     if (s.len >= 3 && '0' <= s.at[1] && s.at[1] <= '9' && '0' <= s.at[2] && s.at[2] <= '9' && s.len >= 16) {
         return tk_prefix_of_words_u16(s);
     }
-    if (s.len >= 3 && '0' <= s.at[0] && s.at[0] <= '9' && '0' <= s.at[1] && s.at[1] <= '9' && !tk_is_digit(s.at[2])) {
+    if (s.len >= 3 && '0' <= s.at[0] && s.at[0] <= '9' && '0' <= s.at[1] && s.at[1] <= '9'
+        && !tk_u8_is_digit(s.at[2])) {
         uint8_t first = s.at[0];
         uint8_t second = s.at[1];
         uint32_t tens = TK_CAST(uint32_t, TK_CAST(uint8_t, first - '0'));
@@ -1829,7 +1883,7 @@ TK_INLINE tk_option_pair_i32_size tk_prefix_of_words_i32(tk_bytes s)
     if (marks == 0) {
         return tk_prefix_of_two_words_i32(minus, tk_sum_of(digits), s);
     }
-    uint32_t len = tk_trailing_zeros_64(marks) / 8;
+    uint32_t len = tk_u64_trailing_zeros(marks) / 8;
     tk_option_i32 number_found = tk_number_in_range_i32(TK_MOST_IN_WORD, minus, tk_value_by_product(digits, len));
     if (!number_found.is_some) {
         return tk_none_pair_i32_size();
@@ -1858,7 +1912,8 @@ TK_INLINE tk_option_pair_i32_size tk_quick_prefix_i32(tk_bytes s)
     if (s.len >= 3 && '0' <= s.at[1] && s.at[1] <= '9' && '0' <= s.at[2] && s.at[2] <= '9' && s.len >= 16) {
         return tk_prefix_of_words_i32(s);
     }
-    if (s.len >= 3 && '0' <= s.at[0] && s.at[0] <= '9' && '0' <= s.at[1] && s.at[1] <= '9' && !tk_is_digit(s.at[2])) {
+    if (s.len >= 3 && '0' <= s.at[0] && s.at[0] <= '9' && '0' <= s.at[1] && s.at[1] <= '9'
+        && !tk_u8_is_digit(s.at[2])) {
         uint8_t first = s.at[0];
         uint8_t second = s.at[1];
         uint32_t tens = TK_CAST(uint32_t, TK_CAST(uint8_t, first - '0'));
@@ -1924,7 +1979,7 @@ TK_INLINE tk_option_pair_u32_size tk_prefix_of_words_u32(tk_bytes s)
     if (marks == 0) {
         return tk_prefix_of_two_words_u32(minus, tk_sum_of(digits), s);
     }
-    uint32_t len = tk_trailing_zeros_64(marks) / 8;
+    uint32_t len = tk_u64_trailing_zeros(marks) / 8;
     tk_option_u32 number_found = tk_number_in_range_u32(TK_MOST_IN_WORD, minus, tk_value_by_product(digits, len));
     if (!number_found.is_some) {
         return tk_none_pair_u32_size();
@@ -1953,7 +2008,8 @@ TK_INLINE tk_option_pair_u32_size tk_quick_prefix_u32(tk_bytes s)
     if (s.len >= 3 && '0' <= s.at[1] && s.at[1] <= '9' && '0' <= s.at[2] && s.at[2] <= '9' && s.len >= 16) {
         return tk_prefix_of_words_u32(s);
     }
-    if (s.len >= 3 && '0' <= s.at[0] && s.at[0] <= '9' && '0' <= s.at[1] && s.at[1] <= '9' && !tk_is_digit(s.at[2])) {
+    if (s.len >= 3 && '0' <= s.at[0] && s.at[0] <= '9' && '0' <= s.at[1] && s.at[1] <= '9'
+        && !tk_u8_is_digit(s.at[2])) {
         uint8_t first = s.at[0];
         uint8_t second = s.at[1];
         uint32_t tens = TK_CAST(uint32_t, TK_CAST(uint8_t, first - '0'));
@@ -2027,7 +2083,7 @@ TK_INLINE tk_option_pair_i64_size tk_prefix_of_words_i64(tk_bytes s)
     if (marks == 0) {
         return tk_prefix_of_two_words_i64(minus, tk_sum_of(digits), s);
     }
-    uint32_t len = tk_trailing_zeros_64(marks) / 8;
+    uint32_t len = tk_u64_trailing_zeros(marks) / 8;
     tk_option_i64 number_found = tk_number_in_range_i64(TK_MOST_IN_WORD, minus, tk_value_by_product(digits, len));
     if (!number_found.is_some) {
         return tk_none_pair_i64_size();
@@ -2056,7 +2112,8 @@ TK_INLINE tk_option_pair_i64_size tk_quick_prefix_i64(tk_bytes s)
     if (s.len >= 3 && '0' <= s.at[1] && s.at[1] <= '9' && '0' <= s.at[2] && s.at[2] <= '9' && s.len >= 16) {
         return tk_prefix_of_words_i64(s);
     }
-    if (s.len >= 3 && '0' <= s.at[0] && s.at[0] <= '9' && '0' <= s.at[1] && s.at[1] <= '9' && !tk_is_digit(s.at[2])) {
+    if (s.len >= 3 && '0' <= s.at[0] && s.at[0] <= '9' && '0' <= s.at[1] && s.at[1] <= '9'
+        && !tk_u8_is_digit(s.at[2])) {
         uint8_t first = s.at[0];
         uint8_t second = s.at[1];
         uint32_t tens = TK_CAST(uint32_t, TK_CAST(uint8_t, first - '0'));
@@ -2123,7 +2180,7 @@ TK_INLINE tk_option_pair_u64_size tk_prefix_of_words_u64(tk_bytes s)
     if (marks == 0) {
         return tk_prefix_of_two_words_u64(minus, tk_sum_of(digits), s);
     }
-    uint32_t len = tk_trailing_zeros_64(marks) / 8;
+    uint32_t len = tk_u64_trailing_zeros(marks) / 8;
     tk_option_u64 number_found = tk_number_in_range_u64(TK_MOST_IN_WORD, minus, tk_value_by_product(digits, len));
     if (!number_found.is_some) {
         return tk_none_pair_u64_size();
@@ -2152,7 +2209,8 @@ TK_INLINE tk_option_pair_u64_size tk_quick_prefix_u64(tk_bytes s)
     if (s.len >= 3 && '0' <= s.at[1] && s.at[1] <= '9' && '0' <= s.at[2] && s.at[2] <= '9' && s.len >= 16) {
         return tk_prefix_of_words_u64(s);
     }
-    if (s.len >= 3 && '0' <= s.at[0] && s.at[0] <= '9' && '0' <= s.at[1] && s.at[1] <= '9' && !tk_is_digit(s.at[2])) {
+    if (s.len >= 3 && '0' <= s.at[0] && s.at[0] <= '9' && '0' <= s.at[1] && s.at[1] <= '9'
+        && !tk_u8_is_digit(s.at[2])) {
         uint8_t first = s.at[0];
         uint8_t second = s.at[1];
         uint32_t tens = TK_CAST(uint32_t, TK_CAST(uint8_t, first - '0'));
@@ -2219,7 +2277,7 @@ TK_INLINE tk_option_pair_i128_size tk_prefix_of_words_i128(tk_bytes s)
     if (marks == 0) {
         return tk_prefix_of_two_words_i128(minus, tk_sum_of(digits), s);
     }
-    uint32_t len = tk_trailing_zeros_64(marks) / 8;
+    uint32_t len = tk_u64_trailing_zeros(marks) / 8;
     tk_option_i128 number_found = tk_number_in_range_i128(TK_MOST_IN_WORD, minus, tk_value_by_product(digits, len));
     if (!number_found.is_some) {
         return tk_none_pair_i128_size();
@@ -2248,7 +2306,8 @@ TK_INLINE tk_option_pair_i128_size tk_quick_prefix_i128(tk_bytes s)
     if (s.len >= 3 && '0' <= s.at[1] && s.at[1] <= '9' && '0' <= s.at[2] && s.at[2] <= '9' && s.len >= 16) {
         return tk_prefix_of_words_i128(s);
     }
-    if (s.len >= 3 && '0' <= s.at[0] && s.at[0] <= '9' && '0' <= s.at[1] && s.at[1] <= '9' && !tk_is_digit(s.at[2])) {
+    if (s.len >= 3 && '0' <= s.at[0] && s.at[0] <= '9' && '0' <= s.at[1] && s.at[1] <= '9'
+        && !tk_u8_is_digit(s.at[2])) {
         uint8_t first = s.at[0];
         uint8_t second = s.at[1];
         uint32_t tens = TK_CAST(uint32_t, TK_CAST(uint8_t, first - '0'));
@@ -2315,7 +2374,7 @@ TK_INLINE tk_option_pair_u128_size tk_prefix_of_words_u128(tk_bytes s)
     if (marks == 0) {
         return tk_prefix_of_two_words_u128(minus, tk_sum_of(digits), s);
     }
-    uint32_t len = tk_trailing_zeros_64(marks) / 8;
+    uint32_t len = tk_u64_trailing_zeros(marks) / 8;
     tk_option_u128 number_found = tk_number_in_range_u128(TK_MOST_IN_WORD, minus, tk_value_by_product(digits, len));
     if (!number_found.is_some) {
         return tk_none_pair_u128_size();
@@ -2344,7 +2403,8 @@ TK_INLINE tk_option_pair_u128_size tk_quick_prefix_u128(tk_bytes s)
     if (s.len >= 3 && '0' <= s.at[1] && s.at[1] <= '9' && '0' <= s.at[2] && s.at[2] <= '9' && s.len >= 16) {
         return tk_prefix_of_words_u128(s);
     }
-    if (s.len >= 3 && '0' <= s.at[0] && s.at[0] <= '9' && '0' <= s.at[1] && s.at[1] <= '9' && !tk_is_digit(s.at[2])) {
+    if (s.len >= 3 && '0' <= s.at[0] && s.at[0] <= '9' && '0' <= s.at[1] && s.at[1] <= '9'
+        && !tk_u8_is_digit(s.at[2])) {
         uint8_t first = s.at[0];
         uint8_t second = s.at[1];
         uint32_t tens = TK_CAST(uint32_t, TK_CAST(uint8_t, first - '0'));
@@ -2400,7 +2460,7 @@ TK_CONSTEXPR tk_option_pair_u128_size tk_magnitude_by_digits(tk_u128 bound, tk_b
 {
     tk_u128 number = tk_u128_of(0);
     size_t len = 0;
-    while (len < s.len && tk_is_digit(s.at[tk_index(len, s.len)])) {
+    while (len < s.len && tk_u8_is_digit(s.at[tk_index(len, s.len)])) {
         tk_option_u128 found = tk_append_digit(bound, number, TK_CAST(uint8_t, s.at[tk_index(len, s.len)] - '0'));
         if (!found.is_some) {
             return tk_none_pair_u128_size();

@@ -58,13 +58,58 @@ TK_CONSTEXPR size_t tk_index(size_t index, size_t len)
     return index;
 }
 
-TK_CONSTEXPR bool tk_is_digit(uint8_t byte)
+TK_CONSTEXPR bool tk_u8_is_digit(uint8_t byte)
 {
     return '0' <= byte && byte <= '9';
 }
 
+TK_CONSTEXPR uint32_t tk_u32_min(uint32_t a, uint32_t b)
+{
+    return b < a ? b : a;
+}
+
+TK_CONSTEXPR size_t tk_size_min(size_t a, size_t b)
+{
+    return b < a ? b : a;
+}
+
+TK_CONSTEXPR size_t tk_size_max(size_t a, size_t b)
+{
+    return a < b ? b : a;
+}
+
+TK_CONSTEXPR size_t tk_size_saturating_add(size_t a, size_t b)
+{
+    return a + b < a ? TK_CAST(size_t, -1) : a + b;
+}
+
+TK_CONSTEXPR size_t tk_size_saturating_sub(size_t a, size_t b)
+{
+    return a < b ? 0 : a - b;
+}
+
+TK_CONSTEXPR uint64_t tk_i64_unsigned_abs(int64_t a)
+{
+    return a < 0 ? 0 - TK_CAST(uint64_t, a) : TK_CAST(uint64_t, a);
+}
+
+TK_CONSTEXPR uint32_t tk_i32_unsigned_abs(int32_t a)
+{
+    return TK_CAST(uint32_t, tk_i64_unsigned_abs(a));
+}
+
+TK_CONSTEXPR uint16_t tk_i16_unsigned_abs(int16_t a)
+{
+    return TK_CAST(uint16_t, tk_i64_unsigned_abs(a));
+}
+
+TK_CONSTEXPR uint8_t tk_i8_unsigned_abs(int8_t a)
+{
+    return TK_CAST(uint8_t, tk_i64_unsigned_abs(a));
+}
+
 /* How many low bits of a word are zero. */
-TK_INLINE uint32_t tk_trailing_zeros_64(uint64_t word)
+TK_INLINE uint32_t tk_u64_trailing_zeros(uint64_t word)
 {
 #if defined __GNUC__ || defined __clang__
     return word == 0 ? 64 : TK_CAST(uint32_t, __builtin_ctzll(word));
@@ -80,36 +125,36 @@ TK_INLINE uint32_t tk_trailing_zeros_64(uint64_t word)
 #endif
 }
 
-TK_INLINE uint32_t tk_trailing_zeros_32(uint32_t word)
+TK_INLINE uint32_t tk_u32_trailing_zeros(uint32_t word)
 {
-    return tk_trailing_zeros_64(word | UINT64_C(1) << 32);
+    return tk_u64_trailing_zeros(word | UINT64_C(1) << 32);
 }
 
 /* Words of bytes, the first one lowest, on every processor. Compilers make one load of it. */
-TK_INLINE uint16_t tk_load_16(const uint8_t *bytes)
+TK_INLINE uint16_t tk_u16_load(const uint8_t *bytes)
 {
     return TK_CAST(uint16_t, bytes[0] | bytes[1] << 8);
 }
 
-TK_INLINE uint32_t tk_load_32(const uint8_t *bytes)
+TK_INLINE uint32_t tk_u32_load(const uint8_t *bytes)
 {
 #if defined __GNUC__ && __BYTE_ORDER__ == __ORDER_LITTLE_ENDIAN__
     uint32_t word;
     __builtin_memcpy(&word, bytes, sizeof word);
     return word;
 #else
-    return TK_CAST(uint32_t, tk_load_16(bytes)) | TK_CAST(uint32_t, tk_load_16(bytes + 2)) << 16;
+    return TK_CAST(uint32_t, tk_u16_load(bytes)) | TK_CAST(uint32_t, tk_u16_load(bytes + 2)) << 16;
 #endif
 }
 
-TK_INLINE uint64_t tk_load_64(const uint8_t *bytes)
+TK_INLINE uint64_t tk_u64_load(const uint8_t *bytes)
 {
 #if defined __GNUC__ && __BYTE_ORDER__ == __ORDER_LITTLE_ENDIAN__
     uint64_t word;
     __builtin_memcpy(&word, bytes, sizeof word);
     return word;
 #else
-    return TK_CAST(uint64_t, tk_load_32(bytes)) | TK_CAST(uint64_t, tk_load_32(bytes + 4)) << 32;
+    return TK_CAST(uint64_t, tk_u32_load(bytes)) | TK_CAST(uint64_t, tk_u32_load(bytes + 4)) << 32;
 #endif
 }
 
@@ -268,9 +313,14 @@ TK_CONSTEXPR tk_u128 tk_i128_as_u128(tk_i128 value)
 }
 #endif
 
+TK_CONSTEXPR bool tk_u128_sum_fits(tk_u128 a, tk_u128 b)
+{
+    return !tk_u128_less(tk_u128_wrapping_add(a, b), a);
+}
+
 TK_CONSTEXPR tk_u128 tk_u128_add(tk_u128 a, tk_u128 b)
 {
-    TORKETTLE_CHECK(!tk_u128_less(tk_u128_wrapping_add(a, b), a));
+    TORKETTLE_CHECK(tk_u128_sum_fits(a, b));
     return tk_u128_wrapping_add(a, b);
 }
 
@@ -284,6 +334,11 @@ TK_CONSTEXPR tk_u128 tk_u128_mul(tk_u128 a, tk_u128 b)
 {
     TORKETTLE_CHECK(tk_u128_product_fits(a, b));
     return tk_u128_wrapping_mul(a, b);
+}
+
+TK_CONSTEXPR tk_u128 tk_u128_saturating_sub(tk_u128 a, tk_u128 b)
+{
+    return tk_u128_less(a, b) ? tk_u128_of(0) : tk_u128_wrapping_sub(a, b);
 }
 
 TK_CONSTEXPR uint64_t tk_u128_high(tk_u128 value)

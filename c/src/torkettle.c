@@ -1376,16 +1376,6 @@ static const uint8_t tk_short[9][8] = {
 
 #define TK_FOUR_ZEROS 0x30303030
 
-TK_CONSTEXPR uint32_t tk_u32_min(uint32_t a, uint32_t b)
-{
-    return b < a ? b : a;
-}
-
-TK_CONSTEXPR size_t tk_size_min(size_t a, size_t b)
-{
-    return b < a ? b : a;
-}
-
 TK_CONSTEXPR tk_bytes tk_bytes_to(tk_bytes s, size_t high)
 {
     TORKETTLE_CHECK(high <= s.len);
@@ -1398,48 +1388,14 @@ TK_CONSTEXPR tk_room_u8 tk_room_u8_between(tk_room_u8 s, size_t low, size_t high
     return tk_room_u8_of(s.at + low, high - low);
 }
 
-TK_HINTED void tk_copy(tk_room_u8 to, tk_bytes from)
-{
-    size_t at;
-    TORKETTLE_CHECK(to.len == from.len);
-    for (at = 0; at < from.len; at++) {
-        to.at[at] = from.at[at];
-    }
-}
-
 #define TK_SHOWN_BYTES 48
 
 /* What is guessed of the first field. */
 static const tk_guess tk_no_guess = {0, false, true, false};
 
-TK_CONSTEXPR tk_u128 tk_u128_saturating_sub(tk_u128 a, tk_u128 b)
-{
-    return tk_u128_less(a, b) ? tk_u128_of(0) : tk_u128_sub(a, b);
-}
-
-TK_CONSTEXPR size_t tk_size_saturating_add(size_t a, size_t b)
-{
-    return a + b < a ? TK_CAST(size_t, -1) : a + b;
-}
-
-TK_CONSTEXPR size_t tk_size_max(size_t a, size_t b)
-{
-    return a < b ? b : a;
-}
-
 static const tk_guess tk_with_minus = {0, false, false, true};
 
 static const tk_guess tk_long = {0, false, false, false};
-
-TK_CONSTEXPR uint8_t tk_i8_unsigned_abs(int8_t a)
-{
-    return TK_CAST(uint8_t, a < 0 ? 0 - TK_CAST(uint64_t, a) : TK_CAST(uint64_t, a));
-}
-
-TK_CONSTEXPR size_t tk_size_saturating_sub(size_t a, size_t b)
-{
-    return a < b ? 0 : a - b;
-}
 
 #define TK_SHORT_TEXT 64
 
@@ -1461,11 +1417,6 @@ TK_CONSTEXPR tk_slice_i8 tk_slice_i8_shared(tk_room_i8 s)
 TK_CONSTEXPR tk_bytes tk_bytes_shared(tk_room_u8 s)
 {
     return tk_bytes_of(s.at, s.len);
-}
-
-TK_CONSTEXPR uint16_t tk_i16_unsigned_abs(int16_t a)
-{
-    return TK_CAST(uint16_t, a < 0 ? 0 - TK_CAST(uint64_t, a) : TK_CAST(uint64_t, a));
 }
 
 TK_CONSTEXPR tk_room_i16 tk_room_i16_between(tk_room_i16 s, size_t low, size_t high)
@@ -1490,11 +1441,6 @@ TK_CONSTEXPR tk_slice_u16 tk_slice_u16_shared(tk_room_u16 s)
     return tk_slice_u16_of(s.at, s.len);
 }
 
-TK_CONSTEXPR uint32_t tk_i32_unsigned_abs(int32_t a)
-{
-    return TK_CAST(uint32_t, a < 0 ? 0 - TK_CAST(uint64_t, a) : TK_CAST(uint64_t, a));
-}
-
 TK_CONSTEXPR tk_room_i32 tk_room_i32_between(tk_room_i32 s, size_t low, size_t high)
 {
     TORKETTLE_CHECK(low <= high && high <= s.len);
@@ -1515,11 +1461,6 @@ TK_CONSTEXPR tk_room_u32 tk_room_u32_between(tk_room_u32 s, size_t low, size_t h
 TK_CONSTEXPR tk_slice_u32 tk_slice_u32_shared(tk_room_u32 s)
 {
     return tk_slice_u32_of(s.at, s.len);
-}
-
-TK_CONSTEXPR uint64_t tk_i64_unsigned_abs(int64_t a)
-{
-    return a < 0 ? 0 - TK_CAST(uint64_t, a) : TK_CAST(uint64_t, a);
 }
 
 TK_CONSTEXPR tk_room_i64 tk_room_i64_between(tk_room_i64 s, size_t low, size_t high)
@@ -1578,7 +1519,7 @@ TK_INLINE uint64_t tk_load_from(tk_bytes s, size_t at)
     }
     if (s.len >= 8 && s.len < at + 8) {
         const uint8_t *last = s.at + (s.len - 8);
-        return tk_load_64(last) >> (8 * (at + 8 - s.len));
+        return tk_u64_load(last) >> (8 * (at + 8 - s.len));
     }
     if (s.len >= 8) {
         return tk_load_full(tk_bytes_from(s, at));
@@ -1656,7 +1597,7 @@ TK_HINTED uint64_t tk_value_of(uint64_t word, uint32_t len)
 /* atoi_fast/src/digits.rt:49 */
 TK_HINTED uint32_t tk_zeroes_of(uint64_t word)
 {
-    return tk_trailing_zeros_64(word - TK_ZEROS) / 8;
+    return tk_u64_trailing_zeros(word - TK_ZEROS) / 8;
 }
 
 /* atoi_fast/src/digits.rt:57 */
@@ -1708,7 +1649,7 @@ TK_HINTED uint32_t tk_load_last_four(tk_bytes s)
 {
     if (s.len >= 4) {
         const uint8_t *last = s.at + (s.len - 4);
-        return tk_load_32(last);
+        return tk_u32_load(last);
     }
     return 0;
 }
@@ -1723,7 +1664,7 @@ TK_INLINE uint32_t tk_load_four_from(tk_bytes s, size_t at)
     tk_bytes all = tk_bytes_from(s, at);
     if (all.len >= 4) {
         const uint8_t *first = all.at;
-        return tk_load_32(first);
+        return tk_u32_load(first);
     }
     return 0;
 }
@@ -1733,7 +1674,7 @@ TK_HINTED uint32_t tk_load_last_two(tk_bytes s)
 {
     if (s.len >= 2) {
         const uint8_t *last = s.at + (s.len - 2);
-        return TK_CAST(uint32_t, tk_load_16(last));
+        return TK_CAST(uint32_t, tk_u16_load(last));
     }
     return 0;
 }
@@ -1742,7 +1683,7 @@ TK_HINTED uint32_t tk_load_last_two(tk_bytes s)
 /* atoi_fast/src/loads.rt:40 */
 TK_INLINE uint64_t tk_factor_of(size_t len)
 {
-    return tk_load_64(tk_short[tk_index(len, 9)]);
+    return tk_u64_load(tk_short[tk_index(len, 9)]);
 }
 
 /* Returns the word of `s` filled with zeros at the front, xor `ZEROS`, without a branch on the length. */
@@ -1765,7 +1706,7 @@ TK_HINTED uint32_t tk_leading_digits_flipped(uint64_t flipped)
     if (marks == 0) {
         return 8;
     }
-    return tk_trailing_zeros_64(marks) / 8;
+    return tk_u64_trailing_zeros(marks) / 8;
 }
 
 /* Returns the number that the leading digits of the word spell; there may be none. */
@@ -1801,7 +1742,7 @@ TK_HINTED uint64_t tk_load_last(tk_bytes s)
 {
     if (s.len >= 8) {
         const uint8_t *last = s.at + (s.len - 8);
-        return tk_load_64(last);
+        return tk_u64_load(last);
     }
     return 0;
 }
@@ -2012,7 +1953,7 @@ TK_HINTED uint32_t tk_leading_digits_of_four(uint32_t word)
     if (marks == 0) {
         return 4;
     }
-    return tk_trailing_zeros_32(marks) / 8;
+    return tk_u32_trailing_zeros(marks) / 8;
 }
 
 /* `sum_of` for four bytes. */
@@ -2055,7 +1996,7 @@ TK_HINTED tk_result_pair_u64_size tk_after_16_within_bound(tk_u128 bound, size_t
 /* atoi_fast/src/digits.rt:173 */
 TK_HINTED bool tk_starts_with_digit_of_four(uint32_t word)
 {
-    return tk_is_digit(TK_CAST(uint8_t, word & 0xFF));
+    return tk_u8_is_digit(TK_CAST(uint8_t, word & 0xFF));
 }
 
 /* `value_of` for a word of four bytes. */
@@ -3832,7 +3773,12 @@ TK_INLINE tk_result_pair_u128_size tk_atoi_simd_parse_prefix_pos_u128(tk_bytes s
 TK_HINTED size_t tk_put_bytes(tk_bytes bytes, tk_room_u8 out, size_t at)
 {
     size_t end = at + bytes.len;
-    tk_copy(tk_room_u8_between(out, at, end), bytes);
+    tk_room_u8 to = tk_room_u8_between(out, at, end);
+    size_t at_2 = 0;
+    while (at_2 < bytes.len) {
+        to.at[tk_index(at_2, to.len)] = bytes.at[at_2];
+        at_2++;
+    }
     return end;
 }
 
@@ -4708,7 +4654,7 @@ TK_HINTED tk_pair_size_size tk_fields_position(tk_fields self)
 /* atoi_column/src/fields.rt:279 */
 TK_INLINE tk_option_pair_i8_bytes tk_one_digit_field_i8(tk_bytes rest, uint8_t separator)
 {
-    if (rest.len >= 2 && (rest.at[1] == separator && tk_is_digit(rest.at[0]))) {
+    if (rest.len >= 2 && (rest.at[1] == separator && tk_u8_is_digit(rest.at[0]))) {
         tk_bytes following = tk_bytes_from(rest, 2);
         tk_result_i8 found = tk_parse_i8(true, false, tk_bytes_to(rest, 1));
         if (!found.is_ok) {
@@ -4874,7 +4820,7 @@ TK_INLINE tk_option_result_i8_field_error tk_fields_next_i8(tk_fields *self)
 /* atoi_column/src/fields.rt:279 */
 TK_INLINE tk_option_pair_u8_bytes tk_one_digit_field_u8(tk_bytes rest, uint8_t separator)
 {
-    if (rest.len >= 2 && (rest.at[1] == separator && tk_is_digit(rest.at[0]))) {
+    if (rest.len >= 2 && (rest.at[1] == separator && tk_u8_is_digit(rest.at[0]))) {
         tk_bytes following = tk_bytes_from(rest, 2);
         tk_result_u8 found = tk_parse_u8(true, false, tk_bytes_to(rest, 1));
         if (!found.is_ok) {
@@ -4968,7 +4914,7 @@ TK_INLINE tk_option_result_u8_field_error tk_fields_next_u8(tk_fields *self)
 /* atoi_column/src/fields.rt:279 */
 TK_INLINE tk_option_pair_i16_bytes tk_one_digit_field_i16(tk_bytes rest, uint8_t separator)
 {
-    if (rest.len >= 2 && (rest.at[1] == separator && tk_is_digit(rest.at[0]))) {
+    if (rest.len >= 2 && (rest.at[1] == separator && tk_u8_is_digit(rest.at[0]))) {
         tk_bytes following = tk_bytes_from(rest, 2);
         tk_result_i16 found = tk_parse_i16(true, false, tk_bytes_to(rest, 1));
         if (!found.is_ok) {
@@ -5066,7 +5012,7 @@ TK_INLINE tk_option_result_i16_field_error tk_fields_next_i16(tk_fields *self)
 /* atoi_column/src/fields.rt:279 */
 TK_INLINE tk_option_pair_u16_bytes tk_one_digit_field_u16(tk_bytes rest, uint8_t separator)
 {
-    if (rest.len >= 2 && (rest.at[1] == separator && tk_is_digit(rest.at[0]))) {
+    if (rest.len >= 2 && (rest.at[1] == separator && tk_u8_is_digit(rest.at[0]))) {
         tk_bytes following = tk_bytes_from(rest, 2);
         tk_result_u16 found = tk_parse_u16(true, false, tk_bytes_to(rest, 1));
         if (!found.is_ok) {
@@ -5162,7 +5108,7 @@ TK_INLINE tk_option_result_u16_field_error tk_fields_next_u16(tk_fields *self)
 /* atoi_column/src/fields.rt:279 */
 TK_INLINE tk_option_pair_i32_bytes tk_one_digit_field_i32(tk_bytes rest, uint8_t separator)
 {
-    if (rest.len >= 2 && (rest.at[1] == separator && tk_is_digit(rest.at[0]))) {
+    if (rest.len >= 2 && (rest.at[1] == separator && tk_u8_is_digit(rest.at[0]))) {
         tk_bytes following = tk_bytes_from(rest, 2);
         tk_result_i32 found = tk_parse_i32(true, false, tk_bytes_to(rest, 1));
         if (!found.is_ok) {
@@ -5260,7 +5206,7 @@ TK_INLINE tk_option_result_i32_field_error tk_fields_next_i32(tk_fields *self)
 /* atoi_column/src/fields.rt:279 */
 TK_INLINE tk_option_pair_u32_bytes tk_one_digit_field_u32(tk_bytes rest, uint8_t separator)
 {
-    if (rest.len >= 2 && (rest.at[1] == separator && tk_is_digit(rest.at[0]))) {
+    if (rest.len >= 2 && (rest.at[1] == separator && tk_u8_is_digit(rest.at[0]))) {
         tk_bytes following = tk_bytes_from(rest, 2);
         tk_result_u32 found = tk_parse_u32(true, false, tk_bytes_to(rest, 1));
         if (!found.is_ok) {
@@ -5356,7 +5302,7 @@ TK_INLINE tk_option_result_u32_field_error tk_fields_next_u32(tk_fields *self)
 /* atoi_column/src/fields.rt:279 */
 TK_INLINE tk_option_pair_i64_bytes tk_one_digit_field_i64(tk_bytes rest, uint8_t separator)
 {
-    if (rest.len >= 2 && (rest.at[1] == separator && tk_is_digit(rest.at[0]))) {
+    if (rest.len >= 2 && (rest.at[1] == separator && tk_u8_is_digit(rest.at[0]))) {
         tk_bytes following = tk_bytes_from(rest, 2);
         tk_result_i64 found = tk_parse_i64(true, false, tk_bytes_to(rest, 1));
         if (!found.is_ok) {
@@ -5454,7 +5400,7 @@ TK_INLINE tk_option_result_i64_field_error tk_fields_next_i64(tk_fields *self)
 /* atoi_column/src/fields.rt:279 */
 TK_INLINE tk_option_pair_u64_bytes tk_one_digit_field_u64(tk_bytes rest, uint8_t separator)
 {
-    if (rest.len >= 2 && (rest.at[1] == separator && tk_is_digit(rest.at[0]))) {
+    if (rest.len >= 2 && (rest.at[1] == separator && tk_u8_is_digit(rest.at[0]))) {
         tk_bytes following = tk_bytes_from(rest, 2);
         tk_result_u64 found = tk_parse_u64(true, false, tk_bytes_to(rest, 1));
         if (!found.is_ok) {
@@ -5550,7 +5496,7 @@ TK_INLINE tk_option_result_u64_field_error tk_fields_next_u64(tk_fields *self)
 /* atoi_column/src/fields.rt:279 */
 TK_INLINE tk_option_pair_i128_bytes tk_one_digit_field_i128(tk_bytes rest, uint8_t separator)
 {
-    if (rest.len >= 2 && (rest.at[1] == separator && tk_is_digit(rest.at[0]))) {
+    if (rest.len >= 2 && (rest.at[1] == separator && tk_u8_is_digit(rest.at[0]))) {
         tk_bytes following = tk_bytes_from(rest, 2);
         tk_result_i128 found = tk_parse_i128(true, false, tk_bytes_to(rest, 1));
         if (!found.is_ok) {
@@ -5648,7 +5594,7 @@ TK_INLINE tk_option_result_i128_field_error tk_fields_next_i128(tk_fields *self)
 /* atoi_column/src/fields.rt:279 */
 TK_INLINE tk_option_pair_u128_bytes tk_one_digit_field_u128(tk_bytes rest, uint8_t separator)
 {
-    if (rest.len >= 2 && (rest.at[1] == separator && tk_is_digit(rest.at[0]))) {
+    if (rest.len >= 2 && (rest.at[1] == separator && tk_u8_is_digit(rest.at[0]))) {
         tk_bytes following = tk_bytes_from(rest, 2);
         tk_result_u128 found = tk_parse_u128(true, false, tk_bytes_to(rest, 1));
         if (!found.is_ok) {
@@ -5775,7 +5721,7 @@ TK_HINTED tk_option_u64 tk_first_word(tk_bytes s)
     if (s.len < 8) {
         return tk_none_u64();
     }
-    return tk_some_u64(tk_load_64(s.at));
+    return tk_some_u64(tk_u64_load(s.at));
 }
 
 /*
@@ -5914,7 +5860,7 @@ TK_INLINE bool tk_starts_with(tk_bytes s, uint64_t bytes, size_t count)
 {
     if (s.len >= 2) {
         const uint8_t *two = s.at;
-        return (TK_CAST(uint64_t, tk_load_16(two)) & ((UINT64_C(1) << (8 * count)) - 1)) == bytes;
+        return (TK_CAST(uint64_t, tk_u16_load(two)) & ((UINT64_C(1) << (8 * count)) - 1)) == bytes;
     }
     return false;
 }

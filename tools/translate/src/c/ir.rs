@@ -1,5 +1,5 @@
 //! The typed form between the trees and C. Control flow and effects are statements, and `lower` puts terms into the
-//! order of Rust. A generic function has one form, in which its parameters stay types.
+//! order of Rust.
 
 pub use crate::source::Done;
 use crate::source::Span;
@@ -27,35 +27,52 @@ pub struct Integer {
 pub enum Type {
     Integer(Integer),
     Boolean,
-    Tuple(Vec<Type>),
-    // `&[T]`, `&mut [T]` or `&str`.
-    Slice { element: Box<Type>, is_mutable: bool },
-    Array { element: Box<Type>, length: u128 },
-    // `&mut T`.
-    Pointer(Box<Type>),
-    Option(Box<Type>),
-    Result(Box<Type>, Box<Type>),
-    // A struct or an enum.
-    Item { id: Id, arguments: Vec<Type> },
-    // `PhantomData`.
+    /// A type that is made of others.
+    Of(Form, Vec<Type>),
+    /// `PhantomData`, and what stands for a type of which values hold nothing.
     Marker,
-    // `IntErrorKind`.
-    ErrorKind,
+    /// A generic parameter that stands for itself.
     Parameter(String),
-    // A parameter of which a function only gets the constants.
-    Merged,
-    // A type that is not known yet.
+    /// A type that is not known yet.
     Variable(usize),
+}
+
+#[derive(Clone, Copy, Debug, PartialEq, Eq, PartialOrd, Ord)]
+pub enum Form {
+    Tuple,
+    /// `&[T]`, `&mut [T]` or `&str`.
+    Slice {
+        is_mutable: bool,
+    },
+    Array {
+        length: u128,
+    },
+    /// `&mut T`.
+    Pointer,
+    Option,
+    Result,
+    /// A struct or an enum.
+    Item(Id),
 }
 
 /// The types that generic parameters stand for.
 pub type Bindings = BTreeMap<String, Type>;
 
+/// A function, and what its generic parameters stand for.
+#[derive(Clone, Debug, PartialEq, Eq, PartialOrd, Ord)]
+pub struct Callee {
+    pub id: Id,
+    pub bindings: Bindings,
+}
+
+/// A function for what those of its parameters stand for that matter.
 #[derive(Clone, Debug)]
 pub struct Function {
-    pub id: Id,
+    pub key: Callee,
     pub locals: Vec<Local>,
-    /// Constants of its generics are its first parameters.
+    /// The constants of other parameters, by the parameter and their place in its `impl`. They and the constants of
+    /// its generics are its first parameters.
+    pub constants: Vec<(String, Id)>,
     pub parameters: Vec<usize>,
     pub result: Type,
     pub body: Vec<Statement>,
@@ -73,7 +90,6 @@ pub enum Statement {
     Comment(Vec<Span>),
     Declare { local: usize, value: Option<Term> },
     Assign { place: Term, value: Term },
-    Evaluate(Term),
     If { condition: Term, then: Vec<Statement>, otherwise: Vec<Statement> },
     While { condition: Term, body: Vec<Statement> },
     Return(Term),
@@ -81,194 +97,241 @@ pub enum Statement {
     Continue,
 }
 
+/// An expression: what it does with its parts.
 #[derive(Clone, Debug)]
 pub struct Term {
-    pub kind: TermKind,
+    pub kind: Kind,
+    pub parts: Vec<Term>,
     pub of: Type,
     pub span: Span,
 }
 
-#[derive(Clone, Debug)]
-pub enum TermKind {
-    // A number, and with how many hexadecimal digits it is written, or 0.
-    Number { value: u128, hexadecimal: usize },
+#[derive(Clone, Debug, PartialEq, Eq)]
+pub enum Kind {
+    /// A number, and with how many hexadecimal digits it is written, or 0.
+    Number {
+        value: u128,
+        hexadecimal: usize,
+    },
     Byte(u8),
     Boolean(bool),
     Text(Vec<u8>),
-    Elements(Vec<Term>),
+    /// The elements of an array.
+    Elements,
     Local(usize),
-    // A constant, or one of a trait for the type that implements it.
-    Constant(Id, Option<Type>),
-    Call { callee: Callee, arguments: Vec<Term> },
-    Operation(Operation, Vec<Term>),
-    Cast(Box<Term>),
-    Field(Box<Term>, usize),
-    Make(Shape, Vec<Term>),
-    // Whether a value has a shape, and a field of a value that has it.
-    Is(Box<Term>, Shape),
-    Payload(Box<Term>, Shape, usize),
-    Choice(Vec<Term>),
-    Address(Box<Term>),
-    Follow(Box<Term>),
-}
-
-/// A function, or one of a trait for the type `Self`.
-#[derive(Clone, Debug)]
-pub struct Callee {
-    pub id: Id,
-    pub bindings: Bindings,
-}
-
-#[derive(Clone, Copy, Debug, PartialEq, Eq)]
-pub enum Shape {
-    /// A tuple or a struct.
-    Plain,
-    None,
-    Some,
-    Ok,
-    Err,
-    Variant(usize),
-}
-
-#[derive(Clone, Copy, Debug, PartialEq, Eq)]
-pub enum Operation {
+    Constant(Id),
+    Call(Callee),
     Binary(BinaryOperator),
     Wrapping(BinaryOperator),
     Not,
-    Negate,
-    /// Whether a sum or product is in range.
-    SumFits,
-    ProductFits,
-    Minimum,
-    Maximum,
-    SaturatingAdd,
-    SaturatingSubtract,
-    TrailingZeros,
-    UnsignedAbs,
-    IsDigit,
-    /// The number that bytes spell, the lowest first.
-    Load,
+    /// A function of the prelude, by its name behind that of the type of integers.
+    Small(&'static str),
     Length,
     At,
     /// An element of which it was tested that it is there.
     Element,
-    /// The parts of a slice from, to and between offsets, and its first and last bytes.
-    From,
-    To,
-    Between,
+    /// A part of a slice, by the name of the function that makes it.
+    Part(&'static str),
+    /// The first and the last bytes of a slice.
     First,
     Last,
-    /// The slice of an array, and the shared slice of another.
+    /// The slice of an array.
     OfArray,
-    Shared,
-    CopyFrom,
+    Cast,
+    /// A value by the number of its variant, and its fields.
+    Make(usize),
+    /// `Some` of a value if a condition holds.
+    Maybe,
+    /// Whether a value is of a variant, and a field of one that is.
+    Is(usize),
+    Field(usize, usize),
+    Choice,
+    Address,
+    Follow,
 }
 
+/// The number of the variant of a struct or a tuple.
+pub const PLAIN: usize = 0;
+/// Those of an option and a result.
+pub const SOME: usize = 0;
+pub const NONE: usize = 1;
+pub const OK: usize = 0;
+pub const ERR: usize = 1;
+
 impl Type {
-    pub const UNIT: Type = Type::Tuple(Vec::new());
+    pub const UNIT: Type = Type::Of(Form::Tuple, Vec::new());
     pub const SIZE: Type = Type::Integer(Integer { bits: 64, is_signed: false, is_size: true });
     pub const BYTE: Type = Type::Integer(Integer { bits: 8, is_signed: false, is_size: false });
+    pub const I32: Type = Type::Integer(Integer { bits: 32, is_signed: true, is_size: false });
+    pub const U64: Type = Type::Integer(Integer { bits: 64, is_signed: false, is_size: false });
+    pub const U32: Type = Type::Integer(Integer { bits: 32, is_signed: false, is_size: false });
 
     pub fn slice(element: Type, is_mutable: bool) -> Type {
-        Type::Slice { element: Box::new(element), is_mutable }
+        Type::Of(Form::Slice { is_mutable }, vec![element])
+    }
+
+    pub fn array(element: Type, length: u128) -> Type {
+        Type::Of(Form::Array { length }, vec![element])
+    }
+
+    pub fn pointer(target: Type) -> Type {
+        Type::Of(Form::Pointer, vec![target])
     }
 
     pub fn integer(&self) -> Option<Integer> {
         if let Type::Integer(integer) = self { Some(*integer) } else { None }
     }
 
-    /// Returns the types that this one is made of.
-    pub fn parts_mut(&mut self) -> Vec<&mut Type> {
-        match self {
-            Type::Tuple(parts) | Type::Item { arguments: parts, .. } => parts.iter_mut().collect(),
-            Type::Slice { element, .. } | Type::Array { element, .. } => vec![element],
-            Type::Pointer(target) | Type::Option(target) => vec![target],
-            Type::Result(value, error) => vec![value, error],
-            _ => Vec::new(),
-        }
+    /// Returns the type that a pointer refers to, or the type itself.
+    pub fn target(&self) -> &Type {
+        if let Type::Of(Form::Pointer, parts) = self { &parts[0] } else { self }
     }
 
-    /// Says whether this type or a part of it fulfils a condition.
-    pub fn any(&self, is: &dyn Fn(&Type) -> bool) -> bool {
-        is(self) || self.clone().parts_mut().into_iter().any(|part| part.any(is))
+    pub fn is_slice(&self) -> bool {
+        matches!(self, Type::Of(Form::Slice { .. }, _))
+    }
+
+    /// Says whether what has this type may change something.
+    pub fn can_write(&self) -> bool {
+        matches!(self, Type::Of(Form::Pointer | Form::Slice { is_mutable: true }, _))
+    }
+
+    /// Returns the type with parts that are made from its own.
+    pub fn map(&self, make: &mut dyn FnMut(&Type) -> Type) -> Type {
+        match self {
+            Type::Of(form, parts) => Type::Of(*form, parts.iter().map(make).collect()),
+            other => other.clone(),
+        }
     }
 
     /// Replaces parameters by what they stand for.
     pub fn with(&self, bindings: &Bindings) -> Type {
-        if let Type::Parameter(name) = self {
-            return bindings.get(name).unwrap_or(self).clone();
+        match self {
+            Type::Parameter(name) => bindings.get(name).unwrap_or(self).clone(),
+            _ => self.map(&mut |part| part.with(bindings)),
         }
-        let mut new = self.clone();
-        new.parts_mut().into_iter().for_each(|part| *part = part.with(bindings));
-        new
+    }
+
+    /// Says whether a parameter is a part of the type.
+    pub fn has(&self, name: &str) -> bool {
+        let empty = Bindings::from([(name.to_string(), Type::Marker)]);
+        self.with(&empty) != *self
+    }
+
+    /// Returns the first parameter in a type.
+    pub fn parameter(&self) -> Option<&str> {
+        match self {
+            Type::Parameter(name) => Some(name),
+            Type::Of(_, parts) => parts.iter().find_map(Type::parameter),
+            _ => None,
+        }
     }
 }
 
-/// Calls something for each term of statements, but not for the terms in it.
+impl Statement {
+    /// Says whether nothing runs behind this statement.
+    pub fn leaves(&self) -> bool {
+        matches!(self, Statement::Return(_) | Statement::Break | Statement::Continue)
+    }
+
+    fn terms(&mut self) -> Vec<&mut Term> {
+        match self {
+            Statement::Declare { value, .. } => value.iter_mut().collect(),
+            Statement::Assign { place, value } => vec![place, value],
+            Statement::Return(term) => vec![term],
+            Statement::If { condition, .. } | Statement::While { condition, .. } => vec![condition],
+            Statement::Comment(_) | Statement::Break | Statement::Continue => Vec::new(),
+        }
+    }
+
+    /// Returns the lists of statements in this one.
+    pub fn blocks(&mut self) -> Vec<&mut Vec<Statement>> {
+        match self {
+            Statement::If { then, otherwise, .. } => vec![then, otherwise],
+            Statement::While { body, .. } => vec![body],
+            _ => Vec::new(),
+        }
+    }
+}
+
+/// Calls something for each term of statements, behind the terms in it.
 pub fn each_term(body: &mut [Statement], call: &mut dyn FnMut(&mut Term) -> Done<()>) -> Done<()> {
-    body.iter_mut().try_for_each(|statement| match statement {
-        Statement::Declare { value: Some(value), .. }
-        | Statement::Return(value)
-        | Statement::Evaluate(value) => call(value),
-        Statement::Assign { place, value } => call(place).and_then(|()| call(value)),
-        Statement::If { condition, then, otherwise } => {
-            call(condition)?;
-            each_term(then, call)?;
-            each_term(otherwise, call)
-        }
-        Statement::While { condition, body } => {
-            call(condition)?;
-            each_term(body, call)
-        }
-        _ => Ok(()),
-    })
+    for statement in body {
+        statement.terms().into_iter().try_for_each(|term| term.each(call))?;
+        statement.blocks().into_iter().try_for_each(|block| each_term(block, call))?;
+    }
+    Ok(())
 }
 
-/// Returns all terms of statements, also those in others.
-pub fn all_terms(body: &[Statement]) -> Vec<Term> {
-    fn add(term: &mut Term, found: &mut Vec<Term>) -> Done<()> {
-        found.push(term.clone());
-        term.children().into_iter().try_for_each(|child| add(child, found))
-    }
+/// Returns what all terms of statements are, also of those in others.
+pub fn all_kinds(body: &[Statement]) -> Vec<Kind> {
     let mut found = Vec::new();
-    let _ = each_term(&mut body.to_vec(), &mut |term| add(term, &mut found));
+    // Nothing is refused here.
+    let _ = each_term(&mut body.to_vec(), &mut |term| {
+        found.push(term.kind.clone());
+        Ok(())
+    });
     found
 }
 
 impl Term {
-    /// Returns the terms that this one is made of.
-    pub fn children(&mut self) -> Vec<&mut Term> {
-        match &mut self.kind {
-            TermKind::Call { arguments: terms, .. }
-            | TermKind::Operation(_, terms)
-            | TermKind::Elements(terms)
-            | TermKind::Choice(terms)
-            | TermKind::Make(_, terms) => terms.iter_mut().collect(),
-            TermKind::Cast(term)
-            | TermKind::Field(term, _)
-            | TermKind::Is(term, _)
-            | TermKind::Payload(term, ..)
-            | TermKind::Address(term)
-            | TermKind::Follow(term) => vec![term],
-            _ => Vec::new(),
-        }
+    /// Calls something for the terms that this one is made of, and then for itself.
+    pub fn each(&mut self, call: &mut dyn FnMut(&mut Term) -> Done<()>) -> Done<()> {
+        self.parts.iter_mut().try_for_each(|part| part.each(call))?;
+        call(self)
     }
 
     /// Says whether this term or one in it fulfils a condition.
     pub fn any(&self, is: &dyn Fn(&Term) -> bool) -> bool {
-        is(self) || self.clone().children().into_iter().any(|child| child.any(is))
+        is(self) || self.parts.iter().any(|part| part.any(is))
+    }
+
+    /// Says whether its parts are those of a tuple.
+    pub fn is_tuple(&self) -> bool {
+        self.kind == Kind::Make(PLAIN) && matches!(self.of, Type::Of(Form::Tuple, _))
+    }
+
+    /// Says whether it can be read more than once at no cost.
+    pub fn is_path(&self) -> bool {
+        match self.kind {
+            Kind::Local(_) | Kind::Number { .. } | Kind::Constant(_) => true,
+            Kind::Byte(_) | Kind::Boolean(_) => true,
+            Kind::Field(..) | Kind::Follow | Kind::Length => self.parts[0].is_path(),
+            _ => false,
+        }
     }
 
     /// Says whether evaluating it changes something.
     pub fn has_effect(&self) -> bool {
-        let can_write = |term: &Term| {
-            matches!(term.of, Type::Pointer(_) | Type::Slice { is_mutable: true, .. })
-        };
         self.any(&|term| match &term.kind {
-            TermKind::Call { arguments, .. } => arguments.iter().any(can_write),
-            TermKind::Operation(Operation::CopyFrom, _) => true,
+            Kind::Call(_) => term.parts.iter().any(|it| it.of.can_write()),
             _ => false,
         })
+    }
+
+    pub fn boolean(value: bool, span: Span) -> Term {
+        Term { kind: Kind::Boolean(value), parts: Vec::new(), of: Type::Boolean, span }
+    }
+
+    fn number(&self) -> Option<u128> {
+        if let Kind::Number { value, .. } = self.kind { Some(value) } else { None }
+    }
+
+    /// Returns a condition of two terms, or what is known of it.
+    pub fn test(operator: BinaryOperator, left: Term, right: Term, span: Span) -> Term {
+        use BinaryOperator::{And, Or};
+        let numbers = left.number().zip(right.number());
+        if let Some(known) = numbers.and_then(|(left, right)| compared(operator, left, right)) {
+            return Term::boolean(known, span);
+        }
+        match (operator, &left.kind, &right.kind) {
+            (And, Kind::Boolean(true), _) | (Or, Kind::Boolean(false), _) => return right,
+            (And, Kind::Boolean(false), _) | (Or, Kind::Boolean(true), _) => return left,
+            (And, _, Kind::Boolean(true)) | (Or, _, Kind::Boolean(false)) => return left,
+            (And | Or, _, Kind::Boolean(_)) if !left.has_effect() => return right,
+            _ => {}
+        }
+        Term { kind: Kind::Binary(operator), parts: vec![left, right], of: Type::Boolean, span }
     }
 
     /// Returns the opposite of a condition.
@@ -276,18 +339,34 @@ impl Term {
         use BinaryOperator::{Equal, Greater, GreaterOrEqual, Less, LessOrEqual, NotEqual};
         const OPPOSITES: [(BinaryOperator, BinaryOperator); 3] =
             [(Equal, NotEqual), (Less, GreaterOrEqual), (Greater, LessOrEqual)];
-        let (of, span) = (Type::Boolean, self.span);
-        if let TermKind::Operation(Operation::Binary(operator), terms) = &self.kind {
-            let found = OPPOSITES.iter().find_map(|(a, b)| match operator {
-                it if it == a => Some(*b),
-                it if it == b => Some(*a),
-                _ => None,
-            });
-            if let Some(opposite) = found {
-                let kind = TermKind::Operation(Operation::Binary(opposite), terms.clone());
-                return Term { kind, of, span };
+        let (kind, parts) = match self.kind {
+            Kind::Boolean(value) => (Kind::Boolean(!value), Vec::new()),
+            Kind::Binary(operator) if operator.is_comparison() => {
+                let pair = OPPOSITES.iter().find(|(a, b)| operator == *a || operator == *b);
+                let opposite = pair.map(|(a, b)| if operator == *a { *b } else { *a });
+                (Kind::Binary(opposite.unwrap_or(operator)), self.parts)
             }
-        }
-        Term { kind: TermKind::Operation(Operation::Not, vec![self]), of, span }
+            _ => {
+                return Term {
+                    span: self.span,
+                    of: Type::Boolean,
+                    kind: Kind::Not,
+                    parts: vec![self],
+                };
+            }
+        };
+        Term { kind, parts, of: Type::Boolean, span: self.span }
     }
+}
+
+fn compared(operator: BinaryOperator, left: u128, right: u128) -> Option<bool> {
+    Some(match operator {
+        BinaryOperator::Equal => left == right,
+        BinaryOperator::NotEqual => left != right,
+        BinaryOperator::Less => left < right,
+        BinaryOperator::Greater => left > right,
+        BinaryOperator::LessOrEqual => left <= right,
+        BinaryOperator::GreaterOrEqual => left >= right,
+        _ => return None,
+    })
 }

@@ -1,11 +1,10 @@
-//! C from the trees: `lower` gives a function its typed form, `special` finds those that are needed, for the types
-//! that matter, and `print` writes them.
+//! C from the trees: `instances` finds the functions that are needed, for the types that matter, `lower` gives each
+//! its typed form, and `print` writes them.
 
+pub mod instances;
 pub mod ir;
 pub mod lower;
-pub mod operations;
 pub mod print;
-pub mod special;
 pub mod terms;
 pub mod text;
 pub mod types;
@@ -13,13 +12,13 @@ pub mod world;
 
 use crate::checks;
 use crate::modules::Package;
-use crate::resolve::{Definition, Scopes};
+use crate::resolve::Scopes;
 use crate::source::{Fault, Source};
-use ir::{Bindings, Callee, Done, Id, Type};
-use special::{Chosen, Key, Special};
+use instances::{Instances, called};
+use ir::{Bindings, Callee, Done, Form, Function, Type};
 use std::collections::BTreeSet;
 use std::path::Path;
-use world::{Place, World};
+use world::{World, item_of};
 
 /// The types whose calls C has.
 pub const TYPES: [&str; 10] =
@@ -99,58 +98,50 @@ pub fn print(
     types: &[&str],
     is_checked: bool,
 ) -> Done<(String, String)> {
-    let mut special = Special::new(world);
-    let mut open: Vec<Key> = Vec::new();
+    let mut instances = Instances::new(world);
+    let (mut all, mut open) = (Vec::new(), Vec::new());
     for (crate_name, path) in roots {
         for callee in callees(world, crate_name, path, types)? {
-            let key = special.add(&callee)?;
-            open.extend(inline.contains(path).then_some(key));
+            all.push(instances.add(&callee)?);
+            open.extend(all.last().filter(|_| inline.contains(path)).cloned());
         }
     }
-    let mut printer = print::Printer::new(&special, is_checked)?;
-    let near = near(&special, open, &mut printer.far);
-    printer.constant = constant(&special);
-    let of = |keys: &BTreeSet<Key>, is_in: bool| {
-        let found = special.functions.iter().filter(|it| keys.contains(&it.key) == is_in);
-        found.collect::<Vec<_>>()
+    let functions = instances.ordered(&all);
+    let mut printer = print::Printer::new(world, &functions, is_checked)?;
+    let near = near(&instances, open, &mut printer.far);
+    all.retain(|it| CONSTANT.contains(&world.name(it.id)));
+    printer.constant = instances.ordered(&all).into_iter().map(|it| it.key.clone()).collect();
+    let of = |keys: &BTreeSet<Callee>, is_in: bool| {
+        let found = functions.iter().copied().filter(|it| keys.contains(&it.key) == is_in);
+        found.collect::<Vec<&Function>>()
     };
-    for chosen in of(&printer.far.clone(), true) {
-        printer.function(chosen, true)?;
+    for function in of(&printer.far.clone(), true) {
+        printer.function(function, true)?;
     }
-    for chosen in of(&near, true) {
-        printer.function(chosen, false)?;
+    for function in of(&near, true) {
+        printer.function(function, false)?;
     }
     let inline = printer.take();
-    for chosen in of(&near, false) {
-        printer.function(chosen, false)?;
+    for function in of(&near, false) {
+        printer.function(function, false)?;
     }
     Ok((inline, printer.take()))
 }
 
-// Returns the functions that a compiler may call.
-fn constant(special: &Special) -> BTreeSet<Key> {
-    let is_root = |it: &&Chosen| CONSTANT.contains(&special.world.name(it.key.0));
-    let mut open: Vec<&Chosen> = special.functions.iter().filter(is_root).collect();
-    let mut found = BTreeSet::new();
-    while let Some(chosen) = open.pop() {
-        if found.insert(chosen.key.clone()) {
-            let called = special::called(&chosen.function);
-            open.extend(special.functions.iter().filter(|it| called.contains(&it.key)));
-        }
-    }
-    found
-}
-
 // Returns the functions that are inlined in those that are open, and adds the others that they call.
-fn near(special: &Special, mut open: Vec<Key>, far: &mut BTreeSet<Key>) -> BTreeSet<Key> {
+fn near(
+    instances: &Instances,
+    mut open: Vec<Callee>,
+    far: &mut BTreeSet<Callee>,
+) -> BTreeSet<Callee> {
     let mut near = BTreeSet::new();
     while let Some(key) = open.pop() {
-        let Some(chosen) = special.functions.iter().find(|it| it.key == key) else { continue };
-        let is_far = FAR.contains(&special.world.name(key.0));
-        if is_far || print::is_apart(special.world, &key, &chosen.function) {
+        let Some(function) = instances.get(&key) else { continue };
+        let is_far = FAR.contains(&instances.world.name(key.id));
+        if is_far || print::is_apart(instances.world, function) {
             far.insert(key);
         } else if near.insert(key) {
-            open.extend(special::called(&chosen.function));
+            open.extend(called(function));
         }
     }
     near
@@ -162,47 +153,24 @@ fn callees(world: &World, crate_name: &str, path: &str, types: &[&str]) -> Done<
         Fault::of_file(Path::new("crates").join(crate_name).as_path(), format!("C: no `{path}`"))
     };
     let module = world.package.find(crate_name, &[]).ok_or_else(missing)?;
-    let names: Vec<&str> = path.split("::").collect();
-    let (owner, name) = match names.as_slice() {
-        [name] => (None, *name),
-        [owner, name] => (Some(*owner), *name),
-        _ => return Err(missing()),
+    let item = |name: &str| {
+        let found = world.scopes.resolve(module, &[name]);
+        found.and_then(|it| item_of(it.definition)).ok_or_else(missing)
     };
     let mut found: Vec<Callee> = Vec::new();
     for of in types.iter().filter_map(|it| world::integer(it)) {
-        let (id, mut bindings) = match owner {
-            None => {
-                let found = world.scopes.resolve(module, &[name]);
-                let id = found.and_then(|it| item(&it.definition)).ok_or_else(missing)?;
-                (id, Bindings::new())
-            }
-            Some("T") => member(world, module, &of, name).ok_or_else(missing)?,
-            Some(owner) => {
-                let found = world.scopes.resolve(module, &[owner]);
-                let id = found.and_then(|it| item(&it.definition)).ok_or_else(missing)?;
+        let mut callee = match path.split_once("::") {
+            None => Callee { id: item(path)?, bindings: Bindings::new() },
+            Some(("T", name)) => world.member(&of, name).ok_or_else(missing)?,
+            Some((owner, name)) => {
+                let id = item(owner)?;
                 let arguments = vec![of.clone(); world.parameters(id).len()];
-                let own = Type::Item { id, arguments };
-                member(world, module, &own, name).ok_or_else(missing)?
+                let own = Type::Of(Form::Item(id), arguments);
+                world.member(&own, name).ok_or_else(missing)?
             }
         };
-        bindings.insert("T".into(), of);
-        let place = world.place(id)?;
-        bindings.retain(|name, _| place.parameters.contains_key(name));
-        found.push(Callee { id, bindings });
+        callee.bindings.insert("T".into(), of);
+        found.push(callee);
     }
     Ok(found)
-}
-
-fn member(world: &World, module: usize, of: &Type, name: &str) -> Option<(Id, Bindings)> {
-    let place = Place { module, self_type: None, parameters: Default::default() };
-    world.member(&place, of, name)
-}
-
-fn item(definition: &Definition) -> Option<Id> {
-    match definition {
-        Definition::Item { module, item } => {
-            Some(Id { module: *module, item: *item, member: None })
-        }
-        _ => None,
-    }
 }

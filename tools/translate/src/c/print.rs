@@ -1,7 +1,9 @@
 //! Functions and their statements as C.
 
-use super::ir::{Done, Function, Id, Operation, Statement, Term, TermKind, Type, all_terms};
-use super::special::{Chosen, Key, Special};
+use super::instances::called;
+use super::ir::{
+    Bindings, Callee, Done, Form, Function, Id, Kind, Statement, Term, Type, all_kinds,
+};
 use super::terms;
 use super::text::{self, comment, wrapped};
 use super::types::{Types, declared};
@@ -13,7 +15,7 @@ use std::collections::{BTreeMap, BTreeSet};
 pub struct Printer<'a> {
     pub world: &'a World<'a>,
     pub types: Types<'a>,
-    pub names: BTreeMap<Key, String>,
+    pub names: BTreeMap<Callee, String>,
     /// Whether operators say that nothing overflows.
     pub is_checked: bool,
     /// Small functions and constants by their names, in the order of their use.
@@ -21,9 +23,9 @@ pub struct Printer<'a> {
     pub known: BTreeMap<String, String>,
     pub functions: Vec<String>,
     /// The functions that other files call.
-    pub far: BTreeSet<Key>,
+    pub far: BTreeSet<Callee>,
     /// The functions that a compiler of C++20 may call.
-    pub constant: BTreeSet<Key>,
+    pub constant: BTreeSet<Callee>,
 }
 
 /// One function that is printed.
@@ -33,18 +35,20 @@ pub struct Body<'p, 'a> {
     pub names: Vec<String>,
     /// The names that are declared in the blocks around the current statement.
     scopes: Vec<BTreeSet<String>>,
-    /// The constants of merged types.
-    pub merged: BTreeMap<Id, String>,
     lines: String,
     indent: usize,
 }
 
 impl<'a> Printer<'a> {
-    pub fn new(special: &Special<'a>, is_checked: bool) -> Done<Printer<'a>> {
+    pub fn new(
+        world: &'a World<'a>,
+        functions: &[&Function],
+        is_checked: bool,
+    ) -> Done<Printer<'a>> {
         Ok(Printer {
-            world: special.world,
-            types: Types::new(special.world),
-            names: names(special)?,
+            world,
+            types: Types::new(world),
+            names: names(world, functions)?,
             is_checked,
             helpers: Vec::new(),
             known: BTreeMap::new(),
@@ -61,28 +65,27 @@ impl<'a> Printer<'a> {
     }
 
     /// Declares a function that another file defines, or prints a function behind those before it.
-    pub fn function(&mut self, chosen: &Chosen, is_declaration: bool) -> Done<()> {
-        let (world, id) = (self.world, chosen.key.0);
-        self.text(chosen, is_declaration).map(|text| self.functions.push(text)).map_err(|fault| {
+    pub fn function(&mut self, function: &Function, is_declaration: bool) -> Done<()> {
+        let (world, id) = (self.world, function.key.id);
+        let text = self.text(function, is_declaration);
+        text.map(|text| self.functions.push(text)).map_err(|fault| {
             // What has no type in C may not know its line.
             if fault.line.is_none() { world.fault_of(id, fault.reason) } else { fault }
         })
     }
 
-    fn text(&mut self, chosen: &Chosen, is_declaration: bool) -> Done<String> {
-        let Chosen { key, function, merged } = chosen;
+    fn text(&mut self, function: &Function, is_declaration: bool) -> Done<String> {
         let mut body = Body {
             printer: self,
             function,
             names: vec![String::new(); function.locals.len()],
             scopes: vec![BTreeSet::new()],
-            merged: BTreeMap::new(),
             lines: String::new(),
             indent: 1,
         };
-        let head = body.head(key, merged, is_declaration)?;
+        let head = body.head(is_declaration)?;
         if is_declaration {
-            let name = body.printer.names[key].clone();
+            let name = &body.printer.names[&function.key];
             return Ok(wrapped(&format!("{head} TK_SYMBOL({name});")) + "\n");
         }
         body.statements(&function.body)?;
@@ -96,6 +99,24 @@ impl<'a> Printer<'a> {
         self.helper(name, || format!("TK_CONSTEXPR {head}\n{{\n{check}    return {value};\n}}\n"));
     }
 
+    /// Adds the function that makes a part of a slice, and returns its name.
+    pub fn part(&mut self, kind: &str, from: &Type, of: &Type) -> Done<String> {
+        let (offsets, check, value) = match kind {
+            "from" => (", size_t low", "low <= s.len", "s.at + low, s.len - low"),
+            "to" => (", size_t high", "high <= s.len", "s.at, high"),
+            "between" => {
+                let check = "low <= high && high <= s.len";
+                (", size_t low, size_t high", check, "s.at + low, high - low")
+            }
+            _ => ("", "", "s.at, s.len"),
+        };
+        let (of, from) = (self.types.name(of)?, self.types.name(from)?);
+        let name = format!("{of}_{kind}");
+        let head = format!("{of} {name}({from} s{offsets})");
+        self.small(&name, &head, check, &format!("{of}_of({value})"));
+        Ok(name)
+    }
+
     /// Adds a small function or a constant, unless it is there.
     pub fn helper(&mut self, name: &str, text: impl FnOnce() -> String) {
         if !self.known.contains_key(name) {
@@ -107,20 +128,11 @@ impl<'a> Printer<'a> {
 }
 
 impl Body<'_, '_> {
-    fn head(&mut self, key: &Key, merged: &[Id], is_line: bool) -> Done<String> {
+    fn head(&mut self, is_line: bool) -> Done<String> {
         let (world, function) = (self.printer.world, self.function);
+        let key = &function.key;
+        let kinds = all_kinds(&function.body);
         let mut parameters = Vec::new();
-        for id in merged.iter().copied() {
-            let Some(of) = world.constant(id).transpose()? else { continue };
-            let name = match of {
-                Type::Boolean => format!("is_{}", text::snake(world.name(id))),
-                _ => text::local(world.name(id)),
-            };
-            self.scopes[0].insert(name.clone());
-            parameters.push(declared(&self.printer.types.name(&of)?, &name));
-            self.merged.insert(id, name);
-        }
-        let mut unread = Vec::new();
         for local in &function.parameters {
             let of = &function.locals[*local].of;
             if world.is_zero(of) {
@@ -129,38 +141,32 @@ impl Body<'_, '_> {
             self.name(*local);
             let name = &self.names[*local];
             parameters.push(declared(&self.printer.types.name(of)?, name));
-            let is_it = |it: &Term| matches!(it.kind, TermKind::Local(own) if own == *local);
-            if !all_terms(&function.body).iter().any(is_it) {
-                unread.push(format!("    (void){name};\n"));
+            if !kinds.contains(&Kind::Local(*local)) {
+                self.lines += &format!("    (void){name};\n");
             }
         }
-        self.lines = unread.concat();
-        let item = world.item(key.0);
-        let source = world.source(key.0);
+        let item = world.item(key.id);
+        let source = world.source(key.id);
         let place = format!("{}:{}", source.path.display(), source.line(item.span));
         // A function is explained once.
         let is_new = !is_line && self.printer.known.insert(place.clone(), String::new()).is_none();
-        let mut head = if is_new { explained(world, key.0) } else { String::new() };
+        let mut head = if is_new { explained(world, key.id) } else { String::new() };
         head += &format!("/* {} */\n", place.trim_start_matches("crates/"));
         let parameters = if parameters.is_empty() { "void".into() } else { parameters.join(", ") };
         let result = self.printer.types.name(&function.result)?;
         let name = self.printer.names[key].clone();
-        let is_recursive = calls_itself(function, key);
         // What calls itself cannot be inlined.
-        let is_called = super::CALLED.contains(&world.name(key.0));
+        let is_recursive = called(function).contains(key);
+        let is_called = super::CALLED.contains(&world.name(key.id));
         let qualifier =
             if is_recursive || is_called { "TK_NOINLINE" } else { qualifier(&item.notes) };
-        let qualifier = match (qualifier, self.printer.far.contains(key)) {
-            ("TK_COLD", true) => "TK_FAR_COLD",
-            (_, true) => "TK_FAR",
-            _ if self.printer.constant.contains(key) => "TK_CONSTEXPR",
-            (own, false) => own,
+        let qualifier = match self.printer.far.contains(key) {
+            true => "TK_FAR",
+            false if self.printer.constant.contains(key) => "TK_CONSTEXPR",
+            false => qualifier,
         };
         let line = format!("{qualifier} {}({parameters})", declared(&result, &name));
-        if is_line {
-            return Ok(line);
-        }
-        Ok(head + &wrapped(&line))
+        Ok(if is_line { line } else { head + &wrapped(&line) })
     }
 
     fn line(&mut self, line: &str) {
@@ -198,20 +204,23 @@ impl Body<'_, '_> {
     fn statement(&mut self, statement: &Statement) -> Done<()> {
         match statement {
             Statement::Comment(lines) => {
-                let source = self.printer.world.source(self.function.id);
+                let source = self.printer.world.source(self.function.key.id);
                 self.lines += &comment(source, lines, &"    ".repeat(self.indent));
             }
             Statement::Declare { local, value } => self.declare(*local, value.as_ref())?,
             Statement::Assign { place, value } => self.assign(place, value)?,
-            Statement::Evaluate(term) => self.with_term("", term, ";")?,
             Statement::If { condition, then, otherwise } => {
                 self.with_term("if (", condition, ") {")?;
                 self.inner(then)?;
-                self.otherwise(otherwise)?;
+                if !otherwise.is_empty() {
+                    self.line("} else {");
+                    self.inner(otherwise)?;
+                }
+                self.line("}");
             }
             Statement::While { condition, body } => {
                 match condition.kind {
-                    TermKind::Boolean(true) => self.line("for (;;) {"),
+                    Kind::Boolean(true) => self.line("for (;;) {"),
                     _ => self.with_term("while (", condition, ") {")?,
                 }
                 self.inner(body)?;
@@ -231,42 +240,22 @@ impl Body<'_, '_> {
         Ok(())
     }
 
-    fn otherwise(&mut self, otherwise: &[Statement]) -> Done<()> {
-        match otherwise {
-            [] => self.line("}"),
-            [Statement::If { condition, then, otherwise }] => {
-                self.with_term("} else if (", condition, ") {")?;
-                self.inner(then)?;
-                return self.otherwise(otherwise);
-            }
-            _ => {
-                self.line("} else {");
-                self.inner(otherwise)?;
-                self.line("}");
-            }
-        }
-        Ok(())
-    }
-
     fn declare(&mut self, local: usize, value: Option<&Term>) -> Done<()> {
         let of = &self.function.locals[local].of;
-        if self.printer.world.is_zero(of) {
-            return Ok(());
-        }
         // The value may name what the variable hides.
         let (mut is_array, mut text) = (false, String::new());
         if let Some(value) = value {
-            is_array = matches!(value.kind, TermKind::Elements(_));
-            text = match &value.kind {
-                TermKind::Elements(terms) => format!(" = {{{}}}", self.texts(terms)?.join(", ")),
-                _ => format!(" = {}", self.term(value)?.text),
+            is_array = value.kind == Kind::Elements;
+            text = match is_array {
+                true => format!(" = {}", terms::initializer(self, value)?),
+                false => format!(" = {}", self.term(value)?.text),
             };
         }
         self.name(local);
         let name = self.names[local].clone();
         let declared = match of {
-            Type::Array { element, length } if is_array => {
-                format!("const {} {name}[{length}]", self.printer.types.name(element)?)
+            Type::Of(Form::Array { length }, parts) if is_array => {
+                format!("const {} {name}[{length}]", self.printer.types.name(&parts[0])?)
             }
             _ => declared(&self.printer.types.name(of)?, &name),
         };
@@ -279,10 +268,10 @@ impl Body<'_, '_> {
         let target = &place_text.text;
         let is_short = place.of.integer().is_some_and(|it| (32..=64).contains(&it.bits));
         let (mut sign, mut value) = ("=", value);
-        if let TermKind::Operation(Operation::Binary(BinaryOperator::Add), terms) = &value.kind {
+        if value.kind == Kind::Binary(BinaryOperator::Add) {
             let is_shown = is_short && !self.printer.is_checked;
-            if is_shown && self.term(&terms[0])?.text == *target {
-                (sign, value) = ("+=", &terms[1]);
+            if is_shown && self.term(&value.parts[0])?.text == *target {
+                (sign, value) = ("+=", &value.parts[1]);
             }
         }
         let text = self.term(value)?.text;
@@ -291,11 +280,6 @@ impl Body<'_, '_> {
             _ => self.line(&format!("{target} {sign} {text};")),
         }
         Ok(())
-    }
-
-    /// Returns the texts of terms between commas.
-    pub fn texts(&mut self, terms: &[Term]) -> Done<Vec<String>> {
-        terms.iter().map(|term| Ok(self.term(term)?.text)).collect()
     }
 
     fn term(&mut self, term: &Term) -> Done<terms::Text> {
@@ -310,14 +294,10 @@ pub fn explained(world: &World, id: Id) -> String {
     comment(world.source(id), lines, "")
 }
 
-fn calls_itself(function: &Function, key: &Key) -> bool {
-    super::special::called(function).contains(key)
-}
-
 /// Says whether a function is one that callers do not contain.
-pub fn is_apart(world: &World, key: &Key, function: &Function) -> bool {
-    let qualifier = qualifier(&world.item(key.0).notes);
-    calls_itself(function, key) || qualifier == "TK_NOINLINE" || qualifier == "TK_COLD"
+pub fn is_apart(world: &World, function: &Function) -> bool {
+    let qualifier = qualifier(&world.item(function.key.id).notes);
+    called(function).contains(&function.key) || qualifier == "TK_NOINLINE" || qualifier == "TK_COLD"
 }
 
 // What a compiler has to do with a function, as its attributes say it.
@@ -333,54 +313,53 @@ fn qualifier(notes: &Notes) -> &'static str {
 }
 
 // Returns the names of functions. Those of one name get what they differ in.
-fn names(special: &Special) -> Done<BTreeMap<Key, String>> {
-    let mut named: BTreeMap<String, Vec<Key>> = BTreeMap::new();
-    for Chosen { key, .. } in &special.functions {
-        named.entry(plain_name(special, key)).or_default().push(key.clone());
+fn names(world: &World, functions: &[&Function]) -> Done<BTreeMap<Callee, String>> {
+    let mut named: BTreeMap<String, Vec<&Callee>> = BTreeMap::new();
+    for function in functions {
+        named.entry(plain_name(world, &function.key)?).or_default().push(&function.key);
     }
     let (mut names, mut taken) = (BTreeMap::new(), BTreeSet::new());
     for (name, keys) in named {
         for key in &keys {
             let own = match keys.len() {
                 1 => name.clone(),
-                _ => distinct_name(special, &name, key, &keys),
+                _ => distinct_name(world, &name, key, &keys),
             };
             if !taken.insert(own.clone()) {
-                return Err(special.world.fault_of(key.0, format!("two functions `{own}`")));
+                return Err(world.fault_of(key.id, format!("two functions `{own}`")));
             }
-            names.insert(key.clone(), format!("tk_{own}"));
+            names.insert((*key).clone(), format!("tk_{own}"));
         }
     }
     Ok(names)
 }
 
-fn plain_name(special: &Special, key: &Key) -> String {
-    let (world, types) = (special.world, Types::new(special.world));
-    let mut name = text::snake(world.name(key.0));
-    if let ItemKind::Implementation { .. } = world.owner(key.0).kind {
-        if let Ok(Some(own)) = world.place(key.0).map(|it| it.self_type) {
-            name = match own {
-                Type::Item { id, .. } => {
-                    let own = types.short(&Type::Item { id, arguments: Vec::new() });
-                    format!("{own}_{name}")
-                }
-                own => format!("{name}_{}", types.short(&own)),
-            };
-        }
+fn plain_name(world: &World, key: &Callee) -> Done<String> {
+    let types = Types::new(world);
+    let mut name = text::snake(world.name(key.id));
+    if let ItemKind::Implementation { .. } = world.owner(key.id).kind {
+        let place = world.place(key.id, &Bindings::new())?;
+        name = match &place.bindings["Self"] {
+            Type::Of(Form::Item(id), _) => {
+                let own = types.short(&Type::Of(Form::Item(*id), Vec::new()));
+                format!("{own}_{name}")
+            }
+            own => format!("{name}_{}", types.short(own)),
+        };
     }
-    let chosen = key.1.values().filter(|of| **of != Type::Merged && !world.is_zero(of));
-    name + &chosen.map(|of| format!("_{}", types.short(of))).collect::<String>()
+    let chosen = key.bindings.values().filter(|of| !world.is_zero(of));
+    Ok(name + &chosen.map(|of| format!("_{}", types.short(of))).collect::<String>())
 }
 
 // An engine that is chosen has no bytes, and two modules may have functions of one name.
-fn distinct_name(special: &Special, name: &str, key: &Key, keys: &[Key]) -> String {
-    let (world, types) = (special.world, Types::new(special.world));
-    if keys.iter().filter(|it| it.0 == key.0).count() > 1 {
-        let chosen = key.1.values().filter(|of| world.is_zero(of));
+fn distinct_name(world: &World, name: &str, key: &Callee, keys: &[&Callee]) -> String {
+    let types = Types::new(world);
+    if keys.iter().filter(|it| it.id == key.id).count() > 1 {
+        let chosen = key.bindings.values().filter(|of| world.is_zero(of));
         return name.to_string()
             + &chosen.map(|of| format!("_{}", types.short(of))).collect::<String>();
     }
-    let module = world.module(key.0);
+    let module = world.module(key.id);
     let own = module.path.last().map_or(module.crate_name, String::as_str);
     format!("{}_{name}", if own == "calls" { module.crate_name } else { own })
 }

@@ -1,12 +1,12 @@
 //! Terms as expressions of C. Casts say where C would widen a small number, and parentheses where a reader asks.
 
-use super::ir::{Done, Id, Integer, Shape, Term, TermKind, Type};
+use super::ir::{Done, Form, Id, Integer, Kind, PLAIN, Term, Type};
 use super::lower;
-use super::operations;
-use super::print::{Body, explained};
+use super::print::{Body, Printer, explained};
 use super::text;
 use super::types::{declared, integer_name, integer_type};
 use crate::source::Fault;
+use crate::tree::BinaryOperator;
 
 /// An expression, and how tightly its operator binds.
 pub struct Text {
@@ -15,12 +15,19 @@ pub struct Text {
 }
 
 pub const ATOM: u8 = 15;
-pub const UNARY: u8 = 14;
-pub const EQUALITY: u8 = 9;
+const UNARY: u8 = 14;
+const SUM: u8 = 12;
+const SHIFT: u8 = 11;
+const EQUALITY: u8 = 9;
+const AND: u8 = 5;
 const OR: u8 = 4;
 const CHOICE: u8 = 3;
 
-const U64: Type = Type::Integer(Integer { bits: 64, is_signed: false, is_size: false });
+/// The functions of the prelude for what C has no operator for, without `tk_`.
+const SMALL: &str = "u8_is_digit u32_min size_min size_max size_saturating_add size_saturating_sub \
+    u128_saturating_sub u128_sum_fits u128_product_fits u32_trailing_zeros u64_trailing_zeros \
+    i8_unsigned_abs i16_unsigned_abs i32_unsigned_abs i64_unsigned_abs i128_unsigned_abs \
+    i128_negate u16_load u32_load u64_load";
 
 impl Text {
     pub fn new(text: impl Into<String>, level: u8) -> Text {
@@ -39,55 +46,98 @@ impl Text {
 
 /// Prints a term.
 pub fn print(body: &mut Body, term: &Term) -> Done<Text> {
+    let world = body.printer.world;
+    let parts = term.parts.iter().filter(|it| !world.is_zero(&it.of));
+    let texts = parts.map(|part| print(body, part)).collect::<Done<Vec<Text>>>()?;
     Ok(match &term.kind {
-        TermKind::Number { value, hexadecimal } => {
+        Kind::Number { value, hexadecimal } => {
             number(*value, *hexadecimal, &term.of).ok_or_else(|| refuse(body, term, "a number"))?
         }
-        TermKind::Byte(byte) => character(*byte),
-        TermKind::Boolean(value) => Text::atom(value.to_string()),
-        TermKind::Text(bytes) => {
+        Kind::Byte(byte) => character(*byte),
+        Kind::Boolean(value) => Text::atom(value.to_string()),
+        Kind::Text(bytes) => {
             let is_plain =
                 bytes.iter().all(|it| matches!(it, b' '..=b'~') && !b"\"\\?".contains(it));
             let text = String::from_utf8(bytes.clone()).ok().filter(|_| is_plain);
-            Text::atom(format!(
-                "TK_TEXT(\"{}\")",
-                text.ok_or_else(|| refuse(body, term, "a text"))?
-            ))
+            let text = text.ok_or_else(|| refuse(body, term, "a text"))?;
+            Text::atom(format!("TK_TEXT(\"{text}\")"))
         }
-        TermKind::Local(local) => Text::atom(body.names[*local].clone()),
-        TermKind::Constant(id, owner) => constant(body, *id, owner.as_ref())?,
-        TermKind::Call { callee, arguments } => {
-            let key = (callee.id, callee.bindings.clone());
-            let name = body.printer.names.get(&key).cloned();
-            let name = name.ok_or_else(|| refuse(body, term, "a call"))?;
-            Text::atom(format!("{name}({})", body.texts(arguments)?.join(", ")))
+        Kind::Local(local) => Text::atom(body.names[*local].clone()),
+        Kind::Constant(id) => constant(body, *id)?,
+        Kind::Call(callee) => {
+            let name = body.printer.names.get(callee).cloned();
+            call(name.ok_or_else(|| refuse(body, term, "a call"))?, &texts)
         }
-        TermKind::Operation(operation, terms) => operations::print(body, *operation, terms, term)?,
-        TermKind::Cast(inner) => cast(body, inner, &term.of)?,
-        TermKind::Field(inner, field) => member(body, inner, Shape::Plain, *field)?,
-        TermKind::Payload(inner, shape, field) => member(body, inner, *shape, *field)?,
-        TermKind::Is(inner, shape) => is(body, inner, *shape)?,
-        TermKind::Make(shape, terms) => made(body, *shape, terms, term)?,
-        TermKind::Choice(terms) => {
-            let texts = terms.iter().map(|it| print(body, it)).collect::<Result<Vec<_>, _>>()?;
-            // Variants may have a member in common.
-            if texts[1].text == texts[2].text {
-                return Ok(Text::new(texts[1].text.clone(), texts[1].level));
+        Kind::Small(name) => {
+            let own = term.parts[0].of.integer().or(term.of.integer());
+            let name = own.map_or(String::new(), |own| format!("{}_{name}", integer_name(own)));
+            if !SMALL.split(' ').any(|it| it == name) {
+                return Err(refuse(body, term, "this operation"));
             }
-            let [test, then] = [&texts[0], &texts[1]].map(|it| it.at(OR));
-            Text::new(format!("{test} ? {then} : {}", texts[2].at(CHOICE)), CHOICE)
+            call(format!("tk_{name}"), &texts)
         }
-        TermKind::Address(inner) => Text::new(format!("&{}", print(body, inner)?.at(UNARY)), UNARY),
-        TermKind::Follow(inner) => match &inner.of {
-            Type::Pointer(target) if matches!(**target, Type::Array { .. }) => print(body, inner)?,
-            _ => Text::new(format!("*{}", print(body, inner)?.at(UNARY)), UNARY),
-        },
-        TermKind::Elements(_) => return Err(refuse(body, term, "an array here")),
+        Kind::Binary(operator) => binary(body, *operator, false, term, texts)?,
+        Kind::Wrapping(operator) => binary(body, *operator, true, term, texts)?,
+        Kind::Not => Text::new(format!("!{}", texts[0].at(UNARY)), UNARY),
+        Kind::Cast => cast(body, &term.parts[0], &texts[0], &term.of)?,
+        Kind::Make(variant) => made(body, *variant, &texts, &term.of)?,
+        Kind::Choice => {
+            let [test, then, other] = [texts[0].at(OR), texts[1].at(OR), texts[2].at(CHOICE)];
+            Text::new(format!("{test} ? {then} : {other}"), CHOICE)
+        }
+        Kind::Address => Text::new(format!("&{}", texts[0].at(UNARY)), UNARY),
+        Kind::Follow => Text::new(format!("*{}", texts[0].at(UNARY)), UNARY),
+        _ => part(body, term, &texts)?,
     })
 }
 
+// Prints a part of a value.
+fn part(body: &mut Body, term: &Term, texts: &[Text]) -> Done<Text> {
+    let Some(first) = term.parts.first() else { return Err(refuse(body, term, "this operation")) };
+    let own = texts[0].at(ATOM);
+    let argument = |at: usize| texts[at].text.as_str();
+    Ok(Text::atom(match (&term.kind, first.of.target()) {
+        (Kind::Field(variant, field), _) => {
+            let name = body.printer.types.field(&first.of, *variant, *field)?;
+            body.printer.types.name(&first.of)?;
+            match first.kind {
+                Kind::Follow => format!("{}->{name}", print(body, &first.parts[0])?.at(ATOM)),
+                _ => format!("{own}.{name}"),
+            }
+        }
+        (Kind::Is(variant), of) => {
+            let (test, is_comparison) = body.printer.types.test(of, *variant, &own)?;
+            let other = if test.starts_with('!') { UNARY } else { ATOM };
+            return Ok(Text::new(test, if is_comparison { EQUALITY } else { other }));
+        }
+        (Kind::At | Kind::Element, Type::Of(Form::Array { length }, _)) => {
+            format!("{own}[tk_index({}, {length})]", argument(1))
+        }
+        (Kind::OfArray, Type::Of(Form::Array { length }, _)) => {
+            format!("{}_of({}, {length})", body.printer.types.name(&term.of)?, argument(0))
+        }
+        (Kind::Length, _) => format!("{own}.len"),
+        (Kind::Element, _) => format!("{own}.at[{}]", argument(1)),
+        (Kind::At, _) => format!("{own}.at[tk_index({}, {own}.len)]", argument(1)),
+        (Kind::First, _) => format!("{own}.at"),
+        (Kind::Last, _) => {
+            return Ok(Text::new(format!("{own}.at + ({own}.len - {})", argument(1)), SUM));
+        }
+        (Kind::Part(name), _) => {
+            let name = body.printer.part(name, &first.of, &term.of)?;
+            return Ok(call(name, texts));
+        }
+        _ => return Err(refuse(body, term, "this operation")),
+    }))
+}
+
 pub fn refuse(body: &Body, term: &Term, what: &str) -> Fault {
-    body.printer.world.fault(body.function.id, term.span, format!("C: {what} has no rule"))
+    body.printer.world.fault(body.function.key.id, term.span, format!("C: {what} has no rule"))
+}
+
+fn call(name: String, texts: &[Text]) -> Text {
+    let arguments: Vec<&str> = texts.iter().map(|it| it.text.as_str()).collect();
+    Text::atom(format!("{name}({})", arguments.join(", ")))
 }
 
 fn number(value: u128, hexadecimal: usize, of: &Type) -> Option<Text> {
@@ -99,7 +149,7 @@ fn number(value: u128, hexadecimal: usize, of: &Type) -> Option<Text> {
     Some(Text::atom(match integer.bits {
         128 => {
             let (name, high) = (integer_name(integer), value >> 64);
-            let low = number(u128::from(value as u64), 0, &U64)?.text;
+            let low = number(u128::from(value as u64), 0, &Type::U64)?.text;
             match high {
                 0 => format!("tk_{name}_of({low})"),
                 _ => format!("tk_{name}_make(UINT64_C({high}), {low})"),
@@ -122,13 +172,8 @@ fn character(byte: u8) -> Text {
 }
 
 // A number is a macro, and other constants are variables.
-fn constant(body: &mut Body, id: Id, owner: Option<&Type>) -> Done<Text> {
+fn constant(body: &mut Body, id: Id) -> Done<Text> {
     let world = body.printer.world;
-    if owner == Some(&Type::Merged) {
-        let name = body.merged.get(&id).cloned();
-        let missing = || world.fault(id, world.item(id).span, "C: no such constant");
-        return Ok(Text::atom(name.ok_or_else(missing)?));
-    }
     let value = lower::constant(world, id)?;
     let name = text::snake(world.name(id));
     if let Type::Integer(_) | Type::Boolean = value.of {
@@ -143,9 +188,9 @@ fn constant(body: &mut Body, id: Id, owner: Option<&Type>) -> Done<Text> {
     }
     let (name, initial) = (format!("tk_{name}"), initializer(body, &value)?);
     let (mut of, mut lengths) = (&value.of, String::new());
-    while let Type::Array { element, length } = of {
+    while let Type::Of(Form::Array { length }, parts) = of {
         lengths += &format!("[{length}]");
-        of = element;
+        of = &parts[0];
     }
     let declared = declared(&body.printer.types.name(of)?, &name);
     let text = explained(world, id) + &format!("static const {declared}{lengths} = {initial};\n");
@@ -153,24 +198,24 @@ fn constant(body: &mut Body, id: Id, owner: Option<&Type>) -> Done<Text> {
     Ok(Text::atom(name))
 }
 
-// The value of a constant between braces.
-fn initializer(body: &mut Body, value: &Term) -> Done<String> {
-    match &value.kind {
-        TermKind::Make(Shape::Plain, terms) | TermKind::Elements(terms) => {
-            let parts = terms.iter().map(|it| initializer(body, it));
+/// Prints the value of a constant or an array, between braces.
+pub fn initializer(body: &mut Body, value: &Term) -> Done<String> {
+    match value.kind {
+        Kind::Make(PLAIN) | Kind::Elements => {
+            let parts = value.parts.iter().map(|it| initializer(body, it));
             let parts = parts.collect::<Done<Vec<String>>>()?;
             Ok(match parts.iter().map(|it| it.len() + 2).sum::<usize>() {
                 0..=90 => format!("{{{}}}", parts.join(", ")),
                 _ => format!("{{\n    {},\n}}", parts.join(",\n    ")),
             })
         }
-        TermKind::Field(inner, field) => {
-            let base = match &inner.kind {
-                TermKind::Constant(id, None) => lower::constant(body.printer.world, *id)?,
-                _ => (**inner).clone(),
+        Kind::Field(PLAIN, field) => {
+            let base = match value.parts[0].kind {
+                Kind::Constant(id) => lower::constant(body.printer.world, id)?,
+                _ => value.parts[0].clone(),
             };
             match base.kind {
-                TermKind::Make(Shape::Plain, terms) => initializer(body, &terms[*field]),
+                Kind::Make(PLAIN) => initializer(body, &base.parts[field]),
                 _ => Err(refuse(body, value, "this constant")),
             }
         }
@@ -178,70 +223,159 @@ fn initializer(body: &mut Body, value: &Term) -> Done<String> {
     }
 }
 
-fn cast(body: &mut Body, inner: &Term, of: &Type) -> Done<Text> {
-    let text = print(body, inner)?;
+fn cast(body: &Body, inner: &Term, text: &Text, of: &Type) -> Done<Text> {
     let to = of.integer().ok_or_else(|| refuse(body, inner, "a cast to this type"))?;
-    let to_name = integer_name(to);
+    let (name, value) = (integer_name(to), &text.text);
     let Some(from) = inner.of.integer() else {
         return match (&inner.of, to.bits) {
-            (Type::Boolean, 128) => Ok(Text::atom(format!("tk_{to_name}_of({})", text.text))),
-            (Type::Boolean, _) => Ok(cast_text(to, &text)),
+            (Type::Boolean, 128) => Ok(Text::atom(format!("tk_{name}_of({value})"))),
+            (Type::Boolean, _) => Ok(cast_to(to, text)),
             _ => Err(refuse(body, inner, "a cast of this type")),
         };
     };
     let from_name = integer_name(from);
     Ok(match (from.bits, to.bits) {
-        _ if integer_type(from) == integer_type(to) => text,
-        (128, 128) => Text::atom(format!("tk_{from_name}_as_{to_name}({})", text.text)),
+        _ if from == to => Text::new(value.clone(), text.level),
+        (128, 128) => Text::atom(format!("tk_{from_name}_as_{name}({value})")),
         (_, 128) if from.is_signed => {
             return Err(refuse(body, inner, "a signed number of 128 bits"));
         }
-        (_, 128) => Text::atom(format!("tk_{to_name}_of({})", text.text)),
+        (_, 128) => Text::atom(format!("tk_{name}_of({value})")),
         (128, bits) => {
-            let low = Text::atom(format!("tk_{from_name}_low({})", text.text));
-            if bits == 64 && !to.is_signed { low } else { cast_text(to, &low) }
+            let low = Text::atom(format!("tk_{from_name}_low({value})"));
+            if bits == 64 && !to.is_signed { low } else { cast_to(to, &low) }
         }
-        // Numbers of 64 bits, with and without another name.
-        (64, 64) if from.is_signed == to.is_signed => text,
-        _ => cast_text(to, &text),
+        _ => cast_to(to, text),
     })
 }
 
-pub fn cast_text(to: Integer, text: &Text) -> Text {
+fn cast_to(to: Integer, text: &Text) -> Text {
     Text::atom(format!("TK_CAST({}, {})", integer_type(to), text.text))
 }
 
-fn member(body: &mut Body, inner: &Term, shape: Shape, field: usize) -> Done<Text> {
-    let name = body.printer.types.field(&inner.of, shape, field)?;
-    body.printer.types.name(&inner.of)?;
-    Ok(Text::atom(match &inner.kind {
-        TermKind::Follow(pointer) => format!("{}->{name}", print(body, pointer)?.at(ATOM)),
-        _ => format!("{}.{name}", print(body, inner)?.at(ATOM)),
-    }))
+fn made(body: &mut Body, variant: usize, texts: &[Text], of: &Type) -> Done<Text> {
+    body.printer.types.name(of)?;
+    let fields: Vec<String> = texts.iter().map(|it| it.text.clone()).collect();
+    body.printer.types.made(of, variant, &fields).map(Text::atom)
 }
 
-fn is(body: &mut Body, inner: &Term, shape: Shape) -> Done<Text> {
-    let text = print(body, inner)?.at(ATOM);
-    Ok(match (shape, &inner.of) {
-        (Shape::Some, _) => Text::atom(format!("{text}.is_some")),
-        (Shape::Ok, _) => Text::atom(format!("{text}.is_ok")),
-        (Shape::None, _) => Text::new(format!("!{text}.is_some"), UNARY),
-        (Shape::Err, _) => Text::new(format!("!{text}.is_ok"), UNARY),
-        (Shape::Variant(variant), of) => {
-            let tag = if *of == Type::ErrorKind { "" } else { ".tag" };
-            Text::new(format!("{text}{tag} == {}", body.printer.types.tag(of, variant)), EQUALITY)
+// Returns an operator, its level, and the name of the function that stands for it.
+fn symbol(operator: BinaryOperator) -> (&'static str, u8, &'static str) {
+    match operator {
+        BinaryOperator::Or => ("||", OR, ""),
+        BinaryOperator::And => ("&&", AND, ""),
+        BinaryOperator::Equal => ("==", EQUALITY, "equal"),
+        BinaryOperator::NotEqual => ("!=", EQUALITY, "equal"),
+        BinaryOperator::Less => ("<", 10, "less"),
+        BinaryOperator::Greater => (">", 10, "less"),
+        BinaryOperator::LessOrEqual => ("<=", 10, "less"),
+        BinaryOperator::GreaterOrEqual => (">=", 10, "less"),
+        BinaryOperator::BitOr => ("|", 6, "or"),
+        BinaryOperator::BitXor => ("^", 7, "xor"),
+        BinaryOperator::BitAnd => ("&", 8, "and"),
+        BinaryOperator::ShiftLeft => ("<<", SHIFT, "shift_left"),
+        BinaryOperator::ShiftRight => (">>", SHIFT, "shift_right"),
+        BinaryOperator::Add => ("+", SUM, "add"),
+        BinaryOperator::Subtract => ("-", SUM, "sub"),
+        BinaryOperator::Multiply => ("*", 13, "mul"),
+        BinaryOperator::Divide => ("/", 13, "div"),
+        BinaryOperator::Remainder => ("%", 13, "rem"),
+    }
+}
+
+fn binary(
+    body: &mut Body,
+    operator: BinaryOperator,
+    is_wrapping: bool,
+    term: &Term,
+    mut texts: Vec<Text>,
+) -> Done<Text> {
+    use BinaryOperator::{Multiply, ShiftLeft};
+    let own = match term.parts[0].of {
+        Type::Integer(own) if own.bits == 128 => {
+            return Ok(wide(own, operator, is_wrapping, texts));
         }
-        _ => return Err(refuse(body, inner, "this test")),
+        Type::Integer(own) => Some(own).filter(|_| !operator.is_comparison()),
+        Type::Boolean => None,
+        _ => return Err(refuse(body, term, "a comparison of these")),
+    };
+    let (_, level, function) = symbol(operator);
+    let Some(own) = own else { return Ok(Text::new(joined(operator, &texts), level)) };
+    if is_wrapping && (own.is_signed || own.bits < 32) {
+        return Err(refuse(body, term, "a wrapping operation on this type"));
+    }
+    // C computes with `int`, which a product or a shift of 16 bits may exceed.
+    if own.bits < 32 && matches!(operator, Multiply | ShiftLeft) {
+        return Err(refuse(body, term, "this operation on so few bits"));
+    }
+    if operator.is_shift() && own.is_signed {
+        return Err(refuse(body, term, "a shift of a signed number"));
+    }
+    // A literal would be an `int`.
+    if let (true, Kind::Number { value, .. }) = (operator.is_shift(), &term.parts[0].kind) {
+        let is_long = own.bits == 64;
+        texts[0].text = if is_long { format!("UINT64_C({value})") } else { format!("{value}u") };
+    }
+    if body.printer.is_checked && !is_wrapping && !own.is_signed {
+        if let Some(check) = condition(operator, own) {
+            let name = format!("tk_{}_{function}", integer_name(own));
+            checked(body.printer, &name, own, operator, &check);
+            return Ok(call(name, &texts));
+        }
+    }
+    let text = Text::new(joined(operator, &texts), level);
+    Ok(if own.bits < 32 { cast_to(own, &text) } else { text })
+}
+
+// An operator on 128 bits, as a call: not all compilers have such numbers.
+fn wide(own: Integer, operator: BinaryOperator, is_wrapping: bool, mut texts: Vec<Text>) -> Text {
+    use BinaryOperator::{Greater, GreaterOrEqual, LessOrEqual, NotEqual};
+    if matches!(operator, Greater | LessOrEqual) {
+        texts.reverse();
+    }
+    let wrapping = if is_wrapping { "wrapping_" } else { "" };
+    let name = format!("tk_{}_{wrapping}{}", integer_name(own), symbol(operator).2);
+    let call = call(name, &texts);
+    match operator {
+        NotEqual | LessOrEqual | GreaterOrEqual => Text::new(format!("!{}", call.text), UNARY),
+        _ => call,
+    }
+}
+
+// Joins operands, with parentheses wherever compilers and readers ask for them.
+fn joined(operator: BinaryOperator, texts: &[Text]) -> String {
+    let (sign, level, _) = symbol(operator);
+    let is_bits = matches!(sign, "<<" | ">>" | "&" | "|" | "^");
+    let side = |text: &Text, least: u8, is_left: bool| {
+        let is_same = is_left && text.level == level && level != SHIFT;
+        let is_unclear =
+            is_bits && text.level < UNARY && !is_same || sign == "||" && text.level == AND;
+        if is_unclear { format!("({})", text.text) } else { text.at(least) }
+    };
+    format!("{} {sign} {}", side(&texts[0], level, true), side(&texts[1], level + 1, false))
+}
+
+// Returns what is proved of the operands of an operator.
+fn condition(operator: BinaryOperator, own: Integer) -> Option<String> {
+    let of = integer_type(own);
+    Some(match operator {
+        BinaryOperator::Add => format!("TK_CAST({of}, a + b) >= a"),
+        BinaryOperator::Subtract => "a >= b".into(),
+        BinaryOperator::Multiply => format!("b == 0 || a <= TK_CAST({of}, -1) / b"),
+        BinaryOperator::ShiftLeft | BinaryOperator::ShiftRight => format!("b < {}", own.bits),
+        BinaryOperator::Divide | BinaryOperator::Remainder => "b != 0".into(),
+        _ => return None,
     })
 }
 
-fn made(body: &mut Body, shape: Shape, terms: &[Term], term: &Term) -> Done<Text> {
-    body.printer.types.name(&term.of)?;
-    if let (Type::ErrorKind, Shape::Variant(variant)) = (&term.of, shape) {
-        return Ok(Text::atom(body.printer.types.tag(&term.of, variant)));
-    }
-    let world = body.printer.world;
-    let terms: Vec<Term> = terms.iter().filter(|it| !world.is_zero(&it.of)).cloned().collect();
-    let name = body.printer.types.maker(&term.of, shape);
-    Ok(Text::atom(format!("{name}({})", body.texts(&terms)?.join(", "))))
+// Adds a function that asserts what is proved of an operator, and applies it.
+fn checked(printer: &mut Printer, name: &str, own: Integer, operator: BinaryOperator, check: &str) {
+    let of = integer_type(own);
+    let sign = symbol(operator).0;
+    let second = if operator.is_shift() { "uint64_t" } else { of.as_str() };
+    let value = match own.bits {
+        8 | 16 => format!("TK_CAST({of}, TK_CAST(uint32_t, a) {sign} b)"),
+        _ => format!("a {sign} b"),
+    };
+    printer.small(name, &format!("{of} {name}({of} a, {second} b)"), check, &value);
 }

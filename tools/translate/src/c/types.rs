@@ -1,8 +1,8 @@
 //! The types of C: their names, and the structs that stand for tuples, `Option`, `Result`, structs and enums.
 
-use super::ir::{Done, Integer, Shape, Type};
+use super::ir::{Done, Form, Integer, NONE, Type};
 use super::text::{self, comment};
-use super::world::{ERROR_KINDS, World};
+use super::world::{Variant, World};
 use crate::source::Fault;
 use std::collections::BTreeMap;
 use std::path::Path;
@@ -15,15 +15,35 @@ pub struct Types<'a> {
     pub texts: Vec<String>,
 }
 
-/// The struct of C for a type: its members behind the one that says which shape a value has, and for each shape the
-/// members of its fields. Fields without bytes have none.
+/// The struct of C for a type: its members behind the one that says of which variant a value is, and for each variant
+/// the members of its fields. Fields without bytes have none.
 struct Layout {
+    variants: Vec<Variant>,
     members: Vec<(String, Type)>,
-    shapes: Vec<(Shape, Vec<Option<usize>>)>,
+    places: Vec<Vec<Option<usize>>>,
+}
+
+/// What says of which variant a value is.
+enum Tag {
+    None,
+    /// A member that is true for the first of two variants.
+    Boolean(&'static str),
+    Member,
+}
+
+impl Tag {
+    fn of(of: &Type, layout: &Layout) -> Tag {
+        match of {
+            Type::Of(Form::Option, _) => Tag::Boolean("is_some"),
+            Type::Of(Form::Result, _) => Tag::Boolean("is_ok"),
+            _ if layout.variants.len() < 2 => Tag::None,
+            _ => Tag::Member,
+        }
+    }
 }
 
 // The names of the fields of tuples.
-const ORDINALS: [&str; 3] = ["first", "second", "third"];
+const ORDINALS: [&str; 2] = ["first", "second"];
 
 // The names of types that are shorter in C.
 const RENAMED: [(&str, &str); 1] = [("AtoiSimdError", "error")];
@@ -38,31 +58,33 @@ impl<'a> Types<'a> {
         match of {
             Type::Integer(integer) => integer_name(*integer),
             Type::Boolean => "bool".into(),
-            Type::Slice { element, is_mutable: false } if **element == Type::BYTE => "bytes".into(),
-            Type::Slice { element, is_mutable } => {
-                format!("{}_{}", if *is_mutable { "room" } else { "slice" }, self.short(element))
-            }
-            Type::Option(value) => format!("option_{}", self.short(value)),
-            Type::Result(value, error) => match (self.short(value), self.short(error).as_str()) {
-                (value, "error") => format!("result_{value}"),
-                (value, error) => format!("result_{value}_{error}"),
-            },
-            Type::Tuple(parts) => {
-                let parts = parts.iter().filter(|part| !self.world.is_zero(part));
-                let parts: Vec<String> = parts.map(|part| self.short(part)).collect();
-                let kind = if parts.len() == 2 { "pair" } else { "tuple" };
-                format!("{kind}_{}", parts.join("_"))
-            }
-            Type::Item { id, arguments } => {
-                let name = self.world.name(*id);
+            Type::Of(form, parts) => self.short_of(*form, parts),
+            _ => "unknown".into(),
+        }
+    }
+
+    fn short_of(&self, form: Form, parts: &[Type]) -> String {
+        let is_left = |part: &&Type| match form {
+            Form::Item(_) => **part != Type::Marker,
+            _ => !self.world.is_zero(part),
+        };
+        let names: Vec<String> = parts.iter().filter(is_left).map(|it| self.short(it)).collect();
+        let joined = names.join("_");
+        match form {
+            Form::Slice { is_mutable: false } if joined == "u8" => "bytes".into(),
+            Form::Slice { is_mutable: false } => format!("slice_{joined}"),
+            Form::Slice { is_mutable: true } => format!("room_{joined}"),
+            Form::Option => format!("option_{joined}"),
+            Form::Result if names[1..] == ["error"] => format!("result_{}", names[0]),
+            Form::Result => format!("result_{joined}"),
+            Form::Tuple if names.len() == 2 => format!("pair_{joined}"),
+            Form::Array { .. } | Form::Pointer | Form::Tuple => "unknown".into(),
+            Form::Item(id) => {
+                let name = self.world.name(id);
                 let renamed = RENAMED.iter().find(|(from, _)| *from == name);
                 let name = renamed.map_or(text::snake(name), |(_, to)| to.to_string());
-                let arguments = arguments.iter().filter(|it| **it != Type::Merged);
-                let arguments = arguments.map(|it| format!("_{}", self.short(it)));
-                name + &arguments.collect::<String>()
+                std::iter::once(name).chain(names).collect::<Vec<_>>().join("_")
             }
-            Type::ErrorKind => "int_error_kind".into(),
-            _ => "unknown".into(),
         }
     }
 
@@ -71,12 +93,12 @@ impl<'a> Types<'a> {
         Ok(match of {
             Type::Integer(integer) => integer_type(*integer),
             Type::Boolean => "bool".into(),
-            Type::Array { element, .. } => format!("const {} *", self.name(element)?),
-            Type::Pointer(target) => match &**target {
-                Type::Array { element, .. } => format!("{} *", self.name(element)?),
+            Type::Of(Form::Array { .. }, parts) => format!("const {} *", self.name(&parts[0])?),
+            Type::Of(Form::Pointer, parts) => match &parts[0] {
+                Type::Of(Form::Array { .. }, parts) => format!("{} *", self.name(&parts[0])?),
                 target => format!("{} *", self.name(target)?),
             },
-            Type::Marker | Type::Merged | Type::Parameter(_) | Type::Variable(_) => {
+            Type::Marker | Type::Parameter(_) | Type::Variable(_) => {
                 return Err(self.unknown(of));
             }
             _ => {
@@ -102,157 +124,152 @@ impl<'a> Types<'a> {
     }
 
     fn definition(&mut self, of: &Type, name: &str) -> Done<String> {
-        if let Type::ErrorKind = of {
-            return Ok(self.tags(of, name, ERROR_KINDS.len()));
-        }
         let layout = self.layout(of)?;
-        let (mut lines, mut before) = (Vec::new(), String::new());
-        if let Type::Item { id, .. } = of {
+        let tags = layout.variants.iter().map(|it| format!("    {}", self.tag(of, &it.name)));
+        let tags = tags.collect::<Vec<String>>().join(",\n");
+        let tags = |name: &str| format!("typedef enum {name} {{\n{tags}\n}} {name};\n");
+        let (mut lines, mut before) = (String::new(), String::new());
+        if let Type::Of(Form::Item(id), _) = of {
             before = comment(self.world.source(*id), &self.world.item(*id).notes.docs, "");
         }
-        match layout.shapes[0].0 {
-            Shape::Some => lines.push("    bool is_some;".into()),
-            Shape::Ok => lines.push("    bool is_ok;".into()),
-            Shape::Variant(_) => {
-                before += &(self.tags(of, &format!("{name}_tag"), layout.shapes.len()) + "\n");
-                lines.push(format!("    {name}_tag tag;"));
+        match Tag::of(of, &layout) {
+            Tag::None => {}
+            Tag::Boolean(tag) => lines += &format!("    bool {tag};\n"),
+            Tag::Member => {
+                before += &(tags(&format!("{name}_tag")) + "\n");
+                lines += &format!("    {name}_tag tag;\n");
             }
-            _ => {}
         }
         for (name, of) in &layout.members {
-            lines.push(format!("    {};", declared(&self.name(of)?, name)));
+            lines += &format!("    {};\n", declared(&self.name(of)?, name));
         }
-        let lines = lines.join("\n");
-        let mut text = format!("{before}typedef struct {name} {{\n{lines}\n}} {name};\n");
-        for (shape, places) in &layout.shapes {
-            text += &self.maker_text(of, name, *shape, places, &layout.members)?;
+        let mut text = format!("{before}typedef struct {name} {{\n{lines}}} {name};\n");
+        for variant in 0..layout.variants.len() {
+            text += &self.maker_text(of, name, &layout, variant)?;
         }
         Ok(text)
     }
 
-    // Returns the definition of the constants that say which variant a value has.
-    fn tags(&self, of: &Type, name: &str, count: usize) -> String {
-        let tags: Vec<String> = (0..count).map(|it| format!("    {}", self.tag(of, it))).collect();
-        format!("typedef enum {name} {{\n{}\n}} {name};\n", tags.join(",\n"))
-    }
-
     // Fields of different variants share a member if they have one type.
     fn layout(&self, of: &Type) -> Done<Layout> {
-        let mut layout = Layout { members: Vec::new(), shapes: Vec::new() };
-        let members = &mut layout.members;
-        for shape in self.world.shapes(of) {
+        let variants = self.world.variants(of)?;
+        let (mut members, mut places) = (Vec::<(String, Type)>::new(), Vec::new());
+        for variant in &variants {
             let mut own: Vec<Option<usize>> = Vec::new();
-            let fields = self.world.fields(of, shape).ok_or_else(|| self.unknown(of))?;
-            for (name, of) in fields? {
-                if self.world.is_zero(&of) {
+            for (name, of) in &variant.fields {
+                if self.world.is_zero(of) {
                     own.push(None);
                     continue;
                 }
                 let number = name.parse::<usize>().ok();
-                let name = match (number, shape) {
-                    (Some(number), Shape::Plain) => {
-                        ORDINALS.get(number).ok_or_else(|| self.unknown(&of))?.to_string()
+                let name = match number {
+                    Some(number) if variants.len() == 1 => {
+                        ORDINALS.get(number).ok_or_else(|| self.unknown(of))?.to_string()
                     }
-                    (Some(_), _) => self.short(&of),
-                    (None, _) => text::local(&name),
+                    Some(_) => self.short(of),
+                    None => text::local(name),
                 };
-                let is_fitting = |at: usize, (other, other_of): &(String, Type)| {
-                    *other_of == of
-                        && !own.contains(&Some(at))
-                        && (number.is_some() || *other == name)
+                let fits = |at: usize| {
+                    let (other, other_of) = &members[at];
+                    let is_same = number.is_some() || *other == name;
+                    is_same && other_of == of && !own.contains(&Some(at))
                 };
-                let mut places = 0..members.len();
-                let place = places.find(|at| is_fitting(*at, &members[*at])).unwrap_or_else(|| {
-                    let is_variant = matches!(shape, Shape::Variant(_));
+                let place = (0..members.len()).find(|at| fits(*at)).unwrap_or_else(|| {
                     let count = members.iter().filter(|it| it.0.starts_with(&name)).count();
-                    let is_new = count == 0 || !is_variant;
+                    let is_new = count == 0 || variants.len() == 1;
                     let name = if is_new { name } else { format!("{name}_{}", count + 1) };
-                    members.push((name, of));
+                    members.push((name, of.clone()));
                     members.len() - 1
                 });
                 own.push(Some(place));
             }
-            layout.shapes.push((shape, own));
+            places.push(own);
         }
-        Ok(layout)
+        Ok(Layout { variants, members, places })
     }
 
-    /// Returns the name of a field of a value of this shape.
-    pub fn field(&self, of: &Type, shape: Shape, field: usize) -> Done<String> {
+    /// Returns the name of a field of a value of a variant.
+    pub fn field(&self, of: &Type, variant: usize, field: usize) -> Done<String> {
         let layout = self.layout(of)?;
-        let places = layout.shapes.iter().find(|(own, _)| *own == shape);
-        let place = places.and_then(|(_, places)| *places.get(field)?);
+        let place = layout.places.get(variant).and_then(|places| *places.get(field)?);
         place.map(|it| layout.members[it].0.clone()).ok_or_else(|| self.unknown(of))
     }
 
-    /// Returns the constant that says which variant a value has.
-    pub fn tag(&self, of: &Type, variant: usize) -> String {
-        let variant = text::snake(self.world.variant(of, variant));
-        format!("TK_{}_{variant}", self.short(of)).to_uppercase()
+    fn tag(&self, of: &Type, variant: &str) -> String {
+        format!("TK_{}_{}", self.short(of), text::snake(variant)).to_uppercase()
     }
 
-    /// Returns the function that makes a value of a shape.
-    pub fn maker(&self, of: &Type, shape: Shape) -> String {
-        let kind = self.short(of);
-        let own = kind.split_once('_').map_or("", |it| it.1);
-        match shape {
-            Shape::Variant(variant) => {
-                format!("tk_{kind}_{}", text::snake(self.world.variant(of, variant)))
-            }
-            Shape::Ok => format!("tk_ok_{own}"),
-            Shape::Err => format!("tk_err_{own}"),
-            Shape::Some => format!("tk_some_{own}"),
-            Shape::None => format!("tk_none_{own}"),
-            Shape::Plain if matches!(of, Type::Slice { .. }) => format!("tk_{kind}_of"),
-            Shape::Plain => format!("tk_new_{kind}"),
+    /// Returns the test whether a value is of a variant, and whether it is a comparison.
+    pub fn test(&self, of: &Type, variant: usize, value: &str) -> Done<(String, bool)> {
+        let layout = self.layout(of)?;
+        let tag = self.tag(of, &layout.variants[variant].name);
+        match Tag::of(of, &layout) {
+            Tag::None => Err(self.unknown(of)),
+            Tag::Member => Ok((format!("{value}.tag == {tag}"), true)),
+            Tag::Boolean(tag) if variant == NONE => Ok((format!("!{value}.{tag}"), false)),
+            Tag::Boolean(tag) => Ok((format!("{value}.{tag}"), false)),
         }
     }
 
-    // Returns the function that makes values of a shape. It sets all members.
+    /// Returns a value of a variant, by its function.
+    pub fn made(&self, of: &Type, variant: usize, fields: &[String]) -> Done<String> {
+        let maker = self.maker(of, &self.layout(of)?, variant);
+        Ok(format!("{maker}({})", fields.join(", ")))
+    }
+
+    // Returns the function that makes values of a variant.
+    fn maker(&self, of: &Type, layout: &Layout, variant: usize) -> String {
+        let (kind, name) = (self.short(of), text::snake(&layout.variants[variant].name));
+        match Tag::of(of, layout) {
+            Tag::Boolean(_) => format!("tk_{name}_{}", kind.split_once('_').map_or("", |it| it.1)),
+            Tag::None if !of.is_slice() => format!("tk_{name}_{kind}"),
+            _ => format!("tk_{kind}_{name}"),
+        }
+    }
+
+    // Returns the text of that function. It sets all members.
     fn maker_text(
         &mut self,
         of: &Type,
         name: &str,
-        shape: Shape,
-        places: &[Option<usize>],
-        members: &[(String, Type)],
+        layout: &Layout,
+        variant: usize,
     ) -> Done<String> {
+        let places = &layout.places[variant];
         let mut parameters = Vec::new();
         for place in places.iter().flatten() {
-            let (member, of) = &members[*place];
+            let (member, of) = &layout.members[*place];
             parameters.push(declared(&self.name(of)?, member));
         }
-        let mut values: Vec<String> = match shape {
-            Shape::Variant(variant) => vec![self.tag(of, variant)],
-            Shape::Some | Shape::Ok => vec!["true".into()],
-            Shape::None | Shape::Err => vec!["false".into()],
-            Shape::Plain => Vec::new(),
+        let mut values: Vec<String> = match Tag::of(of, layout) {
+            Tag::Boolean(_) => vec![(variant != NONE).to_string()],
+            Tag::Member => vec![self.tag(of, &layout.variants[variant].name)],
+            Tag::None => Vec::new(),
         };
-        for (place, (member, of)) in members.iter().enumerate() {
+        for (place, (member, of)) in layout.members.iter().enumerate() {
             let is_set = places.contains(&Some(place));
             values.push(if is_set { member.clone() } else { self.zero(of)? });
         }
         let parameters = if parameters.is_empty() { "void".into() } else { parameters.join(", ") };
-        let (maker, values) = (self.maker(of, shape), values.join(", "));
+        let (maker, values) = (self.maker(of, layout, variant), values.join(", "));
         let head = text::wrapped(&format!("TK_CONSTEXPR {name} {maker}({parameters})"));
         let line = text::wrapped(&format!("    return TK_MAKE({name}, {values});"));
         Ok(format!("\n{head}\n{{\n{line}\n}}\n"))
     }
 
-    // Returns a value for a member that is not used: `None`, or one of the first shape.
+    // Returns a value for a member that is not used: `None`, or one of the first variant.
     fn zero(&self, of: &Type) -> Done<String> {
         Ok(match of {
             Type::Integer(it) if it.bits == 128 => format!("tk_{}_of(0)", integer_name(*it)),
             Type::Integer(_) => "0".into(),
             Type::Boolean => "false".into(),
-            Type::Array { .. } | Type::Pointer(_) => "NULL".into(),
+            Type::Of(Form::Array { .. } | Form::Pointer, _) => "NULL".into(),
             _ => {
-                let Layout { members, shapes } = self.layout(of)?;
-                let none = shapes.iter().find(|(shape, _)| *shape == Shape::None);
-                let (shape, places) = none.unwrap_or(&shapes[0]);
-                let values = places.iter().flatten().map(|it| self.zero(&members[*it].1));
-                let values = values.collect::<Done<Vec<String>>>()?;
-                format!("{}({})", self.maker(of, *shape), values.join(", "))
+                let layout = self.layout(of)?;
+                let variant = if let Type::Of(Form::Option, _) = of { NONE } else { 0 };
+                let places = layout.places[variant].iter().flatten();
+                let values = places.map(|it| self.zero(&layout.members[*it].1));
+                self.made(of, variant, &values.collect::<Done<Vec<String>>>()?)?
             }
         })
     }

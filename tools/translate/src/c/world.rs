@@ -1,46 +1,57 @@
 //! What the sources declare: functions, constants, types and their members, by their numbers.
 
-use super::ir::{Bindings, Done, Id, Integer, Shape, Type};
+use super::ir::{Bindings, Callee, Done, Form, Id, Integer, Type};
 use crate::modules::{Module, Package};
 use crate::resolve::{Definition, Resolved, Scopes};
 use crate::source::{Fault, Source, Span};
 use crate::tree::{
-    ExpressionKind, Field, Function, GenericArgument, GenericKind, GenericParameter, Item,
-    ItemKind, Literal, LiteralKind, Path, Type as TreeType, TypeKind,
+    ExpressionKind, Field, Function, GenericArgument, GenericKind, Item, ItemKind, LiteralKind,
+    Path, Type as TreeType, TypeKind,
 };
-use std::collections::BTreeMap;
-
-/// The variants of `IntErrorKind`.
-pub const ERROR_KINDS: [&str; 5] = ["Empty", "InvalidDigit", "PosOverflow", "NegOverflow", "Zero"];
 
 pub struct World<'a> {
     pub package: &'a Package,
     pub scopes: &'a Scopes<'a>,
-    implementations: Vec<(Id, &'a Item)>,
+    implementations: Vec<Implementation>,
 }
 
-/// Where a type is written: its module, and what `Self` and the parameters are.
+/// An `impl`: the type that it is for, with its parameters, and the trait.
+struct Implementation {
+    id: Id,
+    target: Type,
+    of_trait: Option<Id>,
+}
+
+/// One way to make values of a type: its name, and the names and types of its fields.
+pub struct Variant {
+    pub name: String,
+    pub fields: Vec<(String, Type)>,
+}
+
+/// Where a type is written: its module, and what `Self` and the parameters stand for.
 #[derive(Clone)]
 pub struct Place {
     pub module: usize,
-    pub self_type: Option<Type>,
-    /// The traits that each parameter implements.
-    pub parameters: BTreeMap<String, Vec<Id>>,
+    pub bindings: Bindings,
 }
 
 impl<'a> World<'a> {
     pub fn new(package: &'a Package, scopes: &'a Scopes<'a>) -> World<'a> {
-        let mut implementations = Vec::new();
+        let mut world = World { package, scopes, implementations: Vec::new() };
         // C has words only.
         let of_words = |(_, it): &(usize, &Module)| it.crate_name != "atoi_lanes";
         for (module, found) in package.modules.iter().enumerate().filter(of_words) {
             for (item, it) in found.tree.items.iter().enumerate() {
-                if let ItemKind::Implementation { .. } = it.kind {
-                    implementations.push((Id { module, item, member: None }, it));
-                }
+                let ItemKind::Implementation { of, .. } = &it.kind else { continue };
+                let id = Id { module, item, member: None };
+                // What C has no type for has no functions in C.
+                let Ok(mut place) = world.place(id, &Bindings::new()) else { continue };
+                let Some(target) = place.bindings.remove("Self") else { continue };
+                let of_trait = of.as_ref().and_then(|path| world.trait_of(module, path));
+                world.implementations.push(Implementation { id, target, of_trait });
             }
         }
-        World { package, scopes, implementations }
+        world
     }
 
     pub fn module(&self, id: Id) -> &'a Module {
@@ -70,93 +81,65 @@ impl<'a> World<'a> {
         self.item(id).function()
     }
 
-    /// Returns the type of a constant.
-    pub fn constant(&self, id: Id) -> Option<Done<Type>> {
-        let ItemKind::Constant { annotation, .. } = &self.item(id).kind else { return None };
-        Some(self.place(id).and_then(|place| self.type_in(&place, annotation)))
-    }
-
-    pub fn is_of_trait(&self, id: Id) -> bool {
-        id.member.is_some() && matches!(self.owner(id).kind, ItemKind::Trait { .. })
-    }
-
     /// Finds what the start of a path stands for.
     pub fn resolve(&self, module: usize, path: &Path) -> Option<Resolved> {
         self.scopes.resolve(module, &path.names())
     }
 
     fn trait_of(&self, module: usize, path: &Path) -> Option<Id> {
-        match self.resolve(module, path)?.definition {
-            Definition::Item { module, item } => Some(Id { module, item, member: None }),
-            _ => None,
-        }
+        item_of(self.resolve(module, path)?.definition)
     }
 
-    /// Returns the place in a function or a constant: what its owner and its own generics declare.
-    pub fn place(&self, id: Id) -> Done<Place> {
-        let mut place = Place { module: id.module, self_type: None, parameters: BTreeMap::new() };
-        let owner = self.owner(id);
-        self.declare(&mut place, &owner.generics);
-        match &owner.kind {
-            ItemKind::Implementation { target, .. } => {
-                place.self_type = Some(self.type_in(&place, target)?);
-            }
-            ItemKind::Trait { .. } => {
-                let own = Id { member: None, ..id };
-                place.parameters.insert("Self".into(), vec![own]);
-                place.self_type = Some(Type::Parameter("Self".into()));
-            }
-            _ => {}
+    /// Returns the place in an item: what it and its owner declare, and what is known of that.
+    pub fn place(&self, id: Id, known: &Bindings) -> Done<Place> {
+        let own = Id { member: None, ..id };
+        let mut names = [self.parameters(own), self.parameters(id)].concat();
+        if let ItemKind::Trait { .. } = self.owner(id).kind {
+            names.push("Self".into());
         }
-        self.declare(&mut place, &self.item(id).generics);
+        let open = names.into_iter().map(|name| (name.clone(), Type::Parameter(name)));
+        let mut place = Place { module: id.module, bindings: open.collect() };
+        place.bindings.extend(known.clone());
+        if let ItemKind::Implementation { target, .. } = &self.owner(id).kind {
+            let target = self.type_in(&place, target)?;
+            place.bindings.insert("Self".into(), target);
+        }
         Ok(place)
-    }
-
-    fn declare(&self, place: &mut Place, generics: &[GenericParameter]) {
-        for parameter in generics {
-            if let GenericKind::Type(bounds) = &parameter.kind {
-                let traits = bounds.iter().filter_map(|path| self.trait_of(place.module, path));
-                place.parameters.insert(parameter.name.text.clone(), traits.collect());
-            }
-        }
     }
 
     /// Returns the type that is written at a place.
     pub fn type_in(&self, place: &Place, tree: &TreeType) -> Done<Type> {
         let source = &self.package.modules[place.module].source;
-        let boxed = |inner| Ok::<_, Fault>(Box::new(self.type_in(place, inner)?));
         match &tree.kind {
             TypeKind::Path(path) => self.named_type(place, path),
             TypeKind::Tuple(parts) => {
                 let parts: Result<_, _> = parts.iter().map(|it| self.type_in(place, it)).collect();
-                Ok(Type::Tuple(parts?))
+                Ok(Type::Of(Form::Tuple, parts?))
             }
             TypeKind::Reference { is_mutable, target, .. } => match &target.kind {
                 TypeKind::Slice(element) => {
-                    Ok(Type::Slice { element: boxed(element)?, is_mutable: *is_mutable })
+                    Ok(Type::slice(self.type_in(place, element)?, *is_mutable))
                 }
-                _ if *is_mutable => Ok(Type::Pointer(boxed(target)?)),
+                _ if *is_mutable => Ok(Type::pointer(self.type_in(place, target)?)),
                 _ => self.type_in(place, target),
             },
             TypeKind::Slice(_) => Err(source.fault(tree.span, "C: a slice without a reference")),
-            TypeKind::Array { element, length } => match &length.kind {
-                ExpressionKind::Literal(Literal { kind: LiteralKind::Integer(length), .. }) => {
-                    Ok(Type::Array { element: boxed(element)?, length: *length })
+            TypeKind::Array { element, length } => {
+                if let ExpressionKind::Literal(literal) = &length.kind {
+                    if let LiteralKind::Integer(value) = literal.kind {
+                        return Ok(Type::array(self.type_in(place, element)?, value));
+                    }
                 }
-                _ => Err(source.fault(tree.span, "C: the length of this array")),
-            },
+                Err(source.fault(tree.span, "C: the length of this array"))
+            }
         }
     }
 
     fn named_type(&self, place: &Place, path: &Path) -> Done<Type> {
         let source = &self.package.modules[place.module].source;
-        let first = &path.segments[0].name.text;
-        if path.segments.len() == 1 {
-            if let ("Self", Some(own)) = (first.as_str(), &place.self_type) {
-                return Ok(own.clone());
-            }
-            if place.parameters.contains_key(first) {
-                return Ok(Type::Parameter(first.clone()));
+        if let [only] = path.segments.as_slice() {
+            if let Some(known) = place.bindings.get(&only.name.text) {
+                return Ok(known.clone());
             }
         }
         let unknown = || source.fault(path.span, "C: this type has no rule");
@@ -165,24 +148,23 @@ impl<'a> World<'a> {
             GenericArgument::Type(argument) => Some(self.type_in(place, argument)),
             _ => None,
         });
-        let mut arguments = arguments.collect::<Done<Vec<Type>>>()?;
-        let id = match found.definition {
-            Definition::Foreign(name) => {
-                return foreign_type(&name, &mut arguments).ok_or_else(unknown);
-            }
-            Definition::Item { module, item } if found.used == path.segments.len() => {
-                Id { module, item, member: None }
-            }
-            _ => return Err(unknown()),
-        };
+        let arguments = arguments.collect::<Done<Vec<Type>>>()?;
+        if let Definition::Foreign(name) = found.definition {
+            return foreign_type(&name, arguments).ok_or_else(unknown);
+        }
+        let is_whole = found.used == path.segments.len();
+        let id = item_of(found.definition).filter(|_| is_whole).ok_or_else(unknown)?;
         match &self.item(id).kind {
-            ItemKind::Struct { .. } | ItemKind::Enum(_) => Ok(Type::Item { id, arguments }),
-            ItemKind::Alias(target) => {
-                let bindings = self.parameters(id).into_iter().zip(arguments).collect();
-                Ok(self.type_in(&self.place(id)?, target)?.with(&bindings))
-            }
+            ItemKind::Struct { .. } | ItemKind::Enum(_) => Ok(Type::Of(Form::Item(id), arguments)),
+            ItemKind::Alias(target) => self.type_in(&self.place_of(id, &arguments)?, target),
             _ => Err(unknown()),
         }
+    }
+
+    // Returns the place in an item for what its parameters stand for.
+    fn place_of(&self, id: Id, arguments: &[Type]) -> Done<Place> {
+        let known = self.parameters(id).into_iter().zip(arguments.iter().cloned()).collect();
+        self.place(id, &known)
     }
 
     /// Returns the type parameters of an item.
@@ -192,157 +174,114 @@ impl<'a> World<'a> {
         names.map(|it| it.name.text.clone()).collect()
     }
 
-    /// Returns the shapes that values of a type have.
-    pub fn shapes(&self, of: &Type) -> Vec<Shape> {
-        match of {
-            Type::Option(_) => vec![Shape::Some, Shape::None],
-            Type::Result(..) => vec![Shape::Ok, Shape::Err],
-            Type::Item { id, .. } => match &self.item(*id).kind {
-                ItemKind::Enum(variants) => (0..variants.len()).map(Shape::Variant).collect(),
-                _ => vec![Shape::Plain],
-            },
-            _ => vec![Shape::Plain],
-        }
+    /// Returns the variants of a type. A struct or a tuple has one.
+    pub fn variants(&self, of: &Type) -> Done<Vec<Variant>> {
+        let variant = |name: &str, fields: &[(&str, &Type)]| {
+            let fields = fields.iter().map(|(name, of)| (name.to_string(), (*of).clone()));
+            Variant { name: name.into(), fields: fields.collect() }
+        };
+        let Type::Of(form, parts) = of else { return Ok(Vec::new()) };
+        Ok(match *form {
+            Form::Option => vec![variant("some", &[("value", &parts[0])]), variant("none", &[])],
+            Form::Result => {
+                vec![
+                    variant("ok", &[("value", &parts[0])]),
+                    variant("err", &[("error", &parts[1])]),
+                ]
+            }
+            Form::Tuple => {
+                let names = (0..parts.len()).map(|it| it.to_string());
+                vec![Variant { name: "new".into(), fields: names.zip(parts.clone()).collect() }]
+            }
+            Form::Slice { is_mutable } => {
+                let array = Type::array(parts[0].clone(), 0);
+                let at = if is_mutable { Type::pointer(array) } else { array };
+                vec![variant("of", &[("at", &at), ("len", &Type::SIZE)])]
+            }
+            Form::Array { .. } | Form::Pointer => Vec::new(),
+            Form::Item(id) => {
+                let place = self.place_of(id, parts)?;
+                match &self.item(id).kind {
+                    ItemKind::Struct { fields, .. } => vec![self.variant(&place, "new", fields)?],
+                    ItemKind::Enum(variants) => {
+                        let all = variants.iter();
+                        all.map(|it| self.variant(&place, &it.name.text, &it.fields))
+                            .collect::<Done<_>>()?
+                    }
+                    _ => Vec::new(),
+                }
+            }
+        })
     }
 
-    /// Returns the names and types of the fields of a shape, if the type has it.
-    pub fn fields(&self, of: &Type, shape: Shape) -> Option<Done<Vec<(String, Type)>>> {
-        let one = |name: &str, of: &Type| (name.to_string(), of.clone());
-        Some(Ok(match (of, shape) {
-            (Type::Option(of), Shape::Some) | (Type::Result(of, _), Shape::Ok) => {
-                vec![one("value", of)]
-            }
-            (Type::Result(_, of), Shape::Err) => vec![one("error", of)],
-            (Type::Option(_), Shape::None) | (Type::ErrorKind, _) => Vec::new(),
-            (Type::Tuple(parts), Shape::Plain) => {
-                parts.iter().enumerate().map(|(at, of)| one(&at.to_string(), of)).collect()
-            }
-            (Type::Slice { element, is_mutable }, Shape::Plain) => {
-                let array = Type::Array { element: element.clone(), length: 0 };
-                let at = if *is_mutable { Type::Pointer(Box::new(array)) } else { array };
-                vec![one("at", &at), one("len", &Type::SIZE)]
-            }
-            (Type::Item { id, arguments }, shape) => {
-                let fields = match (&self.item(*id).kind, shape) {
-                    (ItemKind::Struct { fields, .. }, Shape::Plain) => fields,
-                    (ItemKind::Enum(variants), Shape::Variant(it)) => &variants[it].fields,
-                    _ => return None,
-                };
-                return Some(self.declared_fields(*id, fields, arguments));
-            }
-            _ => return None,
-        }))
-    }
-
-    fn declared_fields(
-        &self,
-        id: Id,
-        fields: &[Field],
-        arguments: &[Type],
-    ) -> Done<Vec<(String, Type)>> {
-        let place = self.place(id)?;
-        let bindings = self.parameters(id).into_iter().zip(arguments.iter().cloned()).collect();
-        let types = fields.iter().map(|field| {
-            let of = self.type_in(&place, &field.annotation)?;
-            Ok((field.name.text.clone(), of.with(&bindings)))
-        });
-        types.collect()
-    }
-
-    /// Returns the name of a variant.
-    pub fn variant(&self, of: &Type, variant: usize) -> &'a str {
-        match of {
-            Type::Item { id, .. } => match &self.item(*id).kind {
-                ItemKind::Enum(variants) => &variants[variant].name.text,
-                _ => "",
-            },
-            _ => ERROR_KINDS[variant],
-        }
+    fn variant(&self, place: &Place, name: &str, fields: &[Field]) -> Done<Variant> {
+        let field = |it: &Field| Ok((it.name.text.clone(), self.type_in(place, &it.annotation)?));
+        let fields = fields.iter().map(field).collect::<Done<_>>()?;
+        Ok(Variant { name: name.into(), fields })
     }
 
     /// Says whether values of a type have no bytes.
     pub fn is_zero(&self, of: &Type) -> bool {
         match of {
             Type::Marker => true,
-            Type::Pointer(target) => self.is_zero(target),
-            Type::Tuple(_) | Type::Item { .. } => match self.fields(of, Shape::Plain) {
-                Some(Ok(fields)) => fields.iter().all(|(_, of)| self.is_zero(of)),
+            Type::Of(Form::Pointer, parts) => self.is_zero(&parts[0]),
+            Type::Of(Form::Tuple | Form::Item(_), _) => match self.variants(of).as_deref() {
+                Ok([only]) => only.fields.iter().all(|(_, of)| self.is_zero(of)),
                 _ => false,
             },
             _ => false,
         }
     }
 
-    /// Finds a member of a type by its name, and the generics of its `impl`.
-    pub fn member(&self, place: &Place, of: &Type, name: &str) -> Option<(Id, Bindings)> {
-        if let Type::Parameter(parameter) = of {
-            let traits = place.parameters.get(parameter)?;
-            return traits.iter().find_map(|it| self.member_of_trait(*it, of, name));
-        }
-        let fitting = || {
-            self.implementations
-                .iter()
-                .filter_map(|(id, found)| Some((*id, *found, self.matches(*id, found, of)?)))
+    /// Returns a type in which markers stand for arguments that its values hold nothing of.
+    pub fn erased(&self, of: &Type) -> Type {
+        let Type::Of(Form::Item(id), parts) = of else {
+            return of.map(&mut |part| self.erased(part));
         };
-        for (id, found, bindings) in fitting() {
-            if let Some(member) = position(found, name) {
-                return Some((Id { member: Some(member), ..id }, bindings));
-            }
+        let names = self.parameters(*id);
+        let own = names.iter().cloned().map(Type::Parameter).collect();
+        let variants = self.variants(&Type::Of(Form::Item(*id), own)).unwrap_or_default();
+        let fields: Vec<(String, Type)> = variants.into_iter().flat_map(|it| it.fields).collect();
+        let holds = |name: &String| fields.iter().any(|(_, of)| self.erased(of).has(name));
+        let parts = names.iter().zip(parts).map(|(name, part)| match holds(name) {
+            true => self.erased(part),
+            false => Type::Marker,
+        });
+        Type::Of(Form::Item(*id), parts.collect())
+    }
+
+    /// Finds a member of a type by its name: one of its own, or one that a trait of it provides.
+    pub fn member(&self, of: &Type, name: &str) -> Option<Callee> {
+        let fitting = || {
+            let all = self.implementations.iter();
+            all.filter_map(|it| Some((it, matched(&it.target, of)?)))
+        };
+        let own =
+            fitting().find_map(|(it, bindings)| Some((self.position(it.id, name)?, bindings)));
+        if let Some((id, bindings)) = own {
+            return Some(Callee { id, bindings });
         }
-        fitting()
-            .find_map(|(id, found, _)| self.member_of_trait(self.implemented(id, found)?, of, name))
+        fitting().find_map(|(it, _)| self.provided(it.of_trait?, of, name))
     }
 
     // Finds a member of a trait or of those before it.
-    fn member_of_trait(&self, id: Id, of: &Type, name: &str) -> Option<(Id, Bindings)> {
-        let ItemKind::Trait { bound, .. } = &self.item(id).kind else { return None };
-        if let Some(member) = position(self.item(id), name) {
+    fn provided(&self, id: Id, of: &Type, name: &str) -> Option<Callee> {
+        if let Some(id) = self.position(id, name) {
             let bindings = Bindings::from([("Self".to_string(), of.clone())]);
-            return Some((Id { member: Some(member), ..id }, bindings));
+            return Some(Callee { id, bindings });
         }
-        self.member_of_trait(self.trait_of(id.module, bound.as_ref()?)?, of, name)
+        let ItemKind::Trait { bound, .. } = &self.item(id).kind else { return None };
+        self.provided(self.trait_of(id.module, bound.as_ref()?)?, of, name)
     }
 
-    // The trait of an `impl`.
-    fn implemented(&self, id: Id, found: &Item) -> Option<Id> {
-        let ItemKind::Implementation { of, .. } = &found.kind else { return None };
-        self.trait_of(id.module, of.as_ref()?)
-    }
-
-    /// Finds the member that stands for one of a trait, for a type without parameters.
-    pub fn dispatch(&self, id: Id, of: &Type) -> Option<(Id, Bindings)> {
-        let own = Id { member: None, ..id };
-        let name = self.name(id);
-        let found = self.implementations.iter().find_map(|(other, found)| {
-            let of_trait = self.implemented(*other, found)?;
-            let bindings = self.matches(*other, found, of).filter(|_| of_trait == own)?;
-            Some((*other, position(found, name), bindings))
-        });
-        let (other, member, bindings) = found?;
-        match member {
-            Some(member) => Some((Id { member: Some(member), ..other }, bindings)),
-            None => Some((id, Bindings::from([("Self".to_string(), of.clone())]))),
-        }
-    }
-
-    // Returns what the generics of an `impl` stand for if it is one of this type. An `impl` for each type with
-    // some trait is of none: only engines that read byte by byte have one.
-    fn matches(&self, id: Id, found: &Item, of: &Type) -> Option<Bindings> {
-        let place = self.place(id).ok()?;
-        let mut bindings = Bindings::new();
-        match (place.self_type?, of) {
-            (Type::Item { id, arguments }, Type::Item { id: own, arguments: known })
-                if id == *own && arguments.len() == known.len() =>
-            {
-                for (argument, known) in arguments.iter().zip(known) {
-                    let Type::Parameter(name) = argument else { return None };
-                    bindings.insert(name.clone(), known.clone());
-                }
-                Some(bindings)
-            }
-            (target, of) if found.generics.is_empty() && target == *of => Some(bindings),
-            _ => None,
-        }
+    // Finds a function or a constant among the members of an item.
+    fn position(&self, id: Id, name: &str) -> Option<Id> {
+        let is_member = |it: &Item| {
+            let is_value = matches!(it.kind, ItemKind::Function(_) | ItemKind::Constant { .. });
+            it.name.text == name && is_value
+        };
+        let member = self.item(id).members().iter().position(is_member)?;
+        Some(Id { member: Some(member), ..id })
     }
 
     /// Says why an item is refused.
@@ -355,12 +294,30 @@ impl<'a> World<'a> {
     }
 }
 
-// Returns the place of a function or a constant among the members of an item.
-fn position(item: &Item, name: &str) -> Option<usize> {
-    let is_member = |it: &Item| {
-        it.name.text == name && matches!(it.kind, ItemKind::Function(_) | ItemKind::Constant { .. })
-    };
-    item.members().iter().position(is_member)
+// Returns what the parameters of an `impl` stand for if it is for a type. An `impl` for each type with some trait is
+// for none: only engines that read byte by byte have one.
+fn matched(target: &Type, of: &Type) -> Option<Bindings> {
+    match (target, of) {
+        (Type::Of(Form::Item(id), parts), Type::Of(Form::Item(own), known)) if id == own => {
+            let names = parts.iter().map(|part| match part {
+                Type::Parameter(name) => Some(name.clone()),
+                _ => None,
+            });
+            Some(
+                names.collect::<Option<Vec<_>>>()?.into_iter().zip(known.iter().cloned()).collect(),
+            )
+        }
+        (target, of) if target == of => Some(Bindings::new()),
+        _ => None,
+    }
+}
+
+/// Returns the item that a definition is.
+pub fn item_of(definition: Definition) -> Option<Id> {
+    match definition {
+        Definition::Item { module, item } => Some(Id { module, item, member: None }),
+        _ => None,
+    }
 }
 
 /// Returns a type of integers by its name.
@@ -375,15 +332,12 @@ pub fn integer(name: &str) -> Option<Type> {
     is_known.then_some(Type::Integer(Integer { bits, is_signed, is_size: false }))
 }
 
-fn foreign_type(name: &str, arguments: &mut Vec<Type>) -> Option<Type> {
-    let mut next = || (!arguments.is_empty()).then(|| Box::new(arguments.remove(0)));
-    match name {
-        "bool" => Some(Type::Boolean),
-        "str" => Some(Type::slice(Type::BYTE, false)),
-        "Option" => Some(Type::Option(next()?)),
-        "Result" => Some(Type::Result(next()?, next()?)),
-        "std::marker::PhantomData" => Some(Type::Marker),
-        "std::num::IntErrorKind" => Some(Type::ErrorKind),
+fn foreign_type(name: &str, arguments: Vec<Type>) -> Option<Type> {
+    match (name, arguments.len()) {
+        ("bool", 0) => Some(Type::Boolean),
+        ("Option", 1) => Some(Type::Of(Form::Option, arguments)),
+        ("Result", 2) => Some(Type::Of(Form::Result, arguments)),
+        ("std::marker::PhantomData", _) => Some(Type::Marker),
         _ => integer(name),
     }
 }

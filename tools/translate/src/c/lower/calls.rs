@@ -1,58 +1,71 @@
-//! Paths, calls and methods. Calls of laws, which return nothing and change nothing, vanish.
+//! Paths and calls. Calls of laws, which return nothing and change nothing, vanish.
 
-use super::{Done, Lowering, Value, Wanted, signature};
-use crate::c::ir::{
-    Bindings, Callee, Id, Integer, Operation, Shape, Statement, Term, TermKind, Type,
-};
-use crate::c::world::integer;
+use super::{Done, Lowering, signature};
+use crate::c::ir::{Bindings, Callee, Kind, PLAIN, Term, Type};
+use crate::c::world::{integer, item_of};
 use crate::resolve::Definition;
-use crate::tree::{
-    BinaryOperator, Expression, ExpressionKind, GenericArgument, GenericKind, LiteralKind,
-    MethodCall, Path, TypeKind,
-};
+use crate::tree::{Expression, GenericArgument, GenericKind, ItemKind, MethodCall, Path, TypeKind};
 
-// A function with the types and constants that a call chooses.
-type Chosen = (Callee, Vec<Term>);
-
-impl Lowering<'_> {
+impl Lowering<'_, '_> {
     /// Evaluates a path: a variable, a constant or a variant without fields.
-    pub fn path(&mut self, path: &Path, wanted: Wanted) -> Done<Value> {
+    pub fn path(&mut self, path: &Path) -> Done<Term> {
         if let [only] = path.segments.as_slice() {
             let named = self.scopes.iter().rev().find_map(|scope| scope.get(&only.name.text));
             if let Some(value) = named {
                 return Ok(value.clone());
             }
         }
-        if let Some((of, shape)) = self.variant(path) {
-            if let (Some(wanted), Shape::None) = (wanted, shape) {
-                self.unify(&of, wanted)?;
+        if let Some((of, variant)) = self.variant(path) {
+            return Ok(self.make(Kind::Make(variant), Vec::new(), of));
+        }
+        if let Some((value, of)) = limit(path) {
+            return Ok(self.number(value, of));
+        }
+        if let Some((owner, name)) = self.owner(path)? {
+            return self.constant_of(&owner, name);
+        }
+        let id = match self.definition(path) {
+            Some(Definition::Foreign(name)) if name == "std::marker::PhantomData" => {
+                return Ok(self.make(Kind::Make(PLAIN), Vec::new(), Type::Marker));
             }
-            return Ok(Value::Term(self.shaped(shape, Vec::new(), of)));
-        }
-        let owner = self.owner(path)?;
-        if let Some(value) = owner.as_ref().and_then(|(owner, name)| limit(owner, name)) {
-            let kind = TermKind::Number { value, hexadecimal: 0 };
-            return Ok(Value::Term(self.make(kind, owner.map_or(Type::UNIT, |it| it.0))));
-        }
-        let id = match &owner {
-            Some((owner, name)) => self.world.member(&self.place, owner, name).map(|it| it.0),
-            None => match self.item_of(path) {
-                Some(Definition::Foreign(name)) if name == "std::marker::PhantomData" => {
-                    return Ok(Value::Term(self.shaped(Shape::Plain, Vec::new(), Type::Marker)));
-                }
-                Some(Definition::Item { module, item }) => Some(Id { module, item, member: None }),
-                _ => None,
-            },
+            found => found.and_then(item_of),
         };
-        let constant = id.and_then(|id| Some((id, self.world.constant(id)?)));
-        let Some((id, of)) = constant else { return self.refuse("this name has no rule") };
-        let owner = owner.map(|(owner, _)| owner);
-        let bindings = owner.iter().map(|owner| ("Self".to_string(), owner.clone())).collect();
-        Ok(Value::Term(self.make(TermKind::Constant(id, owner), of?.with(&bindings))))
+        match id.map(|id| (id, &self.world.item(id).kind)) {
+            Some((id, ItemKind::Constant { annotation, .. })) => {
+                let of =
+                    self.world.type_in(&self.world.place(id, &Bindings::new())?, annotation)?;
+                Ok(self.make(Kind::Constant(id), Vec::new(), of))
+            }
+            _ => self.refuse("this name has no rule"),
+        }
+    }
+
+    /// Returns a constant of a type. For a parameter that stands for itself, it is one that the function gets.
+    pub fn constant_of(&mut self, owner: &Type, name: &str) -> Done<Term> {
+        let of = owner.with(&self.open);
+        let found = self.world.member(&of, name);
+        let Some(Callee { id, bindings }) = found else {
+            return self.refuse("this name has no rule");
+        };
+        let ItemKind::Constant { annotation, .. } = &self.world.item(id).kind else {
+            return self.refuse("this name has no rule");
+        };
+        let Type::Parameter(parameter) = owner else {
+            return Ok(Term { span: self.at, ..super::constant(self.world, id)? });
+        };
+        let key = (parameter.clone(), id);
+        if let Some(local) = self.constants.get(&key) {
+            return Ok(self.local(*local));
+        }
+        let of = self.world.type_in(&self.world.place(id, &bindings)?, annotation)?;
+        let prefix = if of == Type::Boolean { "is_" } else { "" };
+        let local = self.variable(&format!("{prefix}{}", name.to_lowercase()), of, false);
+        self.constants.insert(key, local);
+        Ok(self.local(local))
     }
 
     // Returns what all of a path stands for.
-    fn item_of(&self, path: &Path) -> Option<Definition> {
+    fn definition(&self, path: &Path) -> Option<Definition> {
         let found = self.world.resolve(self.place.module, path)?;
         (found.used == path.segments.len()).then_some(found.definition)
     }
@@ -62,8 +75,7 @@ impl Lowering<'_> {
         let Some((last, before @ [first, ..])) = path.segments.split_last() else {
             return Ok(None);
         };
-        let name = first.name.text.as_str();
-        let is_own = name == "Self" || self.place.parameters.contains_key(name);
+        let is_own = self.place.bindings.contains_key(&first.name.text);
         let found = self.world.resolve(self.place.module, path);
         let is_type = found.is_some_and(|it| {
             let is_item = match &it.definition {
@@ -77,326 +89,142 @@ impl Lowering<'_> {
             return Ok(None);
         }
         let path = Path { span: path.span, segments: before.to_vec() };
-        Ok(Some((self.made_type(&path)?.0, &last.name.text)))
+        Ok(Some((self.named_type(&path)?, &last.name.text)))
     }
 
     /// Evaluates a call of what a path names.
-    pub fn call(&mut self, path: &Path, arguments: &[Expression], wanted: Wanted) -> Done<Value> {
-        if let Some((of, shape)) = self.variant(path) {
-            wanted.map_or(Ok(()), |wanted| self.unify(&of, wanted))?;
-            let fields = self.fields_of(&self.known(&of), shape)?;
+    pub fn call(&mut self, path: &Path, arguments: &[Expression]) -> Done<Term> {
+        if let Some((of, variant)) = self.variant(path) {
+            let fields = self.fields_of(&of, variant)?;
             if fields.len() != arguments.len() {
                 return self.refuse("another number of fields");
             }
             let types = fields.into_iter().map(|(_, of)| Some(of));
-            let terms = self.operands(arguments.iter().zip(types))?;
-            return Ok(Value::Term(self.shaped(shape, terms, of)));
+            let terms = self.operands(arguments.iter().zip(types).collect())?;
+            return Ok(self.make(Kind::Make(variant), terms, of));
         }
-        let owner = self.owner(path)?;
-        if let (Some((of @ Type::Integer(_), name @ ("from" | "from_le_bytes"))), [argument]) =
-            (&owner, arguments)
-        {
-            return self.converted(of.clone(), name, argument).map(Value::Term);
+        if let ([owner, name], [argument]) = (path.names().as_slice(), arguments) {
+            let of = integer(owner).filter(|_| matches!(*name, "from" | "from_le_bytes"));
+            if let Some(of) = of {
+                return self.converted(of, name, argument);
+            }
         }
-        let found = match owner {
-            Some((owner, name)) => self.world.member(&self.place, &owner, name),
-            None => match self.item_of(path) {
-                Some(Definition::Item { module, item }) => {
-                    Some((Id { module, item, member: None }, Default::default()))
-                }
-                _ => None,
-            },
+        let found = match self.owner(path)? {
+            Some((owner, name)) => self.member(&owner, name)?,
+            None => {
+                let id = self.definition(path).and_then(item_of);
+                id.map(|id| Callee { id, bindings: Bindings::new() })
+            }
         };
-        let Some((id, bindings)) = found else {
-            return self.refuse("this function has no rule");
-        };
-        let chosen = self.choose(id, bindings, &path.last().arguments)?;
-        self.call_chosen(chosen, None, arguments)
+        let Some(callee) = found else { return self.refuse("this function has no rule") };
+        let (callee, constants) = self.choose(callee, &path.last().arguments)?;
+        self.call_chosen(callee, constants, None, arguments)
+    }
+
+    // Finds a member of a type, which matters then.
+    fn member(&mut self, of: &Type, name: &str) -> Done<Option<Callee>> {
+        match self.full(of) {
+            Type::Parameter(name) => self.need(&name),
+            of => Ok(self.world.member(&of, name)),
+        }
     }
 
     // `u64::from` and `u64::from_le_bytes`.
     fn converted(&mut self, of: Type, name: &str, argument: &Expression) -> Done<Term> {
-        let value = self.term(argument, None)?;
+        let value = self.any(argument)?;
         if name == "from" {
-            return Ok(self.make(TermKind::Cast(Box::new(value)), of));
+            return Ok(self.make(Kind::Cast, vec![value], of));
         }
         let length = of.integer().map_or(0, |it| u128::from(it.bits) / 8);
-        self.unify(&value.of, &Type::Array { element: Box::new(Type::BYTE), length })?;
-        Ok(self.operation(Operation::Load, vec![value], of))
+        self.unify(&value.of, &Type::array(Type::BYTE, length))?;
+        Ok(self.make(Kind::Small("load"), vec![value], of))
     }
 
-    // Returns a function with the generics that a call writes. Types that it leaves out are found later.
+    // Returns a function with the generics that a call writes, and its constants. Types that the call leaves out are
+    // found later.
     fn choose(
         &mut self,
-        id: Id,
-        mut bindings: Bindings,
+        mut callee: Callee,
         arguments: &[GenericArgument],
-    ) -> Done<Chosen> {
+    ) -> Done<(Callee, Vec<Term>)> {
         let mut given = arguments.iter();
         let mut constants = Vec::new();
-        for parameter in &self.world.item(id).generics {
-            match &parameter.kind {
-                GenericKind::Type(_) => {
-                    let of = match given.next() {
+        for parameter in &self.world.item(callee.id).generics {
+            match (&parameter.kind, given.next()) {
+                (GenericKind::Type(_), given) => {
+                    let of = match given {
                         Some(GenericArgument::Type(of)) => self.world.type_in(&self.place, of)?,
                         _ => self.fresh(false),
                     };
-                    bindings.insert(parameter.name.text.clone(), of);
+                    callee.bindings.insert(parameter.name.text.clone(), of);
                 }
-                GenericKind::Constant(of) => {
+                (GenericKind::Constant(of), Some(given)) => {
                     let of = self.world.type_in(&self.place, of)?;
-                    let term = match given.next() {
-                        Some(GenericArgument::Constant(it)) => self.literal(it, Some(&of))?,
-                        Some(GenericArgument::Type(tree)) => match &tree.kind {
-                            TypeKind::Path(path) => {
-                                let value = self.path(path, Some(&of))?;
-                                self.whole(value)?
-                            }
+                    let term = match given {
+                        GenericArgument::Constant(it) => self.literal(it),
+                        GenericArgument::Type(tree) => match &tree.kind {
+                            TypeKind::Path(path) => self.path(path)?,
                             _ => return self.refuse("no constant"),
                         },
-                        _ => return self.refuse("a generic constant that is not written"),
                     };
                     constants.push(self.coerce(term, &of)?);
                 }
+                _ => return self.refuse("a generic constant that is not written"),
             }
         }
-        Ok((Callee { id, bindings }, constants))
+        Ok((callee, constants))
     }
 
     fn call_chosen(
         &mut self,
-        chosen: Chosen,
+        callee: Callee,
+        constants: Vec<Term>,
         receiver: Option<Term>,
         arguments: &[Expression],
-    ) -> Done<Value> {
-        let (callee, constants) = chosen;
-        let (parameters, result) = signature(self.world, callee.id)?;
-        let own = usize::from(receiver.is_some());
-        if parameters.len() != own + arguments.len() {
+    ) -> Done<Term> {
+        let (mut types, of) = signature(self.world, &callee)?;
+        let types = types.split_off(usize::from(receiver.is_some()).min(types.len()));
+        if types.len() != arguments.len() {
             return self.refuse("another number of arguments");
         }
-        let types = parameters[own..].iter().map(|it| Some(it.with(&callee.bindings)));
-        let (statements, terms) = self.apart(|it| it.operands(arguments.iter().zip(types)))?;
-        // A receiver that is copied is read before the arguments change it.
-        let changes = !statements.is_empty() || terms.iter().any(Term::has_effect);
-        let receiver = receiver.map(|it| match self.known(&it.of) {
-            Type::Pointer(_) => it,
-            _ if changes && !self.is_constant(&it) => self.hold(it, "before", false),
-            _ => it,
-        });
-        self.statements.extend(statements);
-        let arguments = constants.into_iter().chain(receiver).chain(terms);
-        let arguments = arguments.filter(|it| !self.world.is_zero(&self.known(&it.of))).collect();
-        let of = result.with(&callee.bindings);
-        let term = self.make(TermKind::Call { callee, arguments }, of);
+        let arguments = arguments.iter().zip(types.into_iter().map(Some)).collect();
+        let terms = match receiver {
+            Some(receiver) => self.behind(receiver, arguments)?,
+            None => self.operands(arguments)?,
+        };
+        let terms = constants.into_iter().chain(terms);
+        let terms = terms.filter(|it| !self.world.is_zero(&self.known(&it.of))).collect();
+        let term = self.make(Kind::Call(callee), terms, of);
         let is_law = term.of == Type::UNIT && !term.has_effect();
-        Ok(if is_law { Value::Tuple(Vec::new()) } else { Value::Term(term) })
+        Ok(if is_law { self.unit() } else { term })
     }
 
-    /// Evaluates a call of a method.
-    pub fn method(&mut self, call: &MethodCall) -> Done<Value> {
-        if call.name.text == "count" && call.arguments.is_empty() {
-            return self.count(&call.receiver).map(Value::Term);
-        }
-        let receiver = self.term(&call.receiver, None)?;
+    /// Evaluates a call of a method of a struct, an enum or a parameter.
+    pub fn method_of_item(&mut self, receiver: Term, call: &MethodCall) -> Done<Term> {
         let target = self.followed(receiver.clone());
-        match self.known(&target.of) {
-            Type::Integer(_) => self.of_number(target, call),
-            Type::Slice { .. } => self.of_slice(target, call),
-            Type::Result(value, _) if call.name.text == "ok" => {
-                let name = self.hint.take().map_or("found".into(), |hint| format!("{hint}_found"));
-                let found = self.keep_term(Value::Term(target), &name)?;
-                let payload = TermKind::Payload(Box::new(found.clone()), Shape::Ok, 0);
-                let value = Box::new(Value::Term(self.make(payload, *value)));
-                Ok(Value::Option { is_some: self.is(found, Shape::Ok), value })
-            }
-            Type::Item { .. } | Type::Parameter(_) => {
-                let found = self.world.member(&self.place, &self.full(&target.of), &call.name.text);
-                let Some((id, bindings)) = found else { return self.no_method() };
-                let is_pointer =
-                    matches!(signature(self.world, id)?.0.first(), Some(Type::Pointer(_)));
-                let chosen = self.choose(id, bindings, &call.generics)?;
-                let receiver = match (is_pointer, self.known(&receiver.of)) {
-                    (true, Type::Pointer(_)) => receiver,
-                    (true, of) => {
-                        self.make(TermKind::Address(Box::new(target)), Type::Pointer(Box::new(of)))
-                    }
-                    (false, _) => target,
-                };
-                self.call_chosen(chosen, Some(receiver), &call.arguments)
-            }
-            _ => self.no_method(),
-        }
-    }
-
-    fn no_method<T>(&self) -> Done<T> {
-        self.refuse("this method has no rule")
-    }
-
-    fn of_number(&mut self, value: Term, call: &MethodCall) -> Done<Value> {
-        let of = value.of.clone();
-        let (operation, result) = match (call.name.text.as_str(), self.known(&of).integer()) {
-            ("wrapping_add", _) => (Operation::Wrapping(BinaryOperator::Add), of.clone()),
-            ("wrapping_sub", _) => (Operation::Wrapping(BinaryOperator::Subtract), of.clone()),
-            ("wrapping_mul", _) => (Operation::Wrapping(BinaryOperator::Multiply), of.clone()),
-            ("saturating_add", _) => (Operation::SaturatingAdd, of.clone()),
-            ("saturating_sub", _) => (Operation::SaturatingSubtract, of.clone()),
-            ("min", _) => (Operation::Minimum, of.clone()),
-            ("max", _) => (Operation::Maximum, of.clone()),
-            ("is_ascii_digit", _) => (Operation::IsDigit, Type::Boolean),
-            ("trailing_zeros", _) => (
-                Operation::TrailingZeros,
-                Type::Integer(Integer { bits: 32, is_signed: false, is_size: false }),
-            ),
-            ("unsigned_abs", Some(own)) => {
-                (Operation::UnsignedAbs, Type::Integer(Integer { is_signed: false, ..own }))
-            }
-            ("checked_add", _) => {
-                return self.checked(Operation::SumFits, BinaryOperator::Add, value, call);
-            }
-            ("checked_sub", _) => {
-                let test = Operation::Binary(BinaryOperator::GreaterOrEqual);
-                return self.checked(test, BinaryOperator::Subtract, value, call);
-            }
-            ("checked_mul", _) => {
-                return self.checked(Operation::ProductFits, BinaryOperator::Multiply, value, call);
-            }
-            _ => return self.no_method(),
+        let found = self.member(&target.of, &call.name.text)?;
+        let Some(callee) = found else { return self.refuse("this method has no rule") };
+        let wanted = signature(self.world, &callee)?.0;
+        let is_pointer = wanted.first().is_some_and(|of| of.target() != of);
+        let (callee, constants) = self.choose(callee, &call.generics)?;
+        let receiver = match self.known(&receiver.of) {
+            _ if !is_pointer => target,
+            of if of.target() != &of => receiver,
+            of => self.make(Kind::Address, vec![target], Type::pointer(of)),
         };
-        let mut terms = vec![value];
-        if let Some(argument) = call.arguments.first() {
-            terms = self.with_argument(terms.remove(0), argument)?;
-        }
-        Ok(Value::Term(self.operation(operation, terms, result)))
+        self.call_chosen(callee, constants, Some(receiver), &call.arguments)
     }
-
-    // The argument follows the receiver, which must not depend on what the argument changes.
-    fn with_argument(&mut self, receiver: Term, argument: &Expression) -> Done<Vec<Term>> {
-        let of = receiver.of.clone();
-        let (statements, term) = self.apart(|it| it.term(argument, Some(&of)))?;
-        let is_safe = statements.is_empty() && !term.has_effect();
-        let receiver = if is_safe { receiver } else { self.hold(receiver, "before", false) };
-        self.statements.extend(statements);
-        Ok(vec![receiver, term])
-    }
-
-    // `checked_add` and so on: a result, if it is in range.
-    fn checked(
-        &mut self,
-        test: Operation,
-        operator: BinaryOperator,
-        value: Term,
-        call: &MethodCall,
-    ) -> Done<Value> {
-        let [argument] = call.arguments.as_slice() else { return self.no_method() };
-        let of = value.of.clone();
-        let value = self.keep_term(Value::Term(value), "left")?;
-        let argument = self.term(argument, Some(&of))?;
-        let terms = vec![value, self.keep_term(Value::Term(argument), "right")?];
-        let is_some = self.operation(test, terms.clone(), Type::Boolean);
-        let value = self.operation(Operation::Binary(operator), terms, of);
-        Ok(Value::Option { is_some, value: Box::new(Value::Term(value)) })
-    }
-
-    fn of_slice(&mut self, slice: Term, call: &MethodCall) -> Done<Value> {
-        match (call.name.text.as_str(), call.arguments.as_slice()) {
-            ("len", []) => Ok(Value::Term(self.length(&slice))),
-            ("is_empty", []) => {
-                let test = self.test(BinaryOperator::Equal, self.length(&slice), self.size(0));
-                Ok(Value::Term(test))
-            }
-            ("first_chunk", []) => self.chunk(slice, Operation::First, call),
-            ("last_chunk", []) => self.chunk(slice, Operation::Last, call),
-            ("split_first", []) => {
-                let slice = self.keep_term(Value::Term(slice), "all")?;
-                let is_some = self.test(BinaryOperator::Greater, self.length(&slice), self.size(0));
-                let first = self.element(slice.clone(), self.size(0), true)?;
-                let rest = self.part(slice, Some(self.size(1)), None)?;
-                let parts = vec![Value::Term(first), Value::Term(rest)];
-                Ok(Value::Option { is_some, value: Box::new(Value::Tuple(parts)) })
-            }
-            (name @ ("split_at" | "split_at_checked"), [at]) => {
-                let slice = self.keep_term(Value::Term(slice), "all")?;
-                let at = self.term(at, Some(&Type::SIZE))?;
-                let at = self.keep_term(Value::Term(at), "at")?;
-                let is_some =
-                    self.test(BinaryOperator::LessOrEqual, at.clone(), self.length(&slice));
-                let front = self.part(slice.clone(), None, Some(at.clone()))?;
-                let rest = self.part(slice, Some(at), None)?;
-                let parts = Value::Tuple(vec![Value::Term(front), Value::Term(rest)]);
-                Ok(match name {
-                    "split_at" => parts,
-                    _ => Value::Option { is_some, value: Box::new(parts) },
-                })
-            }
-            ("copy_from_slice", [from]) => {
-                let from = self.term(from, Some(&Type::slice(Type::BYTE, false)))?;
-                Ok(Value::Term(self.operation(Operation::CopyFrom, vec![slice, from], Type::UNIT)))
-            }
-            _ => self.no_method(),
-        }
-    }
-
-    // The first or last bytes of a slice, if it has so many.
-    fn chunk(&mut self, slice: Term, operation: Operation, call: &MethodCall) -> Done<Value> {
-        let length = match call.generics.as_slice() {
-            [GenericArgument::Constant(literal)] => match literal.kind {
-                LiteralKind::Integer(value) => value,
-                _ => return self.no_method(),
-            },
-            _ => return self.refuse("the number of bytes is not written"),
-        };
-        let slice = self.keep_term(Value::Term(slice), "all")?;
-        let Type::Slice { element, .. } = self.known(&slice.of) else { return self.no_method() };
-        let count = self.size(length);
-        let is_some = self.test(BinaryOperator::GreaterOrEqual, self.length(&slice), count.clone());
-        let bytes = self.operation(operation, vec![slice, count], Type::Array { element, length });
-        Ok(Value::Option { is_some, value: Box::new(Value::Term(bytes)) })
-    }
-
-    // `SLICE.iter().filter(..).count()` or with `take_while`, as a loop.
-    fn count(&mut self, source: &Expression) -> Done<Term> {
-        let step = method_of(source).and_then(|step| Some((step, method_of(&step.receiver)?)));
-        let step = step.map(|(step, iter)| (&*step.name.text, &*iter.name.text, step, iter));
-        let (otherwise, step, slice) = match step {
-            Some(("filter", "iter", step, iter)) => (Statement::Continue, step, &iter.receiver),
-            Some(("take_while", "iter", step, iter)) => (Statement::Break, step, &iter.receiver),
-            _ => return self.refuse("only `iter().filter(..)` and `take_while` are counted"),
-        };
-        let [Expression { kind: ExpressionKind::Closure { parameters, body }, .. }] =
-            &step.arguments[..]
-        else {
-            return self.refuse("what is no closure");
-        };
-        let count = self.hold(self.size(0), "count", true);
-        let (slice, at, condition) = self.walk(slice)?;
-        let (inner, ()) = self.apart(|it| {
-            let element = it.element(slice, at.clone(), true)?;
-            for parameter in parameters {
-                it.destructure(parameter, Value::Term(element.clone()), None)?;
-            }
-            it.advance(at);
-            let test = it.term(body, Some(&Type::Boolean))?;
-            it.push_if(test.negated(), vec![otherwise], Vec::new());
-            it.advance(count.clone());
-            Ok(())
-        })?;
-        self.push(Statement::While { condition, body: inner });
-        Ok(count)
-    }
-}
-
-fn method_of(expression: &Expression) -> Option<&MethodCall> {
-    if let ExpressionKind::Method(call) = &expression.kind { Some(call) } else { None }
 }
 
 // `u64::MAX` and so on.
-fn limit(of: &Type, name: &str) -> Option<u128> {
+fn limit(path: &Path) -> Option<(u128, Type)> {
+    let [owner, name] = path.names()[..] else { return None };
+    let of = integer(owner)?;
     let integer = of.integer()?;
     let greatest = u128::MAX >> (128 - integer.bits + u32::from(integer.is_signed));
     match name {
-        "MAX" => Some(greatest),
-        "MIN" => Some(if integer.is_signed { greatest + 1 } else { 0 }),
+        "MAX" => Some((greatest, of)),
+        "MIN" => Some((if integer.is_signed { greatest + 1 } else { 0 }, of)),
         _ => None,
     }
 }

@@ -1,8 +1,7 @@
 //! The types of variables, by unification. What has no rule here is refused.
 
 use super::{Done, Lowering};
-use crate::c::ir::{Function, Id, Integer, Operation, Statement, Term, TermKind, Type};
-use crate::c::ir::{all_terms, each_term};
+use crate::c::ir::{Callee, Form, Function, Kind, Statement, Term, Type, all_kinds, each_term};
 
 /// What is known of a type that was unknown at first.
 #[derive(Clone, Debug)]
@@ -11,9 +10,7 @@ pub enum Variable {
     Known(Type),
 }
 
-const I32: Type = Type::Integer(Integer { bits: 32, is_signed: true, is_size: false });
-
-impl Lowering<'_> {
+impl Lowering<'_, '_> {
     /// Returns a type that is not known yet.
     pub fn fresh(&mut self, is_integer: bool) -> Type {
         self.variables.push(Variable::Free { is_integer });
@@ -33,40 +30,39 @@ impl Lowering<'_> {
 
     /// Returns a type with all that is known. Integers that nothing decides are `i32`, as in Rust.
     pub fn full(&self, of: &Type) -> Type {
-        let mut found = self.known(of);
-        if let Type::Variable(number) = found {
-            if let Variable::Free { is_integer: true } = self.variables[number] {
-                return I32;
-            }
+        match self.known(of) {
+            Type::Variable(number) => match self.variables[number] {
+                Variable::Free { is_integer: true } => Type::I32,
+                _ => Type::Variable(number),
+            },
+            found => found.map(&mut |part| self.full(part)),
         }
-        found.parts_mut().into_iter().for_each(|part| *part = self.full(part));
-        found
     }
 
     /// Makes two types the same.
     pub fn unify(&mut self, left: &Type, right: &Type) -> Done<()> {
-        let (mut left, mut right) = (self.known(left), self.known(right));
-        match (&left, &right) {
-            _ if left == right => return Ok(()),
+        match (self.known(left), self.known(right)) {
+            (left, right) if left == right => Ok(()),
             (Type::Variable(number), other) | (other, Type::Variable(number)) => {
-                return self.decide(*number, &other.clone());
+                self.decide(number, other)
             }
-            _ => {}
+            (Type::Of(form, left), Type::Of(other, right))
+                if form == other && left.len() == right.len() =>
+            {
+                left.iter().zip(&right).try_for_each(|(left, right)| self.unify(left, right))
+            }
+            (left, right) => {
+                let (left, right) = (self.full(&left), self.full(&right));
+                self.refuse(format!("{left:?} in place of {right:?}"))
+            }
         }
-        let is_same = is_same_kind(&left, &right);
-        let both = (self.full(&left), self.full(&right));
-        let (a, b) = (left.parts_mut(), right.parts_mut());
-        if !is_same || a.len() != b.len() || a.is_empty() {
-            return self.refuse(format!("{:?} in place of {:?}", both.0, both.1));
-        }
-        a.iter().zip(&b).try_for_each(|(a, b)| self.unify(a, b))
     }
 
-    fn decide(&mut self, number: usize, other: &Type) -> Done<()> {
+    fn decide(&mut self, number: usize, other: Type) -> Done<()> {
         if let Variable::Free { is_integer: true } = self.variables[number] {
             match other {
                 Type::Variable(other) => {
-                    if let Variable::Free { is_integer } = &mut self.variables[*other] {
+                    if let Variable::Free { is_integer } = &mut self.variables[other] {
                         *is_integer = true;
                     }
                 }
@@ -74,109 +70,108 @@ impl Lowering<'_> {
                 _ => return self.refuse("an integer in place of another type"),
             }
         }
-        self.variables[number] = Variable::Known(other.clone());
+        self.variables[number] = Variable::Known(other);
         Ok(())
     }
 
     /// Makes a term one of the wanted type: arrays become slices, and what may be written is shared.
     pub fn coerce(&mut self, term: Term, wanted: &Type) -> Done<Term> {
         let (of, wanted) = (self.known(&term.of), self.known(wanted));
-        let array = match &of {
-            Type::Pointer(target) => self.known(target),
-            _ => of.clone(),
-        };
-        let operation = match (&of, &array, &wanted) {
-            (_, Type::Array { element, .. }, Type::Slice { element: other, is_mutable })
-                if *is_mutable == matches!(of, Type::Pointer(_)) =>
+        let target = self.known(of.target());
+        match (&target, &wanted) {
+            (_, Type::Of(Form::Tuple, types))
+                if term.is_tuple() && term.parts.len() == types.len() =>
             {
-                self.unify(element, other)?;
-                Operation::OfArray
+                let parts = term.parts.into_iter().zip(types).map(|(it, of)| self.coerce(it, of));
+                let parts = parts.collect::<Done<_>>()?;
+                Ok(self.tuple_of(parts))
             }
-            (Type::Pointer(_), target, other)
-                if !matches!(other, Type::Pointer(_) | Type::Variable(_)) =>
+            (Type::Of(Form::Array { .. }, own), Type::Of(Form::Slice { is_mutable }, parts))
+                if *is_mutable == of.can_write() =>
             {
-                self.unify(target, other)?;
-                return Ok(self.followed(term));
+                self.unify(&own[0], &parts[0])?;
+                Ok(self.make(Kind::OfArray, vec![term], wanted))
+            }
+            (_, Type::Variable(_) | Type::Of(Form::Pointer, _)) => {
+                self.unify(&of, &wanted)?;
+                Ok(term)
             }
             _ => {
-                self.unify(&of, &wanted)?;
-                return Ok(term);
+                self.unify(&target, &wanted)?;
+                Ok(self.followed(term))
             }
-        };
-        Ok(self.operation(operation, vec![term], wanted))
+        }
     }
 
-    /// Ends a function: all types get what was found.
-    pub fn finish(&mut self, id: Id, parameters: Vec<usize>) -> Done<Function> {
+    /// Ends a function: all types get what was found, and calls the functions for them.
+    pub fn finish(&mut self, key: &Callee, parameters: Vec<usize>) -> Done<Function> {
         let mut body = std::mem::take(&mut self.statements);
-        each_term(&mut body, &mut |term| self.finish_term(term))?;
-        let mut locals = std::mem::take(&mut self.locals);
-        locals.iter_mut().for_each(|local| local.of = self.full(&local.of));
-        let mut made = Function { id, locals, parameters, result: self.result.clone(), body };
-        remove_unused(&mut made);
-        Ok(made)
-    }
-
-    fn finish_term(&self, term: &mut Term) -> Done<()> {
-        term.of = self.full(&term.of);
-        match &mut term.kind {
-            TermKind::Call { callee, .. } => {
-                callee.bindings.values_mut().for_each(|it| *it = self.full(it));
-            }
-            TermKind::Constant(_, Some(of)) => *of = self.full(of),
-            _ => {}
-        }
-        term.children().into_iter().try_for_each(|child| self.finish_term(child))
-    }
-}
-
-// Whether two types differ at most in their parts.
-fn is_same_kind(left: &Type, right: &Type) -> bool {
-    match (left, right) {
-        (Type::Item { id, .. }, Type::Item { id: other, .. }) => id == other,
-        (Type::Array { length, .. }, Type::Array { length: other, .. }) => length == other,
-        (Type::Slice { is_mutable, .. }, Type::Slice { is_mutable: other, .. }) => {
-            is_mutable == other
-        }
-        _ => std::mem::discriminant(left) == std::mem::discriminant(right),
-    }
-}
-
-/// Removes variables that nothing reads.
-pub fn remove_unused(function: &mut Function) {
-    loop {
-        let mut is_used = vec![false; function.locals.len()];
-        for term in all_terms(&function.body) {
-            if let TermKind::Local(local) = term.kind {
-                is_used[local] = true;
+        each_term(&mut body, &mut |term| {
+            term.of = self.full(&term.of);
+            Ok(())
+        })?;
+        loop {
+            let used = all_kinds(&body);
+            if !remove_unused(&mut body, &used) {
+                break;
             }
         }
-        if !remove(&mut function.body, &is_used) {
-            return;
+        each_term(&mut body, &mut |term| self.settle(term))?;
+        for local in 0..self.locals.len() {
+            self.locals[local].of = self.settled(&self.locals[local].of.clone())?;
         }
+        let result = self.settled(&self.result.clone())?;
+        let (constants, given): (Vec<_>, Vec<_>) =
+            std::mem::take(&mut self.constants).into_iter().unzip();
+        let parameters = [given, parameters].concat();
+        let locals = std::mem::take(&mut self.locals);
+        Ok(Function { key: key.clone(), locals, constants, parameters, result, body })
+    }
+
+    // Returns a type with all that matters of it.
+    fn settled(&mut self, of: &Type) -> Done<Type> {
+        let found = self.world.erased(&self.full(of));
+        match found.parameter() {
+            Some(name) => self.need(name),
+            None => Ok(found),
+        }
+    }
+
+    /// Gives a term its type, and to a call its function, which gets the constants that it needs.
+    pub fn settle(&mut self, term: &mut Term) -> Done<()> {
+        term.of = self.settled(&term.of)?;
+        let Kind::Call(callee) = &mut term.kind else { return Ok(()) };
+        callee.bindings.values_mut().for_each(|of| *of = self.full(of));
+        let own = callee.bindings.clone();
+        callee.bindings.values_mut().for_each(|of| *of = of.with(&self.open));
+        *callee = self.instances.add(callee)?;
+        if let Some(name) = callee.bindings.keys().find_map(|name| own[name].parameter()) {
+            return self.need(name);
+        }
+        let constants = self.instances.constants(callee).into_iter();
+        let constants = constants.map(|(name, id)| {
+            let constant = self.world.name(id);
+            self.constant_of(&own[&name], constant)
+        });
+        let constants = constants.collect::<Done<Vec<Term>>>()?;
+        term.parts.splice(0..0, constants);
+        Ok(())
     }
 }
 
-// Returns whether something was removed.
-fn remove(body: &mut Vec<Statement>, is_used: &[bool]) -> bool {
-    let before = body.len();
+// Removes variables that nothing reads. Returns whether something was removed.
+fn remove_unused(body: &mut Vec<Statement>, used: &[Kind]) -> bool {
     let mut is_changed = false;
-    body.retain_mut(|statement| match statement {
-        Statement::Declare { local, value } if !is_used[*local] => {
-            let value = value.take().filter(Term::has_effect);
-            let is_kept = value.is_some();
-            value.into_iter().for_each(|value| *statement = Statement::Evaluate(value));
-            is_kept
+    body.retain_mut(|statement| {
+        for block in statement.blocks() {
+            is_changed |= remove_unused(block, used);
         }
-        Statement::If { then, otherwise, .. } => {
-            is_changed |= remove(then, is_used) | remove(otherwise, is_used);
-            true
+        let Statement::Declare { local, value } = statement else { return true };
+        if used.contains(&Kind::Local(*local)) || value.as_ref().is_some_and(Term::has_effect) {
+            return true;
         }
-        Statement::While { body, .. } => {
-            is_changed |= remove(body, is_used);
-            true
-        }
-        _ => true,
+        is_changed = true;
+        false
     });
-    is_changed || body.len() < before
+    is_changed
 }

@@ -1,0 +1,83 @@
+//! The functions that are printed: each generic one for the types that matter to it, from what is asked for.
+
+use super::ir::{Bindings, Callee, Done, Function, Id, Kind, all_kinds};
+use super::lower;
+use super::world::World;
+use std::collections::BTreeMap;
+
+/// The functions that were tried. Each is tried with parameters that stand for themselves, and then once more for
+/// each parameter of which more than constants matters.
+pub struct Instances<'w> {
+    pub world: &'w World<'w>,
+    tried: BTreeMap<Callee, Attempt>,
+}
+
+pub enum Attempt {
+    Started,
+    /// The type of this parameter matters.
+    Needs(String),
+    Made(Function),
+}
+
+impl<'w> Instances<'w> {
+    pub fn new(world: &'w World<'w>) -> Instances<'w> {
+        Instances { world, tried: BTreeMap::new() }
+    }
+
+    /// Adds a function for what its parameters stand for, and all that it calls. Returns it with those that matter.
+    pub fn add(&mut self, callee: &Callee) -> Done<Callee> {
+        let mut key = Callee { id: callee.id, bindings: Bindings::new() };
+        loop {
+            match self.tried.get(&key) {
+                Some(Attempt::Needs(name)) => {
+                    let of = self.world.erased(&callee.bindings[name]);
+                    key.bindings.insert(name.clone(), of);
+                }
+                Some(Attempt::Started) if key.bindings.len() < callee.bindings.len() => {
+                    return Err(self
+                        .world
+                        .fault_of(key.id, "a generic function that calls itself"));
+                }
+                Some(Attempt::Started | Attempt::Made(_)) => return Ok(key),
+                None => {
+                    self.tried.insert(key.clone(), Attempt::Started);
+                    let made = lower::function(self, &key, callee)?;
+                    self.tried.insert(key.clone(), made);
+                }
+            }
+        }
+    }
+
+    pub fn get(&self, key: &Callee) -> Option<&Function> {
+        if let Some(Attempt::Made(function)) = self.tried.get(key) { Some(function) } else { None }
+    }
+
+    /// Returns the constants that a function gets for parameters that do not matter.
+    pub fn constants(&self, key: &Callee) -> Vec<(String, Id)> {
+        self.get(key).map_or(Vec::new(), |function| function.constants.clone())
+    }
+
+    /// Returns functions and those that they call, each behind those that it calls.
+    pub fn ordered(&self, roots: &[Callee]) -> Vec<&Function> {
+        let mut found: Vec<&Function> = Vec::new();
+        let mut seen = Vec::new();
+        roots.iter().for_each(|root| self.visit(root, &mut seen, &mut found));
+        found
+    }
+
+    fn visit<'s>(&'s self, key: &Callee, seen: &mut Vec<Callee>, found: &mut Vec<&'s Function>) {
+        let Some(function) = self.get(key).filter(|_| !seen.contains(key)) else { return };
+        seen.push(key.clone());
+        called(function).iter().for_each(|callee| self.visit(callee, seen, found));
+        found.push(function);
+    }
+}
+
+/// Returns the functions that a function calls.
+pub fn called(function: &Function) -> Vec<Callee> {
+    let callees = all_kinds(&function.body).into_iter().filter_map(|kind| match kind {
+        Kind::Call(callee) => Some(callee),
+        _ => None,
+    });
+    callees.collect()
+}

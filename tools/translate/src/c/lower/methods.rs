@@ -1,0 +1,185 @@
+//! Methods of numbers and slices.
+
+use super::{Done, Lowering};
+use crate::c::ir::{Form, Integer, Kind, OK, Statement, Term, Type};
+use crate::tree::{
+    BinaryOperator, Expression, ExpressionKind, GenericArgument, LiteralKind, MethodCall,
+};
+
+impl Lowering<'_, '_> {
+    /// Evaluates a call of a method.
+    pub fn method(&mut self, call: &MethodCall) -> Done<Term> {
+        let name = call.name.text.as_str();
+        if let ("count", []) = (name, call.arguments.as_slice()) {
+            return self.count(&call.receiver);
+        }
+        let receiver = self.any(&call.receiver)?;
+        let target = self.followed(receiver.clone());
+        let of = match self.known(&target.of) {
+            Type::Of(Form::Item(_), _) | Type::Parameter(_) => {
+                return self.method_of_item(receiver, call);
+            }
+            // A trait of ours may have methods of numbers.
+            of @ Type::Integer(_) if self.world.member(&of, name).is_some() => {
+                return self.method_of_item(receiver, call);
+            }
+            Type::Of(Form::Result, _) if name == "ok" => return self.ok(target),
+            Type::Of(Form::Slice { .. }, _) if name == "copy_from_slice" => {
+                Type::slice(Type::BYTE, false)
+            }
+            Type::Of(Form::Slice { .. }, _) => Type::SIZE,
+            of @ Type::Integer(_) => of,
+            _ => return self.no_method(),
+        };
+        let arguments = call.arguments.iter().map(|it| (it, Some(of.clone()))).collect();
+        let terms = self.behind(target, arguments)?;
+        match of.integer() {
+            Some(integer) if !self.known(&terms[0].of).is_slice() => {
+                self.of_number(name, terms, integer)
+            }
+            _ => self.of_slice(terms, call),
+        }
+    }
+
+    fn no_method<T>(&self) -> Done<T> {
+        self.refuse("this method has no rule")
+    }
+
+    // `RESULT.ok()`.
+    fn ok(&mut self, result: Term) -> Done<Term> {
+        let name = self.hint.take().map_or("found".into(), |hint| format!("{hint}_found"));
+        let found = self.keep(result, &name);
+        let (mut tests, mut values) = self.parts(&found, OK)?;
+        Ok(self.maybe(tests.remove(0), values.remove(0)))
+    }
+
+    // `Some` of a value if a condition holds.
+    fn maybe(&self, test: Term, value: Term) -> Term {
+        let of = Type::Of(Form::Option, vec![value.of.clone()]);
+        self.make(Kind::Maybe, vec![test, value], of)
+    }
+
+    fn of_number(&mut self, name: &str, terms: Vec<Term>, own: Integer) -> Done<Term> {
+        use BinaryOperator::{Add, Multiply, Subtract};
+        let of = Type::Integer(own);
+        let (kind, of) = match (name, terms.len()) {
+            ("wrapping_add", 2) => (Kind::Wrapping(Add), of),
+            ("wrapping_sub", 2) => (Kind::Wrapping(Subtract), of),
+            ("wrapping_mul", 2) => (Kind::Wrapping(Multiply), of),
+            ("saturating_add", 2) => (Kind::Small("saturating_add"), of),
+            ("saturating_sub", 2) => (Kind::Small("saturating_sub"), of),
+            ("min", 2) => (Kind::Small("min"), of),
+            ("max", 2) => (Kind::Small("max"), of),
+            ("is_ascii_digit", 1) => (Kind::Small("is_digit"), Type::Boolean),
+            ("trailing_zeros", 1) => (Kind::Small("trailing_zeros"), Type::U32),
+            ("unsigned_abs", 1) => {
+                (Kind::Small("unsigned_abs"), Type::Integer(Integer { is_signed: false, ..own }))
+            }
+            ("checked_add", 2) => return Ok(self.checked("sum_fits", Add, terms)),
+            ("checked_mul", 2) => {
+                return Ok(self.checked("product_fits", Multiply, terms));
+            }
+            _ => return self.no_method(),
+        };
+        Ok(self.make(kind, terms, of))
+    }
+
+    // `checked_add` and so on: a result, if it is in range.
+    fn checked(&mut self, test: &'static str, operator: BinaryOperator, terms: Vec<Term>) -> Term {
+        let of = terms[0].of.clone();
+        let names = ["left", "right"].into_iter();
+        let terms: Vec<Term> =
+            terms.into_iter().zip(names).map(|(term, name)| self.keep(term, name)).collect();
+        let test = self.make(Kind::Small(test), terms.clone(), Type::Boolean);
+        let value = self.make(Kind::Binary(operator), terms, of);
+        self.maybe(test, value)
+    }
+
+    fn of_slice(&mut self, mut terms: Vec<Term>, call: &MethodCall) -> Done<Term> {
+        use BinaryOperator::{Equal, Greater, LessOrEqual};
+        let slice = terms.remove(0);
+        match (call.name.text.as_str(), terms.pop()) {
+            ("len", None) => Ok(self.length(&slice)),
+            ("is_empty", None) => Ok(self.test(Equal, self.length(&slice), self.size(0))),
+            ("first_chunk", None) => self.chunk(slice, Kind::First, call),
+            ("last_chunk", None) => self.chunk(slice, Kind::Last, call),
+            ("split_first", None) => {
+                let slice = self.keep(slice, "all");
+                let test = self.test(Greater, self.length(&slice), self.size(0));
+                let first = self.element(slice.clone(), self.size(0), Kind::Element)?;
+                let rest = self.part("from", vec![slice, self.size(1)])?;
+                Ok(self.maybe(test, self.tuple_of(vec![first, rest])))
+            }
+            (name @ ("split_at" | "split_at_checked"), Some(at)) => {
+                let slice = self.keep(slice, "all");
+                let at = self.keep(at, "at");
+                let test = self.test(LessOrEqual, at.clone(), self.length(&slice));
+                let front = self.part("to", vec![slice.clone(), at.clone()])?;
+                let rest = self.part("from", vec![slice, at])?;
+                let parts = self.tuple_of(vec![front, rest]);
+                Ok(if name == "split_at" { parts } else { self.maybe(test, parts) })
+            }
+            ("copy_from_slice", Some(from)) => {
+                let to = self.keep(slice, "to");
+                self.walk(from, |it, element, at| {
+                    let place = it.element(to, at.clone(), Kind::At)?;
+                    it.push(Statement::Assign { place, value: element });
+                    it.advance(at);
+                    Ok(())
+                })?;
+                Ok(self.unit())
+            }
+            _ => self.no_method(),
+        }
+    }
+
+    // The first or last bytes of a slice, if it has so many.
+    fn chunk(&mut self, slice: Term, kind: Kind, call: &MethodCall) -> Done<Term> {
+        let length = match call.generics.as_slice() {
+            [GenericArgument::Constant(literal)] => match literal.kind {
+                LiteralKind::Integer(value) => value,
+                _ => return self.no_method(),
+            },
+            _ => return self.refuse("the number of bytes is not written"),
+        };
+        let slice = self.keep(slice, "all");
+        let Type::Of(_, parts) = self.known(&slice.of) else { return self.no_method() };
+        let count = self.number(length, Type::SIZE);
+        let test = self.test(BinaryOperator::GreaterOrEqual, self.length(&slice), count.clone());
+        let bytes = self.make(kind, vec![slice, count], Type::array(parts[0].clone(), length));
+        Ok(self.maybe(test, bytes))
+    }
+
+    // `SLICE.iter().filter(..).count()` or with `take_while`, as a loop.
+    fn count(&mut self, source: &Expression) -> Done<Term> {
+        let step = method_of(source).and_then(|step| Some((step, method_of(&step.receiver)?)));
+        let step = step.map(|(step, iter)| (&*step.name.text, &*iter.name.text, step, iter));
+        let (otherwise, step, slice) = match step {
+            Some(("filter", "iter", step, iter)) => (Statement::Continue, step, &iter.receiver),
+            Some(("take_while", "iter", step, iter)) => (Statement::Break, step, &iter.receiver),
+            _ => return self.refuse("only `iter().filter(..)` and `take_while` are counted"),
+        };
+        let [Expression { kind: ExpressionKind::Closure { parameters, body }, .. }] =
+            &step.arguments[..]
+        else {
+            return self.refuse("what is no closure");
+        };
+        let count = self.hold(self.size(0), "count", true);
+        let slice = self.any(slice)?;
+        self.walk(slice, |it, element, at| {
+            for parameter in parameters {
+                it.destructure(parameter, element.clone(), None)?;
+            }
+            it.advance(at);
+            let test = it.term(body, &Type::Boolean)?;
+            it.push_if(test.negated(), vec![otherwise], Vec::new());
+            it.advance(count.clone());
+            Ok(())
+        })?;
+        Ok(count)
+    }
+}
+
+fn method_of(expression: &Expression) -> Option<&MethodCall> {
+    if let ExpressionKind::Method(call) = &expression.kind { Some(call) } else { None }
+}

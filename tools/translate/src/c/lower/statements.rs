@@ -1,0 +1,288 @@
+//! Statements: blocks, variables, loops, assignments, and branches, which end in statements, a choice, or a variable.
+
+use super::patterns::Binding;
+use super::{Done, Lowering, Target};
+use crate::c::ir::{Kind, Statement, Term, Type};
+use crate::tree::{
+    Arm, BinaryOperator, Block, Expression, ExpressionKind, Let, Pattern, PatternKind,
+};
+
+/// One way that an `if` or `match` goes on.
+struct Branch {
+    condition: Option<Term>,
+    statements: Vec<Statement>,
+    value: Term,
+}
+
+impl Lowering<'_, '_> {
+    /// Evaluates an expression, and moves its value to the target.
+    pub fn evaluate(&mut self, tree: &Expression, target: Target) -> Done<Term> {
+        let before = std::mem::replace(&mut self.at, tree.span);
+        let mut value = self.unit();
+        match &tree.kind {
+            ExpressionKind::Group(inner) => value = self.evaluate(inner, target)?,
+            ExpressionKind::Block(block) => value = self.block(block, target)?,
+            ExpressionKind::If { condition, then, otherwise } => {
+                value = self.if_else(condition, then, otherwise.as_deref(), target)?;
+            }
+            ExpressionKind::Match { value: tree, arms } => {
+                value = self.match_arms(tree, arms, target)?;
+            }
+            ExpressionKind::Return(Some(tree)) if target != Target::Value => {
+                self.evaluate(tree, Target::Return)?;
+            }
+            ExpressionKind::Break => self.push(Statement::Break),
+            ExpressionKind::While { condition, body } => {
+                let condition =
+                    self.alone("the condition of a loop", |it| it.term(condition, &Type::Boolean))?;
+                let (body, _) = self.apart(|it| it.block(body, Target::Nothing))?;
+                self.push(Statement::While { condition, body });
+            }
+            ExpressionKind::For { pattern, value, body } => {
+                let slice = self.any(value)?;
+                self.walk(slice, |it, element, at| {
+                    it.destructure(pattern, element, None)?;
+                    it.advance(at);
+                    it.block(body, Target::Nothing).map(|_| ())
+                })?;
+            }
+            ExpressionKind::Assign { operator, place, value } => {
+                self.assign(*operator, place, value)?;
+            }
+            _ => {
+                value = self.value(tree)?;
+                if target == Target::Return {
+                    let value = self.coerce(value.clone(), &self.result.clone())?;
+                    self.push(Statement::Return(value));
+                } else if target == Target::Nothing && value.has_effect() {
+                    return self.refuse("a value that nothing takes");
+                }
+            }
+        }
+        self.at = before;
+        Ok(value)
+    }
+
+    /// Puts a block into the current statements, with its value at the target.
+    pub fn block(&mut self, block: &Block, target: Target) -> Done<Term> {
+        self.scopes.push(Default::default());
+        for statement in &block.statements {
+            self.comment(&statement.comments);
+            match &statement.expression.kind {
+                ExpressionKind::Let(it) => self.let_statement(it)?,
+                _ => {
+                    self.evaluate(&statement.expression, Target::Nothing)?;
+                }
+            }
+        }
+        self.comment(&block.comments);
+        let value = match &block.value {
+            Some(value) => self.evaluate(value, target)?,
+            None => self.unit(),
+        };
+        self.scopes.pop();
+        Ok(value)
+    }
+
+    fn let_statement(&mut self, tree: &Let) -> Done<()> {
+        let of = match &tree.annotation {
+            Some(of) => self.world.type_in(&self.place, of)?,
+            None => self.fresh(false),
+        };
+        self.at = tree.pattern.span;
+        if let PatternKind::Binding { name, pattern: None, .. } = &tree.pattern.kind {
+            self.hint = Some(name.text.clone());
+        }
+        let found = self.term(&tree.value, &of)?;
+        self.hint = None;
+        self.destructure(&tree.pattern, found, tree.otherwise.as_ref())
+    }
+
+    /// Walks over a slice, by what is done with an element and the offset.
+    pub fn walk(
+        &mut self,
+        slice: Term,
+        make: impl FnOnce(&mut Self, Term, Term) -> Done<()>,
+    ) -> Done<()> {
+        let slice = self.keep(slice, "all");
+        if !self.known(&slice.of).is_slice() {
+            return self.refuse("a loop over this has no rule");
+        }
+        let at = self.hold(self.size(0), "at", true);
+        let condition = self.test(BinaryOperator::Less, at.clone(), self.length(&slice));
+        let (body, ()) = self.apart(|it| {
+            let element = it.element(slice, at.clone(), Kind::Element)?;
+            make(it, element, at)
+        })?;
+        self.push(Statement::While { condition, body });
+        Ok(())
+    }
+
+    pub fn advance(&mut self, place: Term) {
+        let parts = vec![place.clone(), self.size(1)];
+        let value = self.make(Kind::Binary(BinaryOperator::Add), parts, Type::SIZE);
+        self.push(Statement::Assign { place, value });
+    }
+
+    // Puts an assignment into the current statements.
+    fn assign(
+        &mut self,
+        operator: Option<BinaryOperator>,
+        place: &Expression,
+        value: &Expression,
+    ) -> Done<()> {
+        let place = self.alone("a place", |it| it.any(place))?;
+        let mut value = self.term(value, &place.of)?;
+        // The value comes first, also where C leaves the order open.
+        let is_simple = operator.is_none() && matches!(place.kind, Kind::Local(_));
+        if value.has_effect() && !is_simple {
+            value = self.hold(value, "result", false);
+        }
+        if let Some(operator) = operator {
+            let parts = vec![place.clone(), value];
+            value = self.make(Kind::Binary(operator), parts, place.of.clone());
+        }
+        self.push(Statement::Assign { place, value });
+        Ok(())
+    }
+
+    /// Returns a value that may be read more than once: what is computed is held in a variable.
+    pub fn keep(&mut self, mut term: Term, name: &str) -> Term {
+        if term.is_tuple() {
+            let parts = std::mem::take(&mut term.parts).into_iter();
+            term.parts = parts.map(|it| self.keep(it, name)).collect();
+        }
+        let is_kept = term.kind == Kind::Maybe || term.is_tuple() || term.is_path();
+        if is_kept { term } else { self.hold(term, name, false) }
+    }
+
+    fn if_else(
+        &mut self,
+        condition: &Expression,
+        then: &Block,
+        otherwise: Option<&Expression>,
+        target: Target,
+    ) -> Done<Term> {
+        let (condition, bindings) = match &condition.kind {
+            ExpressionKind::Let(it) => self.fits(&it.value, &it.pattern)?,
+            _ => (self.term(condition, &Type::Boolean)?, Vec::new()),
+        };
+        let (statements, value) = self.apart(|it| {
+            it.bind_all(bindings, |_, _| false);
+            it.block(then, target)
+        })?;
+        let then = Branch { condition: Some(condition), statements, value };
+        let (statements, value) = self.apart(|it| match otherwise {
+            Some(otherwise) => it.evaluate(otherwise, target),
+            None => Ok(it.unit()),
+        })?;
+        self.join(vec![then, Branch { condition: None, statements, value }], target)
+    }
+
+    /// Returns whether a value fits a pattern, and what is bound then.
+    pub fn fits(&mut self, value: &Expression, pattern: &Pattern) -> Done<(Term, Vec<Binding>)> {
+        let found = self.any(value)?;
+        let found = self.keep(found, "found");
+        let (tests, bindings) = self.matched(pattern, &found)?;
+        Ok((self.joined(tests, BinaryOperator::And), bindings))
+    }
+
+    fn match_arms(&mut self, value: &Expression, arms: &[Arm], target: Target) -> Done<Term> {
+        let found = self.any(value)?;
+        let found = self.keep(found, "found");
+        let mut branches: Vec<Branch> = Vec::new();
+        for (number, arm) in arms.iter().enumerate() {
+            let (mut tests, bindings) = self.matched(&arm.pattern, &found)?;
+            if let Some(guard) = &arm.guard {
+                tests.push(self.alone("a guard", |it| {
+                    it.bind_all(bindings.clone(), |_, _| true);
+                    it.term(guard, &Type::Boolean)
+                })?);
+            } else if number + 1 == arms.len() {
+                // All values that are left fit.
+                tests.clear();
+            }
+            let is_end = tests.is_empty();
+            let condition = (!is_end).then(|| self.joined(tests, BinaryOperator::And));
+            let (statements, value) = self.apart(|it| {
+                it.comment(&arm.comments);
+                // In a value, unless something may change the parts meanwhile.
+                it.bind_all(bindings, |it, part| target == Target::Value && it.is_constant(part));
+                it.evaluate(&arm.body, target)
+            })?;
+            branches.push(Branch { condition, statements, value });
+            if is_end {
+                break;
+            }
+        }
+        self.join(branches, target)
+    }
+
+    // Ends branches: puts them into the current statements, and returns a value if that is the target.
+    fn join(&mut self, mut branches: Vec<Branch>, target: Target) -> Done<Term> {
+        let known = |branch: &Branch| branch.condition.as_ref().map(|it| it.kind.clone());
+        branches.retain(|it| known(it) != Some(Kind::Boolean(false)));
+        let always = branches.iter().position(|it| known(it) == Some(Kind::Boolean(true)));
+        if let Some(always) = always {
+            branches.truncate(always + 1);
+            branches[always].condition = None;
+        }
+        if target != Target::Value {
+            self.push_branches(branches);
+            return Ok(self.unit());
+        }
+        // An array may be a slice.
+        let types: Vec<Type> = branches.iter().map(|it| self.known(&it.value.of)).collect();
+        let of = types.iter().find(|of| of.is_slice()).unwrap_or(&types[0]).clone();
+        let is_short = branches.iter().all(|it| it.statements.is_empty());
+        if is_short && branches.len() <= 3 {
+            let mut chosen: Option<Term> = None;
+            for branch in branches.into_iter().rev() {
+                let term = self.coerce(branch.value, &of)?;
+                chosen = Some(match (branch.condition, chosen) {
+                    (Some(test), Some(other)) => {
+                        self.make(Kind::Choice, vec![test, term, other], of.clone())
+                    }
+                    _ => term,
+                });
+            }
+            return chosen.ok_or_else(|| self.fault("no value"));
+        }
+        let local = self.variable("chosen", of.clone(), false);
+        self.push(Statement::Declare { local, value: None });
+        for branch in &mut branches {
+            let value = self.coerce(branch.value.clone(), &of)?;
+            branch.statements.push(Statement::Assign { place: self.local(local), value });
+        }
+        self.push_branches(branches);
+        Ok(self.local(local))
+    }
+
+    // Puts branches into the current statements, as a chain of `if`.
+    fn push_branches(&mut self, branches: Vec<Branch>) {
+        let mut otherwise = Vec::new();
+        for branch in branches.into_iter().rev() {
+            let Some(condition) = branch.condition else {
+                otherwise = branch.statements;
+                continue;
+            };
+            let before = std::mem::take(&mut self.statements);
+            self.push_if(condition, branch.statements, otherwise);
+            otherwise = std::mem::replace(&mut self.statements, before);
+        }
+        self.extend(otherwise);
+    }
+
+    /// Puts an `if` into the current statements. What follows a branch that leaves needs no `else`.
+    pub fn push_if(
+        &mut self,
+        condition: Term,
+        then: Vec<Statement>,
+        mut otherwise: Vec<Statement>,
+    ) {
+        let leaves = then.last().is_some_and(Statement::leaves);
+        let after = if leaves { std::mem::take(&mut otherwise) } else { Vec::new() };
+        self.push(Statement::If { condition, then, otherwise });
+        self.extend(after);
+    }
+}
