@@ -107,7 +107,7 @@ impl<'a> Names<'a> {
     fn declaration(&self, item: &Item) -> Done<()> {
         match &item.kind {
             ItemKind::Use(imports) => return imports.iter().try_for_each(|it| self.import(it)),
-            ItemKind::Implementation { of, .. } => return self.implementation(of, item),
+            ItemKind::Implementation { .. } => return self.implementation(item),
             ItemKind::Ghost | ItemKind::GhostUse { .. } => return Ok(()),
             ItemKind::Enum(variants) => {
                 variants.iter().try_for_each(|variant| self.declare(&variant.name, true))?;
@@ -144,21 +144,17 @@ impl<'a> Names<'a> {
         Err(self.source.fault(span, reason))
     }
 
-    // Refuses an `impl` of a trait of ours for types that users can make: each parameter must have a trait of
-    // ours, which no type of theirs has.
-    fn implementation(&self, of: &Option<Path>, item: &Item) -> Done<()> {
+    // Refuses an `impl` for types that users can make, which may have a trait of ours then: each parameter must have
+    // a trait of ours itself, which no type of theirs has.
+    fn implementation(&self, item: &Item) -> Done<()> {
         let is_own = |path: &Path| self.is_own_trait(&path.names());
         let is_open = |parameter: &&GenericParameter| match &parameter.kind {
             GenericKind::Type(bound) => !bound.as_ref().is_some_and(is_own),
             GenericKind::Constant(_) => false,
         };
-        match item.generics.iter().find(is_open) {
-            Some(open) if of.as_ref().is_some_and(is_own) => {
-                let reason = "an `impl` of a trait of ours for types that users can make";
-                Err(self.source.fault(open.name.span, reason))
-            }
-            _ => Ok(()),
-        }
+        let reason = "an `impl` for types that users can make";
+        let open = item.generics.iter().find(is_open);
+        open.map_or(Ok(()), |open| Err(self.source.fault(open.name.span, reason)))
     }
 
     fn is_own_trait(&self, names: &[&str]) -> bool {

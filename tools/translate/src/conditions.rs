@@ -5,37 +5,40 @@ use crate::modules::{Module, Package};
 use crate::source::{Done, Span};
 use crate::std_names::has;
 use crate::tree::*;
-use std::collections::{BTreeMap, BTreeSet};
+use std::collections::BTreeMap;
 
 /// The tests of a module, by the offset of the body that each goes into.
 pub type Tests = BTreeMap<usize, String>;
 
-/// A clause that callers must meet, with the path of each definition that it names, the parameters that it is
+/// A clause that callers must meet, the names of definitions in it, each with its module, the parameters that it is
 /// about, and what tests it in Rust.
 struct Condition {
     clause: &'static str,
+    names: &'static [(&'static str, &'static str)],
     parameters: &'static [&'static str],
     test: &'static str,
 }
 
+const PRELUDE: &str = "Rattle.std.specs.Prelude";
+const DIGIT: &str = "Rattle.atoi_core.specs.Digit";
+const FIELDS: &str = "Rattle.atoi_column.specs.Fields";
+
 const CONDITIONS: [Condition; 3] = [
     Condition {
-        clause: "Rattle.atoi_column.specs.Fields.is_separator separator \
-            Rattle.std.specs.Prelude.≡ Rattle.std.specs.Prelude.true",
+        clause: "is_separator separator ≡ true",
+        names: &[("is_separator", FIELDS), ("≡", PRELUDE), ("true", PRELUDE)],
         parameters: &["separator: u8"],
         test: "assert!(crate::column::is_separator(separator), \"a sign or a digit separates fields\");",
     },
     Condition {
-        clause: "Rattle.std.specs.Prelude.IsFalse ( Rattle.atoi_core.specs.Digit.is_digit \
-            Rattle.atoi_core.specs.Digit.decimal_table byte )",
+        clause: "IsFalse (is_digit decimal_table byte)",
+        names: &[("IsFalse", PRELUDE), ("is_digit", DIGIT), ("decimal_table", DIGIT)],
         parameters: &["byte: u8"],
         test: "assert!(!byte.is_ascii_digit(), \"a digit is to follow the number\");",
     },
     Condition {
-        clause: "( index Rattle.std.specs.Prelude.+ Rattle.std.specs.Prelude.length self.rest \
-            Rattle.std.specs.Prelude.< 2 Rattle.std.specs.Prelude.^ 64 ) \
-            × ( place Rattle.std.specs.Prelude.+ Rattle.std.specs.Prelude.length self.rest \
-            Rattle.std.specs.Prelude.< 2 Rattle.std.specs.Prelude.^ 64 )",
+        clause: "(index + length self.rest < 2 ^ 64) × (place + length self.rest < 2 ^ 64)",
+        names: &[("+", PRELUDE), ("length", PRELUDE), ("<", PRELUDE), ("^", PRELUDE)],
         parameters: &["index: usize", "place: usize"],
         test: "assert!(self.rest.len() <= usize::MAX - index, \"the fields have too many indices\"); \
             assert!(self.rest.len() <= usize::MAX - place, \"the fields end above usize::MAX\");",
@@ -124,21 +127,14 @@ impl Finder<'_> {
     ) -> Done<()> {
         let Module { crate_name, path, source, .. } = self.module;
         let path = format!("{crate_name}::{}::{owner}::{}", path.join("::"), item.name.text);
-        let parameters = function.parameters.iter();
-        let parameters = parameters
-            .map(|it| format!("{}: {}", it.name.text, source.at(it.annotation.span)))
-            .collect::<Vec<_>>();
         for clause in function.clauses.iter().filter(|clause| clause.is_condition) {
-            let text = source.at(clause.text);
-            let words: Vec<&str> = text.split_whitespace().collect();
-            if UNTESTED.contains(&(&path, &words.join(" "))) {
+            let words: Vec<&str> = source.at(clause.text).split_whitespace().collect();
+            let text = words.join(" ");
+            if UNTESTED.contains(&(&path, &text)) {
                 continue;
             }
-            let text = self.with_paths(item, function, text);
-            let known = CONDITIONS.iter().find(|known| {
-                let has = |parameter: &&str| parameters.iter().any(|it| it == parameter);
-                known.clause == text && known.parameters.iter().all(has)
-            });
+            let known = CONDITIONS.iter().find(|known| known.clause == text);
+            let known = known.filter(|known| self.is_about(known, item, function));
             let (Some(known), Some(body)) = (known, body) else {
                 return self.refuse(clause.span, "a condition that nothing tests in Rust");
             };
@@ -147,36 +143,30 @@ impl Finder<'_> {
         Ok(())
     }
 
-    // The clause with the path of each name that a `ghost use` imports and no parameter hides.
-    fn with_paths(&self, item: &Item, function: &Function, clause: &str) -> String {
-        let generics = item.generics.iter().map(|parameter| &parameter.name);
-        let parameters = function.parameters.iter().map(|parameter| &parameter.name);
-        let hidden: Vec<&str> = generics.chain(parameters).map(|name| name.text.as_str()).collect();
-        let with_path = |word: &str| {
-            let modules = self.modules_with(word);
-            match modules.first() {
-                // A name that is imported from two modules is that of neither.
-                Some(module) if modules.len() == 1 && !hidden.contains(&word) => {
-                    format!("{module}.{word}")
-                }
-                _ => word.into(),
-            }
+    // Whether a function has the parameters of a condition, and the names in it stand for their definitions.
+    fn is_about(&self, condition: &Condition, item: &Item, function: &Function) -> bool {
+        let text = |it: &Parameter| self.module.source.at(it.name.span.to(it.annotation.span));
+        let parameters: Vec<&str> = function.parameters.iter().map(text).collect();
+        let hides = |name: &str| {
+            let mut generics = item.generics.iter().map(|it| &it.name);
+            let mut parameters = function.parameters.iter().map(|it| &it.name);
+            generics.any(|it| it.text == name) || parameters.any(|it| it.text == name)
         };
-        let words = clause.replace('(', "( ").replace(')', " )");
-        words.split_whitespace().map(with_path).collect::<Vec<_>>().join(" ")
+        condition.parameters.iter().all(|parameter| parameters.contains(parameter))
+            && condition.names.iter().all(|(name, from)| !hides(name) && self.imports(name, from))
     }
 
-    // The modules of which some `ghost use` line of the module imports this name.
-    fn modules_with(&self, word: &str) -> BTreeSet<&str> {
+    // Whether all `ghost use` lines of the module that import a name, and at least one, import it from here.
+    fn imports(&self, name: &str, from: &str) -> bool {
         let items = self.module.tree.items.iter();
         let items = items.flat_map(|item| std::iter::once(item).chain(item.members()));
-        let modules = items.filter_map(|item| match &item.kind {
+        let mut modules = items.filter_map(|item| match &item.kind {
             ItemKind::GhostUse { module, names } => {
-                names.iter().any(|name| name.trim_matches('◌') == word).then_some(module.as_str())
+                names.iter().any(|it| it.trim_matches('◌') == name).then_some(module)
             }
             _ => None,
         });
-        modules.collect()
+        modules.next().is_some_and(|first| first == from) && modules.all(|it| it == from)
     }
 
     // Refuses an `impl` of `Model` with other items than ghost items, and an invariant of what users can write,
@@ -203,12 +193,9 @@ impl Finder<'_> {
     }
 }
 
-// The name of a type, if it is a name alone.
+// The name of a type, or of the module that it is in.
 fn name_of(target: &Type) -> &str {
-    match &target.kind {
-        TypeKind::Path(path) if path.segments.len() == 1 => &path.segments[0].name.text,
-        _ => "",
-    }
+    if let TypeKind::Path(path) = &target.kind { &path.segments[0].name.text } else { "" }
 }
 
 fn functions(item: &Item) -> impl Iterator<Item = (&Item, &Function)> {

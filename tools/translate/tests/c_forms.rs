@@ -21,7 +21,8 @@ fn checked_operators_assert_what_is_proved() {
 // What a compiler has in each file must be small, and functions that types do not change are there once.
 #[test]
 fn the_library_has_an_inline_part_and_the_rest() {
-    let [(_, header), (_, source)] = made(Path::new(TOP), false).unwrap();
+    let [(_, header), (file, source)] = made(Path::new(TOP), false).unwrap();
+    assert_eq!(torkettle_translate::made(Path::new(TOP)).unwrap()[Path::new(file)], source);
     for text in [&header, &source] {
         assert!(text.is_ascii());
         assert!(text.lines().all(|line| line.len() <= 120));

@@ -193,24 +193,16 @@ impl Parser<'_> {
         Ok(Kind::Tuple(values))
     }
 
-    // Reads `VALUE; LENGTH]`, or values and `]`.
+    // Reads values and `]`, or `VALUE; LENGTH]` with a value of one token.
     fn array(&mut self) -> Done<Kind> {
-        let mut length = None;
-        let mut values = self.list("]", |parser| {
-            let value = parser.expression()?;
-            if length.is_none() {
-                length = parser.after(";", Self::length)?;
-            }
-            Ok(value)
-        })?;
-        match length {
-            None => Ok(Kind::Array(values)),
-            Some(length) if values.len() == 1 => {
-                let (value, length) = (Box::new(values.remove(0)), Box::new(length));
-                Ok(Kind::Repeat { value, length })
-            }
-            Some(length) => self.refuse_form(length.span, "a length behind more values"),
+        if !self.is_ahead(1, ";") {
+            return Ok(Kind::Array(self.list("]", Self::expression)?));
         }
+        let value = self.boxed()?;
+        self.expect(";")?;
+        let length = Box::new(self.length()?);
+        self.expect("]")?;
+        Ok(Kind::Repeat { value, length })
     }
 
     // Reads the length of an array: a number, or the name of a constant.
@@ -347,14 +339,13 @@ impl Parser<'_> {
 
     // Reads `NAME: VALUE` or `NAME`.
     fn field(&mut self) -> Done<(Name, Expression)> {
-        if self.is_ahead(1, ":") {
-            let name = self.name()?;
-            self.step();
+        let (start, name) = (self.span(), self.name()?);
+        if self.eat(":") {
             return Ok((name, self.expression()?));
         }
-        let start = self.span();
-        let path = self.path(Role::Value)?;
-        Ok((path.last().name.clone(), self.node(start, Kind::Path(path))))
+        let path = Path::of(name.clone());
+        self.mentions.push(Mention::Path(path.clone(), Role::Value));
+        Ok((name, self.node(start, Kind::Path(path))))
     }
 
     // Reads what gives the other fields: a variable, a constant or `*self`. Rattle need not read more.

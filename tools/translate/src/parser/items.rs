@@ -148,10 +148,7 @@ impl<'a> Parser<'a> {
             _ => false,
         };
         if !is_known {
-            return self.refuse(match place {
-                Place::Module => "an item",
-                _ => "a function, a constant or a ghost item",
-            });
+            return self.refuse("an item of this place");
         }
         Ok(self.source.at(self.step()))
     }
