@@ -97,15 +97,11 @@ impl Facade<'_> {
         if is_public && self.parser.eat("use") {
             return self.export(start);
         }
-        if self.parser.eat("extern") {
-            self.parser.expect("crate")?;
-            self.parser.expect("std")?;
-        } else {
-            self.parser.expect("compile_error")?;
-            self.parser.expect("!")?;
-            self.parser.expect("(")?;
+        if self.parser.eat_all(&["compile_error", "!", "("]) {
             self.parser.step();
             self.parser.expect(")")?;
+        } else if !self.parser.eat_all(&["extern", "crate", "std"]) {
+            return self.parser.refuse("a module or an export");
         }
         self.parser.expect(";").map(|_| ())
     }

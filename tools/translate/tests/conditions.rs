@@ -31,26 +31,26 @@ fn each_planted_condition_is_refused_where_users_call() {
     let exported: Vec<&str> = exports.iter().map(|export| export.name.text.as_str()).collect();
     let (mut refused, mut taken) = (0, 0);
     for number in 0..package.modules.len() {
-        let before = package.modules[number].clone();
-        let functions = functions(&before, &exported);
-        let lines = before.source.text.lines().map(|line| line.trim_start());
+        let Module { crate_name, path, source, .. } = &package.modules[number];
+        let (crate_name, path, source) = (*crate_name, path.clone(), source.clone());
+        let functions = functions(&package.modules[number], &exported);
+        let lines = source.text.lines().map(|line| line.trim_start());
         let lines =
             lines.map(|line| line.trim_start_matches("pub ").trim_start_matches("pub(crate) "));
         assert_eq!(lines.filter(|line| line.starts_with("fn ")).count(), functions.len());
         for (end, is_callable) in functions {
-            let (head, tail) = before.source.text.split_at(end);
+            let (head, tail) = source.text.split_at(end);
             let text = format!("{head} requires {{ 0 ≡ 1 }} {tail}");
-            let source = Source { text, ..before.source.clone() };
-            package.modules[number] =
-                Module::new(before.crate_name, before.path.clone(), source).unwrap();
+            let changed = Source::new(&source.path, text);
+            package.modules[number] = Module::new(crate_name, path.clone(), changed).unwrap();
             let line = 1 + head.matches('\n').count();
             let fault = conditions::tests(&package, &exported).err();
             let place = fault.map(|fault| (fault.file, fault.line));
-            let expected = is_callable.then(|| (before.source.path.clone(), Some(line)));
-            assert_eq!(place, expected, "line {line} of {}", before.source.path.display());
+            let expected = is_callable.then(|| (source.path.clone(), Some(line)));
+            assert_eq!(place, expected, "line {line} of {}", source.path.display());
             *if is_callable { &mut refused } else { &mut taken } += 1;
         }
-        package.modules[number] = before;
+        package.modules[number] = Module::new(crate_name, path, source).unwrap();
     }
     println!("{refused} conditions refused, {taken} of functions that users cannot call");
     assert!(refused > 100 && taken > 50);

@@ -59,24 +59,20 @@ fn made(
 // What becomes of a form in a source of the repository.
 fn added(facade: &Source, package: &mut Package, place: &str, form: &str) -> (Done<String>, usize) {
     let file = Path::new("crates").join(place.replacen('/', "/src/", 1));
-    let modules = &mut package.modules;
-    let number = modules.iter().position(|it| it.source.path == file).expect(place);
-    let before = modules[number].clone();
+    let number = package.modules.iter().position(|it| it.source.path == file).expect(place);
+    let Module { crate_name, path, source, .. } = &package.modules[number];
     let (text, lines) = match form.split_once('⇒') {
-        Some((old, new)) => (before.source.text.replacen(old, new, 1), 0),
-        None => {
-            let text = format!("{}\n{form}\n", before.source.text);
-            (text, before.source.text.lines().count() + 1)
-        }
+        Some((old, new)) => (source.text.replacen(old, new, 1), 0),
+        None => (format!("{}\n{form}\n", source.text), source.text.lines().count() + 1),
     };
-    assert_ne!(text, before.source.text, "{form}");
-    let source = Source { text, ..before.source.clone() };
-    let made = Module::new(before.crate_name, before.path.clone(), source).and_then(|module| {
-        package.modules[number] = module;
-        translate(facade, package)
+    assert_ne!(text, source.text, "{form}");
+    let module = Module::new(crate_name, path.clone(), Source::new(&source.path, text));
+    let rust = module.and_then(|mut module| {
+        std::mem::swap(&mut package.modules[number], &mut module);
+        let made = translate(facade, package);
+        std::mem::swap(&mut package.modules[number], &mut module);
+        Ok(made?[&module.rust_file()].clone())
     });
-    package.modules[number] = before;
-    let rust = made.map(|made| made[&package.modules[number].rust_file()].clone());
     let lines_of = |rust: String| rust.lines().skip(lines).collect::<Vec<_>>().join("\n");
     (rust.map(lines_of), lines)
 }

@@ -307,12 +307,9 @@ impl Parser<'_> {
 
     // Reads `matches!(VALUE, PATTERN)`. No other macro has a rule.
     fn matches(&mut self) -> Done<Kind> {
-        if !self.is("matches") {
+        if !self.eat_all(&["matches", "!", "("]) {
             return self.refuse_form(self.span(), &format!("the macro `{}`", self.text()));
         }
-        self.step();
-        self.expect("!")?;
-        self.expect("(")?;
         let value = self.boxed()?;
         self.expect(",")?;
         let pattern = self.pattern()?;

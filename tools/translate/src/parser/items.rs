@@ -24,7 +24,7 @@ impl<'a> Parser<'a> {
         while self.eat_kind(Kind::InnerDoc) {}
         while self.kind() != Kind::End {
             let start = self.span();
-            if self.is_ahead(1, "!") && self.eat("#") && self.eat("!") {
+            if self.eat_all(&["#", "!"]) {
                 let attribute = self.attribute(start)?;
                 if attribute.kind != AttributeKind::Tactic {
                     return self.refuse_form(start, "this attribute of a whole module");
@@ -59,20 +59,19 @@ impl<'a> Parser<'a> {
         let name = self.name()?;
         let kind = match (&*name.text, self.eat("(")) {
             ("inline", false) => AttributeKind::Inline,
+            ("inline", true) if self.eat_all(&["always", ")"]) => AttributeKind::AlwaysInline,
+            ("inline", true) if self.eat_all(&["never", ")"]) => AttributeKind::NeverInline,
             ("cold", false) => AttributeKind::Cold,
-            ("inline", true) if self.eat("always") => self.closed(AttributeKind::AlwaysInline)?,
-            ("inline", true) if self.eat("never") => self.closed(AttributeKind::NeverInline)?,
-            ("doc", true) if self.eat("hidden") => self.closed(AttributeKind::Hidden)?,
+            ("doc", true) if self.eat_all(&["hidden", ")"]) => AttributeKind::Hidden,
             ("derive", true) => AttributeKind::Derive(self.list(")", Self::derived)?),
-            ("tactic", true) => self.tactic()?,
+            ("tactic", true) => {
+                self.list(")", Self::hint)?;
+                AttributeKind::Tactic
+            }
             (other, _) => return self.refuse_form(start, &format!("the attribute `{other}`")),
         };
         self.expect("]")?;
         Ok(self.node(start, kind))
-    }
-
-    fn closed(&mut self, kind: AttributeKind) -> Done<AttributeKind> {
-        self.expect(")").map(|_| kind)
     }
 
     fn derived(&mut self) -> Done<String> {
@@ -82,38 +81,26 @@ impl<'a> Parser<'a> {
         Ok(self.word().text)
     }
 
-    // Steps over the arguments of a hint, which are names, paths and lists of them.
-    fn tactic(&mut self) -> Done<AttributeKind> {
-        let mut depth = 1;
-        while depth > 0 {
-            match self.text() {
-                "(" => depth += 1,
-                ")" => depth -= 1,
-                "," | "::" => {}
-                _ if self.kind() == Kind::Name => {}
-                _ => return self.refuse("a hint to the prover"),
-            }
-            self.step();
+    // Steps over an argument of a hint to the prover: a path, which may have arguments itself.
+    fn hint(&mut self) -> Done<()> {
+        if !self.eat_kind(Kind::Name) {
+            return self.refuse("a hint to the prover");
         }
-        Ok(AttributeKind::Tactic)
+        if self.eat("::") {
+            return self.hint();
+        }
+        self.after("(", |parser| parser.list(")", Self::hint)).map(|_| ())
     }
 
     // Reads nothing, `pub` or `pub(crate)`, and returns whether it is `pub`.
-    fn visibility(&mut self) -> Done<bool> {
-        if !self.eat("pub") {
-            return Ok(false);
-        }
-        let narrowed = self.after("(", |parser| {
-            parser.expect("crate")?;
-            parser.expect(")")
-        })?;
-        Ok(narrowed.is_none())
+    fn visibility(&mut self) -> bool {
+        !self.eat_all(&["pub", "(", "crate", ")"]) && self.eat("pub")
     }
 
     fn item(&mut self, place: Place) -> Done<Item> {
         let outer = std::mem::take(&mut self.mentions);
         let (notes, start) = (self.notes()?, self.span());
-        let is_public = place != Place::Trait && self.visibility()?;
+        let is_public = place != Place::Trait && self.visibility();
         let keyword = self.keyword(place, start)?;
         let name = match keyword {
             "use" | "impl" => Name { text: String::new(), span: start },
@@ -263,7 +250,7 @@ impl<'a> Parser<'a> {
 
     fn named_field(&mut self) -> Done<Field> {
         self.notes()?;
-        let (is_public, name) = (self.visibility()?, self.name()?);
+        let (is_public, name) = (self.visibility(), self.name()?);
         self.expect(":")?;
         Ok(Field { is_public, name, annotation: self.type_()? })
     }

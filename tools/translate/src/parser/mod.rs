@@ -93,6 +93,12 @@ impl<'a> Parser<'a> {
         is_next
     }
 
+    /// Steps over keywords and symbols if all of them come next.
+    pub fn eat_all(&mut self, texts: &[&str]) -> bool {
+        let are_next = texts.iter().enumerate().all(|(at, text)| self.is_ahead(at, text));
+        are_next && texts.iter().all(|text| self.eat(text))
+    }
+
     // Steps over a sign if it comes next, also as the first half of a symbol: `>` of `>>`, `&` of `&&`.
     fn eat_sign(&mut self, sign: &str) -> bool {
         let is_half = self.kind() == Kind::Symbol && self.text() == sign.repeat(2);
