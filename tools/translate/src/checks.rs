@@ -89,7 +89,11 @@ impl<'a> Names<'a> {
 
     fn mention(&mut self, mention: &'a Mention) -> Done<()> {
         match mention {
-            Mention::Path(path, role) => self.assert(self.is_known(path, *role), path.span)?,
+            Mention::Path(path, role) => {
+                let names: Vec<&str> = path.iter().map(|name| name.text.as_str()).collect();
+                let span = path[0].span.to(path[path.len() - 1].span);
+                self.assert(self.is_known(&names, *role), span)?;
+            }
             Mention::Method(name) => self.assert(self.is_known_method(&name.text), name.span)?,
             Mention::Local(name) => {
                 // It must not hide a type or a constant, or mean something without being declared.
@@ -172,13 +176,13 @@ impl<'a> Names<'a> {
         self.locals.iter().flatten().any(|local| *local == name)
     }
 
-    fn is_known(&self, path: &Path, role: Role) -> bool {
-        match *path.names() {
+    fn is_known(&self, names: &[&str], role: Role) -> bool {
+        match *names {
             // A variable that is called would be a pointer to a function.
             ["self" | "Self"] => role != Role::Callee,
             [name] if self.is_local(name) => role != Role::Callee,
             [first, name] if first == "Self" || self.is_local(first) => self.is_member(name, role),
-            ref names => self.is_resolved(names, role),
+            _ => self.is_resolved(names, role),
         }
     }
 

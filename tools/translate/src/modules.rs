@@ -12,13 +12,11 @@ pub const CRATES: [&str; 6] =
     ["atoi_core", "atoi_fast", "atoi_lanes", "atoi_simd", "atoi_column", "atoi_formats"];
 
 /// All modules of the package, in the order of their crates and paths.
-#[derive(Debug)]
 pub struct Package {
     pub modules: Vec<Module>,
 }
 
 /// A module. `path` has the names below its crate, none for the root of the crate.
-#[derive(Clone, Debug)]
 pub struct Module {
     pub crate_name: &'static str,
     pub path: Vec<String>,

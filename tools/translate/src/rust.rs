@@ -170,14 +170,15 @@ impl Printer<'_> {
     }
 
     // In Rattle, a formatter has its writer as a type parameter.
-    fn path(&mut self, path: &Path) {
-        match path.names()[..] {
-            [.., "Formatter"] if self.module.source.at(path.span) != "fmt::Formatter<W>" => {
-                self.refuse(path.span, "`Formatter` is known only as `fmt::Formatter<W>`");
-            }
-            [.., "Formatter"] => self.replace(path.span, "fmt::Formatter<'_>"),
-            [_, _] => self.head(&path.segments[0].name),
-            _ => {}
+    fn path(&mut self, path: &[Name]) {
+        let (start, formatter) = (path[0].span.start, "fmt::Formatter<W>");
+        let is_formatter = path[path.len() - 1].text == "Formatter";
+        if is_formatter && self.module.source.text[start..].starts_with(formatter) {
+            self.replace(Span { start, end: start + formatter.len() }, "fmt::Formatter<'_>");
+        } else if is_formatter {
+            self.refuse(path[0].span, "`Formatter` is known only as `fmt::Formatter<W>`");
+        } else if path.len() > 1 {
+            self.head(&path[0]);
         }
     }
 }

@@ -4,14 +4,13 @@
 use crate::source::Span;
 
 /// A module, and the parts of the hints to the prover for all of it.
-#[derive(Clone, Debug, Default)]
+#[derive(Default)]
 pub struct Tree {
     pub hints: Vec<Span>,
     pub items: Vec<Item>,
 }
 
 /// A part of a tree, and its place in the source.
-#[derive(Clone, Debug)]
 pub struct Node<K> {
     pub span: Span,
     pub kind: K,
@@ -23,21 +22,21 @@ pub type Literal = Node<LiteralKind>;
 pub type Pattern = Node<PatternKind>;
 pub type Expression = Node<ExpressionKind>;
 
-#[derive(Clone, Debug)]
+#[derive(Clone)]
 pub struct Name {
     pub text: String,
     pub span: Span,
 }
 
 /// What stands before an item.
-#[derive(Clone, Debug, Default)]
+#[derive(Default)]
 pub struct Notes {
     pub docs: Vec<Span>,
     pub comments: Vec<Span>,
     pub attributes: Vec<Attribute>,
 }
 
-#[derive(Clone, Debug, PartialEq, Eq)]
+#[derive(PartialEq)]
 pub enum AttributeKind {
     Inline,
     AlwaysInline,
@@ -53,7 +52,6 @@ pub enum AttributeKind {
 
 /// An item of a module, a trait or an `impl`. Its part begins with its visibility. A `use`, an `impl` and a
 /// `ghost use` have an empty name.
-#[derive(Clone, Debug)]
 pub struct Item {
     pub span: Span,
     pub notes: Notes,
@@ -67,9 +65,9 @@ pub struct Item {
 }
 
 /// A name in an item, or where the scope of its local names begins or ends.
-#[derive(Clone, Debug)]
 pub enum Mention {
-    Path(Path, Role),
+    // The names of a path.
+    Path(Vec<Name>, Role),
     // The name of a method that is called.
     Method(Name),
     // A local name is declared: a variable, or a parameter, also a generic one.
@@ -95,7 +93,6 @@ pub enum Role {
 }
 
 /// Traits hold ghost items, constants and functions; an `impl` also holds names of types.
-#[derive(Clone, Debug)]
 pub enum ItemKind {
     // `use PATHS;`, all of which begin with the same name.
     Use(Vec<Import>),
@@ -120,7 +117,6 @@ pub enum ItemKind {
 }
 
 /// One path of a `use`, of which the last name is imported, by another name, or as all that is in it.
-#[derive(Clone, Debug)]
 pub struct Import {
     pub path: Vec<Name>,
     pub alias: Option<Name>,
@@ -128,20 +124,17 @@ pub struct Import {
 }
 
 /// A field. Those of a variant without names are called `0`, `1` and so on.
-#[derive(Clone, Debug)]
 pub struct Field {
     pub is_public: bool,
     pub name: Name,
     pub annotation: Type,
 }
 
-#[derive(Clone, Debug)]
 pub struct Variant {
     pub name: Name,
     pub fields: Vec<Field>,
 }
 
-#[derive(Clone, Debug)]
 pub struct Function {
     /// A receiver is a parameter `self` of the type `Self` or a reference to it.
     pub parameters: Vec<Parameter>,
@@ -151,7 +144,6 @@ pub struct Function {
     pub body: Option<Block>,
 }
 
-#[derive(Clone, Debug)]
 pub struct Parameter {
     pub name: Name,
     pub is_mutable: bool,
@@ -159,7 +151,6 @@ pub struct Parameter {
 }
 
 /// A clause of a contract: all of it from its keyword on, and what is between its braces.
-#[derive(Clone, Debug)]
 pub struct Clause {
     pub span: Span,
     pub text: Span,
@@ -167,20 +158,17 @@ pub struct Clause {
     pub is_condition: bool,
 }
 
-#[derive(Clone, Debug)]
 pub struct GenericParameter {
     pub name: Name,
     pub kind: GenericKind,
 }
 
-#[derive(Clone, Debug)]
 pub enum GenericKind {
     /// A type, and the trait that bounds it.
     Type(Option<Path>),
     Constant(Type),
 }
 
-#[derive(Clone, Debug)]
 pub enum TypeKind {
     Path(Path),
     Reference { is_mutable: bool, target: Box<Type> },
@@ -191,26 +179,22 @@ pub enum TypeKind {
 }
 
 /// Names with `::` between them.
-#[derive(Clone, Debug)]
 pub struct Path {
     pub span: Span,
     pub segments: Vec<Segment>,
 }
 
-#[derive(Clone, Debug)]
 pub struct Segment {
     pub name: Name,
     pub arguments: Vec<GenericArgument>,
 }
 
 /// What is between `<` and `>`. A name alone is read as a type, and may be that of a constant.
-#[derive(Clone, Debug)]
 pub enum GenericArgument {
     Type(Type),
     Constant(Literal),
 }
 
-#[derive(Clone, Debug, PartialEq, Eq)]
 pub enum LiteralKind {
     Boolean(bool),
     Integer(u128),
@@ -220,7 +204,6 @@ pub enum LiteralKind {
     ByteText(Vec<u8>),
 }
 
-#[derive(Clone, Debug)]
 pub enum PatternKind {
     // `_`.
     Wildcard,
@@ -241,7 +224,6 @@ pub enum PatternKind {
     Either(Vec<Pattern>),
 }
 
-#[derive(Clone, Debug)]
 pub struct Block {
     pub span: Span,
     pub statements: Vec<Statement>,
@@ -250,13 +232,11 @@ pub struct Block {
     pub comments: Vec<Span>,
 }
 
-#[derive(Clone, Debug)]
 pub struct Statement {
     pub comments: Vec<Span>,
     pub expression: Expression,
 }
 
-#[derive(Clone, Debug)]
 pub enum ExpressionKind {
     Literal(Literal),
     Path(Path),
@@ -300,7 +280,6 @@ pub enum ExpressionKind {
     Let(Box<Let>),
 }
 
-#[derive(Clone, Debug)]
 pub struct Let {
     pub pattern: Pattern,
     pub annotation: Option<Type>,
@@ -309,7 +288,6 @@ pub struct Let {
 }
 
 /// `RECEIVER.NAME::<GENERICS>(ARGUMENTS)`.
-#[derive(Clone, Debug)]
 pub struct MethodCall {
     pub receiver: Box<Expression>,
     pub name: Name,
@@ -318,7 +296,6 @@ pub struct MethodCall {
 }
 
 /// `PATTERN if GUARD => BODY`.
-#[derive(Clone, Debug)]
 pub struct Arm {
     pub comments: Vec<Span>,
     pub pattern: Pattern,

@@ -6,7 +6,7 @@ use crate::resolve::{Definition, Resolved, Scopes};
 use crate::source::{Fault, Source, Span};
 use crate::tree::{
     ExpressionKind, Field, Function, GenericArgument, GenericKind, Item, ItemKind, LiteralKind,
-    Path, Type as TreeType, TypeKind,
+    Path, Segment, Type as TreeType, TypeKind,
 };
 
 pub struct World<'a> {
@@ -111,7 +111,7 @@ impl<'a> World<'a> {
     pub fn type_in(&self, place: &Place, tree: &TreeType) -> Done<Type> {
         let source = &self.package.modules[place.module].source;
         match &tree.kind {
-            TypeKind::Path(path) => self.named_type(place, path),
+            TypeKind::Path(path) => self.named_type(place, &path.segments),
             TypeKind::Tuple(parts) => {
                 let parts: Result<_, _> = parts.iter().map(|it| self.type_in(place, it)).collect();
                 Ok(Type::Of(Form::Tuple, parts?))
@@ -135,16 +135,19 @@ impl<'a> World<'a> {
         }
     }
 
-    fn named_type(&self, place: &Place, path: &Path) -> Done<Type> {
+    /// Returns the type that a path, or its start, names at a place.
+    pub fn named_type(&self, place: &Place, path: &[Segment]) -> Done<Type> {
         let source = &self.package.modules[place.module].source;
-        if let [only] = path.segments.as_slice() {
+        if let [only] = path {
             if let Some(known) = place.bindings.get(&only.name.text) {
                 return Ok(known.clone());
             }
         }
-        let unknown = || source.fault(path.span, "C: this type has no rule");
-        let found = self.resolve(place.module, path).ok_or_else(unknown)?;
-        let arguments = path.last().arguments.iter().filter_map(|argument| match argument {
+        let unknown = || source.fault(path[0].name.span, "C: this type has no rule");
+        let names: Vec<&str> = path.iter().map(|segment| segment.name.text.as_str()).collect();
+        let found = self.scopes.resolve(place.module, &names).ok_or_else(unknown)?;
+        let arguments = path[path.len() - 1].arguments.iter();
+        let arguments = arguments.filter_map(|argument| match argument {
             GenericArgument::Type(argument) => Some(self.type_in(place, argument)),
             _ => None,
         });
@@ -152,7 +155,7 @@ impl<'a> World<'a> {
         if let Definition::Foreign(name) = found.definition {
             return foreign_type(&name, arguments).ok_or_else(unknown);
         }
-        let is_whole = found.used == path.segments.len();
+        let is_whole = found.used == path.len();
         let id = item_of(found.definition).filter(|_| is_whole).ok_or_else(unknown)?;
         match &self.item(id).kind {
             ItemKind::Struct { .. } | ItemKind::Enum(_) => Ok(Type::Of(Form::Item(id), arguments)),

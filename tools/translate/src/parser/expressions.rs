@@ -340,9 +340,9 @@ impl Parser<'_> {
         if self.eat(":") {
             return Ok((name, self.expression()?));
         }
-        let path = Path::of(name.clone());
-        self.mentions.push(Mention::Path(path.clone(), Role::Value));
-        Ok((name, self.node(start, Kind::Path(path))))
+        self.mentions.push(Mention::Path(vec![name.clone()], Role::Value));
+        let value = self.node(start, Kind::Path(Path::of(name.clone())));
+        Ok((name, value))
     }
 
     // Reads what gives the other fields: a variable, a constant or `*self`. Rattle need not read more.

@@ -45,9 +45,9 @@ impl Parser<'_> {
             let second = self.name()?;
             segments.push(self.segment(second, role)?);
         }
-        let path = Path { span: self.since(start), segments };
-        self.mentions.push(Mention::Path(path.clone(), role));
-        Ok(path)
+        let names = segments.iter().map(|segment| segment.name.clone()).collect();
+        self.mentions.push(Mention::Path(names, role));
+        Ok(Path { span: self.since(start), segments })
     }
 
     // Reads the generic arguments of a name. They stand directly behind that of a type, and else behind `::`.

@@ -88,8 +88,7 @@ impl Lowering<'_, '_> {
         if !(is_own && before.len() == 1 || is_type) {
             return Ok(None);
         }
-        let path = Path { span: path.span, segments: before.to_vec() };
-        Ok(Some((self.named_type(&path)?, &last.name.text)))
+        Ok(Some((self.named_type(before)?, &last.name.text)))
     }
 
     /// Evaluates a call of what a path names.

@@ -3,7 +3,7 @@
 use super::{Done, Lowering};
 use crate::c::ir::{ERR, Form, Kind, NONE, OK, PLAIN, SOME, Statement, Term, Type};
 use crate::tree::{
-    self, BinaryOperator, Expression, ExpressionKind, Literal, LiteralKind, Name, Path, TypeKind,
+    BinaryOperator, Expression, ExpressionKind, Literal, LiteralKind, Name, Path, Segment,
     UnaryOperator,
 };
 
@@ -135,9 +135,8 @@ impl Lowering<'_, '_> {
     }
 
     /// Returns the type that a path names. Arguments may be left out.
-    pub fn named_type(&mut self, path: &Path) -> Done<Type> {
-        let kind = TypeKind::Path(path.clone());
-        let mut of = self.world.type_in(&self.place, &tree::Type { span: path.span, kind })?;
+    pub fn named_type(&mut self, path: &[Segment]) -> Done<Type> {
+        let mut of = self.world.named_type(&self.place, path)?;
         if let Type::Of(Form::Item(id), arguments) = &mut of {
             while arguments.len() < self.world.parameters(*id).len() {
                 arguments.push(self.fresh(false));
@@ -152,7 +151,7 @@ impl Lowering<'_, '_> {
         given: &[(Name, Expression)],
         base: Option<&Expression>,
     ) -> Done<Term> {
-        let of = self.named_type(path)?;
+        let of = self.named_type(&path.segments)?;
         let fields = self.fields_of(&of, PLAIN)?;
         let mut operands = Vec::new();
         for (given, value) in given {
