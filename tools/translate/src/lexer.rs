@@ -41,6 +41,9 @@ const SINGLE: &str = "+-*/%&|^!=<>.,;:#(){}[]?@$~";
 // Prefixes of quotes and of `#` that begin raw texts, raw names and texts of C.
 const RAW: &[&str] = &["r", "br", "cr", "c"];
 
+// Comments, escapes and quotations of Rattle, which could hide a brace or an end.
+const HIDING: &[&str] = &["--", "{-", "-}", "//", "/*", "*/", "\\", "«", "'\"", "'{", "'}"];
+
 // These marks make a text look like another.
 const MARKS: &str = "\u{200E}\u{200F}\u{202A}\u{202B}\u{202C}\u{202D}\u{202E}\u{2066}\u{2067}\u{2068}\u{2069}\u{FEFF}";
 
@@ -192,42 +195,36 @@ impl<'a> Lexer<'a> {
         let Some((path, _)) = self.skip_space().split_once(';') else {
             return self.refuse("a `ghost use` without `;`");
         };
-        if ["--", "{-", "//", "\"", "\\", "«"].iter().any(|start| path.contains(start)) {
+        if path.contains('"') || HIDING.iter().any(|sign| path.contains(sign)) {
             return self.refuse("a comment or a text in a `ghost use`");
         }
         self.push(Kind::GhostPath, path.len());
         Ok(())
     }
 
-    // Reads a clause. It is not Rust: its names may have any characters. Rattle's comments, escapes, and
-    // quotes that could hide a brace are refused, so that its braces are those that Rattle counts.
+    // Reads a clause. It is not Rust: its names may have any characters. What could hide a brace is refused, so that
+    // its braces are those that Rattle counts.
     fn clause(&mut self) -> Done<()> {
         let rest = self.skip_space();
         if !rest.starts_with('{') {
             return self.refuse("a clause without `{`");
         }
-        let (mut depth, mut in_text, mut last) = (0, false, ' ');
+        let (mut depth, mut in_text) = (0, false);
         for (offset, character) in rest.char_indices() {
-            match (last, character) {
-                (_, '\\') => return self.refuse("an escape in a clause"),
-                ('\'', '"' | '{' | '}') | (_, '«') => {
-                    return self.refuse("a quotation in a clause");
-                }
-                (_, '"') => in_text = !in_text,
-                (_, '\n') if in_text => return self.refuse("an unbalanced quote in a clause"),
-                _ if in_text => {}
-                ('/', '/' | '*') | ('*', '/') | ('-', '-') | ('{', '-') | ('-', '}') => {
-                    return self.refuse("a comment in a clause");
-                }
-                (_, '{') => depth += 1,
-                (_, '}') => depth -= 1,
+            if let Some(sign) = HIDING.iter().find(|sign| rest[offset..].starts_with(**sign)) {
+                return self.refuse(format!("`{sign}` in a clause"));
+            }
+            match character {
+                '"' => in_text = !in_text,
+                '\n' if in_text => return self.refuse("an unbalanced quote in a clause"),
+                '{' if !in_text => depth += 1,
+                '}' if !in_text => depth -= 1,
                 _ => {}
             }
             if depth == 0 {
                 self.push(Kind::Clause, offset + 1);
                 return Ok(());
             }
-            last = character;
         }
         self.refuse("a clause without its last `}`")
     }
