@@ -8,7 +8,7 @@ use crate::parser::Parser;
 use crate::resolve::{Definition, Scopes};
 use crate::source::{Done, Source, Span};
 use crate::std_names::has;
-use crate::tree::{Import, ItemKind, Name};
+use crate::tree::{ItemKind, Name};
 
 // The attributes that the facade may have.
 const ATTRIBUTES: &str = "allow cfg cfg_attr no_std rustfmt warn";
@@ -21,134 +21,127 @@ const MODULES_OF_LANES: &str = "atoi_lanes lanes simd";
 
 /// A name that is exported, of a crate.
 pub struct Export {
-    pub crate_name: &'static str,
+    pub crate_name: String,
     pub name: Name,
 }
 
 /// Reads what the facade exports. It names the proved crates only in `use proved::CRATE::NAME;` and
 /// `use proved::CRATE::{NAME, ..};`, where `crate::` may be in front. Its items are modules and exports.
 pub fn exports(source: &Source) -> Done<Vec<Export>> {
-    let parser = Parser::new(source)?;
-    let mut facade = Facade { source, parser, exports: Vec::new() };
-    facade.items(true)?;
-    Ok(facade.exports)
+    let (mut parser, mut exports) = (Parser::new(source)?, Vec::new());
+    items(&mut parser, true, &mut exports)?;
+    Ok(exports)
 }
 
-struct Facade<'a> {
-    source: &'a Source,
-    parser: Parser<'a>,
-    exports: Vec<Export>,
-}
-
-impl Facade<'_> {
-    // Reads items up to the end of the file, or up to the `}` of a module.
-    fn items(&mut self, is_top: bool) -> Done<()> {
-        loop {
-            let mut needs_lanes = false;
-            loop {
-                match self.parser.kind() {
-                    Kind::Doc | Kind::InnerDoc => drop(self.parser.step()),
-                    _ if self.parser.eat("#") => needs_lanes |= self.attribute()?,
-                    _ => break,
-                }
-            }
-            if is_top && self.parser.kind() == Kind::End || !is_top && self.parser.eat("}") {
-                return Ok(());
-            }
-            self.item(needs_lanes, is_top)?;
+// Reads items up to the end of the file, or up to the `}` of a module.
+fn items(parser: &mut Parser, is_top: bool, exports: &mut Vec<Export>) -> Done<()> {
+    loop {
+        let needs_lanes = attributes(parser)?;
+        if is_top && parser.kind() == Kind::End || !is_top && parser.eat("}") {
+            return Ok(());
         }
-    }
-
-    // Reads an attribute behind its `#`. Returns whether it says that its item needs the feature `lanes`.
-    fn attribute(&mut self) -> Done<bool> {
-        let is_inner = self.parser.eat("!");
-        self.parser.expect("[")?;
-        let name = self.parser.span();
-        let (mut depth, mut needs_lanes) = (1, false);
-        let mut is_known = has(ATTRIBUTES, self.parser.text());
-        while depth > 0 {
-            match self.parser.text() {
-                "[" => depth += 1,
-                "]" => depth -= 1,
-                "\"lanes\"" => needs_lanes = !is_inner,
-                text => is_known &= !has(REFUSED, text),
-            }
-            if !is_known || self.parser.kind() == Kind::End {
-                let reason = format!("this attribute `{}` is not known here", self.source.at(name));
-                return Err(self.source.fault(name, reason));
-            }
-            self.parser.step();
-        }
-        Ok(needs_lanes)
-    }
-
-    fn item(&mut self, needs_lanes: bool, is_top: bool) -> Done<()> {
-        let start = self.parser.span();
-        let is_public = self.parser.eat("pub");
-        if self.parser.eat("mod") {
-            let name = self.parser.name()?;
-            if has(MODULES_OF_LANES, &name.text) || !needs_lanes {
-                return self.module(is_top && !is_public, &name);
-            }
-        }
-        if needs_lanes {
-            return Err(self.source.fault(start, "an item that needs the feature `lanes`"));
-        }
-        if is_public && self.parser.eat("use") {
-            return self.export(start);
-        }
-        if self.parser.eat_all(&["compile_error", "!", "("]) {
-            self.parser.step();
-            self.parser.expect(")")?;
-        } else if !self.parser.eat_all(&["extern", "crate", "std"]) {
-            return self.parser.refuse("a module or an export");
-        }
-        self.parser.expect(";").map(|_| ())
-    }
-
-    // Reads what follows the name of a module. The proved crates are in one alone.
-    fn module(&mut self, may_be_proved: bool, name: &Name) -> Done<()> {
-        let has_items = !self.parser.eat(";");
-        if name.text == "proved" && !(may_be_proved && has_items) {
-            return Err(self.source.fault(name.span, "`proved` outside of a known export"));
-        }
-        if has_items {
-            self.parser.expect("{")?;
-            self.items(false)?;
-        }
-        Ok(())
-    }
-
-    // Reads what follows `pub use`.
-    fn export(&mut self, start: Span) -> Done<()> {
-        for import in self.parser.imports()? {
-            match exported(&import) {
-                Some(export) => self.exports.push(export),
-                None if import.names().contains(&"proved") => {
-                    return Err(self.source.fault(start, "this form of export is not known here"));
-                }
-                None => {}
-            }
-        }
-        self.parser.expect(";").map(|_| ())
+        item(parser, is_top, needs_lanes, exports)?;
     }
 }
 
-// Returns what a path of `use` exports of the proved crates, if its form is known.
-fn exported(import: &Import) -> Option<Export> {
-    let (["proved", owner, _] | ["crate", "proved", owner, _]) = import.names()[..] else {
-        return None;
-    };
-    let crate_name = CRATES.into_iter().find(|known| *known == owner)?;
-    let is_plain = import.alias.is_none() && !import.is_all;
-    is_plain.then(|| Export { crate_name, name: import.last().clone() })
+// Steps over documentation and attributes. Returns whether one says that its item needs the feature `lanes`.
+fn attributes(parser: &mut Parser) -> Done<bool> {
+    let mut needs_lanes = false;
+    loop {
+        if parser.eat_all(&["#", "!"]) {
+            attribute(parser)?;
+        } else if parser.eat("#") {
+            needs_lanes |= attribute(parser)?;
+        } else if !parser.eat_kind(Kind::Doc) && !parser.eat_kind(Kind::InnerDoc) {
+            return Ok(needs_lanes);
+        }
+    }
+}
+
+// Steps over an attribute behind its `#`. Returns whether it names the feature `lanes`.
+fn attribute(parser: &mut Parser) -> Done<bool> {
+    parser.expect("[")?;
+    let (name, mut depth, mut needs_lanes) = (parser.text(), 1, false);
+    let mut is_known = has(ATTRIBUTES, name);
+    while depth > 0 {
+        match parser.text() {
+            "[" => depth += 1,
+            "]" => depth -= 1,
+            "\"lanes\"" => needs_lanes = true,
+            text => is_known &= !has(REFUSED, text),
+        }
+        if !is_known || parser.kind() == Kind::End {
+            return parser.refuse_form(parser.span(), &format!("this attribute `{name}`"));
+        }
+        parser.step();
+    }
+    Ok(needs_lanes)
+}
+
+fn item(
+    parser: &mut Parser,
+    is_top: bool,
+    needs_lanes: bool,
+    exports: &mut Vec<Export>,
+) -> Done<()> {
+    let start = parser.span();
+    let is_public = parser.eat("pub");
+    if parser.eat("mod") {
+        let name = parser.name()?;
+        let has_items = !parser.eat(";");
+        // The proved crates are in one module alone.
+        if name.text == "proved" && !(is_top && !is_public && has_items) {
+            return parser.refuse_form(name.span, "a module `proved`");
+        }
+        if needs_lanes && !has(MODULES_OF_LANES, &name.text) {
+            return parser.refuse_form(start, "this module for the feature `lanes`");
+        }
+        return if has_items {
+            parser.expect("{")?;
+            items(parser, false, exports)
+        } else {
+            Ok(())
+        };
+    }
+    if needs_lanes {
+        return parser.refuse_form(start, "this item for the feature `lanes`");
+    }
+    if is_public && parser.eat("use") {
+        export(parser, start, exports)?;
+    } else if parser.eat_all(&["compile_error", "!", "("]) {
+        parser.step();
+        parser.expect(")")?;
+    } else if !parser.eat_all(&["extern", "crate", "std"]) {
+        return parser.refuse("a module or an export");
+    }
+    parser.expect(";").map(|_| ())
+}
+
+// Reads what follows `pub use`.
+fn export(parser: &mut Parser, start: Span, exports: &mut Vec<Export>) -> Done<()> {
+    for import in parser.imports()? {
+        let is_plain = import.alias.is_none() && !import.is_all;
+        match import.names()[..] {
+            ["proved", owner, _] | ["crate", "proved", owner, _]
+                if is_plain && CRATES.contains(&owner) =>
+            {
+                let (crate_name, name) = (owner.to_string(), import.last().clone());
+                exports.push(Export { crate_name, name });
+            }
+            ref names if names.contains(&"proved") => {
+                return parser.refuse_form(start, "this form of export");
+            }
+            _ => {}
+        }
+    }
+    Ok(())
 }
 
 /// Refuses an export that is no function, struct, `enum` or sealed trait.
 pub fn check(source: &Source, exports: &[Export], scopes: &Scopes) -> Done<()> {
     let exported: Vec<&Definition> = exports
         .iter()
-        .filter_map(|export| scopes.in_root(export.crate_name, &export.name.text))
+        .filter_map(|export| scopes.in_root(&export.crate_name, &export.name.text))
         .collect();
     for Export { crate_name, name } in exports {
         let definition = scopes.in_root(crate_name, &name.text);

@@ -1,9 +1,9 @@
 //! The modules of the package: which files they are in, and their trees.
 
 use crate::source::{Done, Fault, Source};
-use crate::tree::{Item, ItemKind, Tree};
+use crate::tree::{Item, Tree};
 use crate::{PROVED, engines, parser};
-use std::collections::{BTreeMap, BTreeSet};
+use std::collections::BTreeMap;
 use std::fs;
 use std::path::{Path, PathBuf};
 
@@ -43,14 +43,7 @@ impl Package {
                 }
             }
         }
-        Package::new(modules)
-    }
-
-    /// Makes a package of modules. Each must be declared in another, or be the root of its crate.
-    pub fn new(modules: Vec<Module>) -> Done<Package> {
-        let package = Package { modules };
-        package.check_declarations()?;
-        Ok(package)
+        Ok(Package { modules })
     }
 
     /// Returns the number of a module, which is its place in `modules`.
@@ -63,27 +56,6 @@ impl Package {
     /// Returns the number of the module that another declares by a name.
     pub fn below(&self, module: &Module, name: &str) -> Option<usize> {
         self.find(module.crate_name, &[&*module.path, &[name.to_string()]].concat())
-    }
-
-    // Refuses a declared module without a file, and a file that no module declares.
-    fn check_declarations(&self) -> Done<()> {
-        let mut declared = BTreeSet::new();
-        for module in &self.modules {
-            for item in &module.tree.items {
-                if let ItemKind::Module = item.kind {
-                    let Some(number) = self.below(module, &item.name.text) else {
-                        return Err(module.source.fault(item.name.span, "a module without a file"));
-                    };
-                    declared.insert(number);
-                }
-            }
-        }
-        for (number, module) in self.modules.iter().enumerate() {
-            if !module.path.is_empty() && !declared.contains(&number) {
-                return Err(Fault::of_file(&module.source.path, "no `mod` declares this module"));
-            }
-        }
-        Ok(())
     }
 }
 

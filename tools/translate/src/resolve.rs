@@ -2,7 +2,7 @@
 //! names of types and of values apart. Here no two items of a module have one name, so that nothing depends on that.
 
 use crate::modules::{CRATES, Module, Package};
-use crate::source::{Done, Span};
+use crate::source::{Done, Fault, Span};
 use crate::std_names;
 use crate::tree::{Import, Item, ItemKind};
 use std::collections::BTreeMap;
@@ -32,7 +32,7 @@ pub struct Scopes<'a> {
 }
 
 impl<'a> Scopes<'a> {
-    /// Refuses two items of one name, and imports of what is not there. What another module imports can be
+    /// Refuses two items of one name, modules without a file, and imports of what is not there. What another module imports can be
     /// imported in later modules: the root of a crate is its first, and crates are in their order.
     pub fn new(package: &'a Package) -> Done<Scopes<'a>> {
         let mut scopes = Scopes { package, modules: vec![BTreeMap::new(); package.modules.len()] };
@@ -40,6 +40,7 @@ impl<'a> Scopes<'a> {
             scopes.declare_items(number, module)?;
         }
         for (number, module) in package.modules.iter().enumerate() {
+            scopes.check_declaration(number, module)?;
             for item in &module.tree.items {
                 if let ItemKind::Use(imports) = &item.kind {
                     imports.iter().try_for_each(|import| scopes.import(number, import))?;
@@ -54,12 +55,25 @@ impl<'a> Scopes<'a> {
             let definition = match kind {
                 ItemKind::Use(_) | ItemKind::Implementation { .. } => None,
                 ItemKind::Ghost | ItemKind::GhostUse { .. } => None,
-                ItemKind::Module => self.package.below(module, &name.text).map(Definition::Module),
+                ItemKind::Module => match self.package.below(module, &name.text) {
+                    None => return Err(module.source.fault(name.span, "a module without a file")),
+                    Some(number) => Some(Definition::Module(number)),
+                },
                 _ => Some(Definition::Item { module: number, item }),
             };
             definition.map_or(Ok(()), |it| self.declare(number, &name.text, name.span, it))?;
         }
         Ok(())
+    }
+
+    // Refuses a file that no module declares.
+    fn check_declaration(&self, number: usize, module: &Module) -> Done<()> {
+        let Some((name, above)) = module.path.split_last() else { return Ok(()) };
+        let above = self.package.find(module.crate_name, above);
+        match above.and_then(|above| self.get(above, name)) {
+            Some(Definition::Module(found)) if *found == number => Ok(()),
+            _ => Err(Fault::of_file(&module.source.path, "no `mod` declares this module")),
+        }
     }
 
     fn declare(&mut self, module: usize, name: &str, at: Span, what: Definition) -> Done<()> {

@@ -35,7 +35,7 @@ fn package(files: &[(&str, &str)]) -> Done<Package> {
             )?);
         }
     }
-    Package::new(modules)
+    Ok(Package { modules })
 }
 
 /// Makes the Rust of a package, and returns that of its last file.

@@ -124,8 +124,8 @@ impl<'a> Parser<'a> {
         Err(self.source.fault(self.span(), format!("{found}, and not {expected}")))
     }
 
-    // Refuses a form.
-    fn refuse_form<T>(&self, span: Span, form: &str) -> Done<T> {
+    /// Refuses a form.
+    pub fn refuse_form<T>(&self, span: Span, form: &str) -> Done<T> {
         Err(self.source.fault(span, format!("{form} is not known here")))
     }
 
@@ -155,8 +155,8 @@ impl<'a> Parser<'a> {
         Name { text, span: self.step() }
     }
 
-    // Steps over a token of a kind if one comes next.
-    fn eat_kind(&mut self, kind: Kind) -> bool {
+    /// Steps over a token of a kind if one comes next.
+    pub fn eat_kind(&mut self, kind: Kind) -> bool {
         let is_next = self.kind() == kind;
         if is_next {
             self.step();
