@@ -3,7 +3,7 @@
 use super::ir::{Bindings, Callee, Done, Function, Id, Kind, all_kinds};
 use super::lower;
 use super::world::World;
-use std::collections::BTreeMap;
+use std::collections::{BTreeMap, BTreeSet};
 
 /// The functions that were tried. Each is tried with parameters that stand for themselves, and then once more for
 /// each parameter of which more than constants matters.
@@ -57,19 +57,21 @@ impl<'w> Instances<'w> {
         self.get(key).map_or(Vec::new(), |function| function.constants.clone())
     }
 
-    /// Returns functions and those that they call, each behind those that it calls.
-    pub fn ordered(&self, roots: &[Callee]) -> Vec<&Function> {
-        let mut found: Vec<&Function> = Vec::new();
-        let mut seen = Vec::new();
-        roots.iter().for_each(|root| self.visit(root, &mut seen, &mut found));
-        found
-    }
-
-    fn visit<'s>(&'s self, key: &Callee, seen: &mut Vec<Callee>, found: &mut Vec<&'s Function>) {
-        let Some(function) = self.get(key).filter(|_| !seen.contains(key)) else { return };
-        seen.push(key.clone());
-        called(function).iter().for_each(|callee| self.visit(callee, seen, found));
-        found.push(function);
+    /// Adds functions and those that they call, each behind those that it calls. What ends calls is not looked into.
+    pub fn visit<'s>(
+        &'s self,
+        keys: &[Callee],
+        is_end: &dyn Fn(&Function) -> bool,
+        seen: &mut BTreeSet<Callee>,
+        found: &mut Vec<&'s Function>,
+    ) {
+        for function in keys.iter().filter_map(|key| self.get(key)) {
+            if seen.insert(function.key.clone()) {
+                let inner = if is_end(function) { Vec::new() } else { called(function) };
+                self.visit(&inner, is_end, seen, found);
+                found.push(function);
+            }
+        }
     }
 }
 

@@ -27,31 +27,27 @@ pub struct Integer {
 pub enum Type {
     Integer(Integer),
     Boolean,
-    /// A type that is made of others.
+    // A type that is made of others.
     Of(Form, Vec<Type>),
-    /// `PhantomData`, and what stands for a type of which values hold nothing.
+    // `PhantomData`.
     Marker,
-    /// A generic parameter that stands for itself.
+    // A generic parameter that stands for itself.
     Parameter(String),
-    /// A type that is not known yet.
+    // A type that is not known yet.
     Variable(usize),
 }
 
 #[derive(Clone, Copy, Debug, PartialEq, Eq, PartialOrd, Ord)]
 pub enum Form {
     Tuple,
-    /// `&[T]`, `&mut [T]` or `&str`.
-    Slice {
-        is_mutable: bool,
-    },
-    Array {
-        length: u128,
-    },
-    /// `&mut T`.
+    // `&[T]`, `&mut [T]` or `&str`.
+    Slice { is_mutable: bool },
+    Array { length: u128 },
+    // `&mut T`.
     Pointer,
     Option,
     Result,
-    /// A struct or an enum.
+    // A struct or an enum.
     Item(Id),
 }
 
@@ -108,15 +104,12 @@ pub struct Term {
 
 #[derive(Clone, Debug, PartialEq, Eq)]
 pub enum Kind {
-    /// A number, and with how many hexadecimal digits it is written, or 0.
-    Number {
-        value: u128,
-        hexadecimal: usize,
-    },
+    // A number, and with how many hexadecimal digits it is written, or 0.
+    Number { value: u128, hexadecimal: usize },
     Byte(u8),
     Boolean(bool),
     Text(Vec<u8>),
-    /// The elements of an array.
+    // The elements of an array.
     Elements,
     Local(usize),
     Constant(Id),
@@ -124,25 +117,25 @@ pub enum Kind {
     Binary(BinaryOperator),
     Wrapping(BinaryOperator),
     Not,
-    /// A function of the prelude, by its name behind that of the type of integers.
+    // A function of the prelude, by its name behind that of the type of integers.
     Small(&'static str),
     Length,
     At,
-    /// An element of which it was tested that it is there.
+    // An element of which it was tested that it is there.
     Element,
-    /// A part of a slice, by the name of the function that makes it.
+    // A part of a slice, by the name of the function that makes it.
     Part(&'static str),
-    /// The first and the last bytes of a slice.
+    // The first and the last bytes of a slice.
     First,
     Last,
-    /// The slice of an array.
+    // The slice of an array.
     OfArray,
     Cast,
-    /// A value by the number of its variant, and its fields.
+    // A value by the number of its variant, and its fields.
     Make(usize),
-    /// `Some` of a value if a condition holds.
+    // `Some` of a value if a condition holds.
     Maybe,
-    /// Whether a value is of a variant, and a field of one that is.
+    // Whether a value is of a variant, and a field of one that is.
     Is(usize),
     Field(usize, usize),
     Choice,
@@ -210,12 +203,6 @@ impl Type {
             Type::Parameter(name) => bindings.get(name).unwrap_or(self).clone(),
             _ => self.map(&mut |part| part.with(bindings)),
         }
-    }
-
-    /// Says whether a parameter is a part of the type.
-    pub fn has(&self, name: &str) -> bool {
-        let empty = Bindings::from([(name.to_string(), Type::Marker)]);
-        self.with(&empty) != *self
     }
 
     /// Returns the first parameter in a type.
@@ -327,7 +314,6 @@ impl Term {
         match (operator, &left.kind, &right.kind) {
             (And, Kind::Boolean(true), _) | (Or, Kind::Boolean(false), _) => return right,
             (And, Kind::Boolean(false), _) | (Or, Kind::Boolean(true), _) => return left,
-            (And, _, Kind::Boolean(true)) | (Or, _, Kind::Boolean(false)) => return left,
             (And | Or, _, Kind::Boolean(_)) if !left.has_effect() => return right,
             _ => {}
         }
@@ -335,27 +321,26 @@ impl Term {
     }
 
     /// Returns the opposite of a condition.
-    pub fn negated(self) -> Term {
-        use BinaryOperator::{Equal, Greater, GreaterOrEqual, Less, LessOrEqual, NotEqual};
-        const OPPOSITES: [(BinaryOperator, BinaryOperator); 3] =
-            [(Equal, NotEqual), (Less, GreaterOrEqual), (Greater, LessOrEqual)];
-        let (kind, parts) = match self.kind {
-            Kind::Boolean(value) => (Kind::Boolean(!value), Vec::new()),
-            Kind::Binary(operator) if operator.is_comparison() => {
-                let pair = OPPOSITES.iter().find(|(a, b)| operator == *a || operator == *b);
-                let opposite = pair.map(|(a, b)| if operator == *a { *b } else { *a });
-                (Kind::Binary(opposite.unwrap_or(operator)), self.parts)
-            }
-            _ => {
-                return Term {
-                    span: self.span,
-                    of: Type::Boolean,
-                    kind: Kind::Not,
-                    parts: vec![self],
-                };
-            }
+    pub fn negated(mut self) -> Term {
+        let span = self.span;
+        self.kind = match self.kind {
+            Kind::Boolean(value) => Kind::Boolean(!value),
+            Kind::Binary(operator) if operator.is_comparison() => Kind::Binary(opposite(operator)),
+            _ => return Term { kind: Kind::Not, parts: vec![self], of: Type::Boolean, span },
         };
-        Term { kind, parts, of: Type::Boolean, span: self.span }
+        self
+    }
+}
+
+fn opposite(comparison: BinaryOperator) -> BinaryOperator {
+    match comparison {
+        BinaryOperator::Equal => BinaryOperator::NotEqual,
+        BinaryOperator::NotEqual => BinaryOperator::Equal,
+        BinaryOperator::Less => BinaryOperator::GreaterOrEqual,
+        BinaryOperator::GreaterOrEqual => BinaryOperator::Less,
+        BinaryOperator::Greater => BinaryOperator::LessOrEqual,
+        BinaryOperator::LessOrEqual => BinaryOperator::Greater,
+        other => other,
     }
 }
 

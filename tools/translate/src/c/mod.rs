@@ -14,7 +14,7 @@ use crate::checks;
 use crate::modules::Package;
 use crate::resolve::Scopes;
 use crate::source::{Fault, Source};
-use instances::{Instances, called};
+use instances::Instances;
 use ir::{Bindings, Callee, Done, Form, Function, Type};
 use std::collections::BTreeSet;
 use std::path::Path;
@@ -106,45 +106,26 @@ pub fn print(
             open.extend(all.last().filter(|_| inline.contains(path)).cloned());
         }
     }
-    let functions = instances.ordered(&all);
-    let mut printer = print::Printer::new(world, &functions, is_checked)?;
-    let near = near(&instances, open, &mut printer.far);
-    all.retain(|it| CONSTANT.contains(&world.name(it.id)));
-    printer.constant = instances.ordered(&all).into_iter().map(|it| it.key.clone()).collect();
-    let of = |keys: &BTreeSet<Callee>, is_in: bool| {
-        let found = functions.iter().copied().filter(|it| keys.contains(&it.key) == is_in);
-        found.collect::<Vec<&Function>>()
+    let reached = |keys: &[Callee], is_end: &dyn Fn(&Function) -> bool| {
+        let (mut seen, mut found) = (BTreeSet::new(), Vec::new());
+        instances.visit(keys, is_end, &mut seen, &mut found);
+        (seen, found)
     };
-    for function in of(&printer.far.clone(), true) {
-        printer.function(function, true)?;
-    }
-    for function in of(&near, true) {
-        printer.function(function, false)?;
-    }
+    let is_far = |it: &Function| FAR.contains(&world.name(it.key.id)) || print::is_apart(world, it);
+    let (_, functions) = reached(&all, &|_| false);
+    let mut printer = print::Printer::new(world, &functions, is_checked)?;
+    let (inline, _) = reached(&open, &is_far);
+    all.retain(|it| CONSTANT.contains(&world.name(it.id)));
+    (printer.constant, _) = reached(&all, &|_| false);
+    let (near, rest): (Vec<&Function>, Vec<_>) =
+        functions.into_iter().partition(|it| inline.contains(&it.key) && !is_far(it));
+    let far: Vec<&Function> = rest.iter().copied().filter(|it| inline.contains(&it.key)).collect();
+    printer.far = far.iter().map(|it| it.key.clone()).collect();
+    far.iter().try_for_each(|it| printer.function(it, true))?;
+    near.iter().try_for_each(|it| printer.function(it, false))?;
     let inline = printer.take();
-    for function in of(&near, false) {
-        printer.function(function, false)?;
-    }
+    rest.iter().try_for_each(|it| printer.function(it, false))?;
     Ok((inline, printer.take()))
-}
-
-// Returns the functions that are inlined in those that are open, and adds the others that they call.
-fn near(
-    instances: &Instances,
-    mut open: Vec<Callee>,
-    far: &mut BTreeSet<Callee>,
-) -> BTreeSet<Callee> {
-    let mut near = BTreeSet::new();
-    while let Some(key) = open.pop() {
-        let Some(function) = instances.get(&key) else { continue };
-        let is_far = FAR.contains(&instances.world.name(key.id));
-        if is_far || print::is_apart(instances.world, function) {
-            far.insert(key);
-        } else if near.insert(key) {
-            open.extend(called(function));
-        }
-    }
-    near
 }
 
 // Returns what a path names, for each type if it has a parameter.

@@ -2,11 +2,11 @@
 
 use super::instances::called;
 use super::ir::{
-    Bindings, Callee, Done, Form, Function, Id, Kind, Statement, Term, Type, all_kinds,
+    Bindings, Callee, Done, Form, Function, Id, Kind, Local, Statement, Term, Type, all_kinds,
 };
 use super::terms;
 use super::text::{self, comment, wrapped};
-use super::types::{Types, declared};
+use super::types::{declared, short};
 use super::world::World;
 use crate::tree::{AttributeKind, BinaryOperator, ItemKind, Notes};
 use std::collections::{BTreeMap, BTreeSet};
@@ -14,7 +14,9 @@ use std::collections::{BTreeMap, BTreeSet};
 /// All that is printed.
 pub struct Printer<'a> {
     pub world: &'a World<'a>,
-    pub types: Types<'a>,
+    /// The types that have a name, and their definitions.
+    pub types: BTreeMap<String, Type>,
+    pub definitions: Vec<String>,
     pub names: BTreeMap<Callee, String>,
     /// Whether operators say that nothing overflows.
     pub is_checked: bool,
@@ -26,17 +28,12 @@ pub struct Printer<'a> {
     pub far: BTreeSet<Callee>,
     /// The functions that a compiler of C++20 may call.
     pub constant: BTreeSet<Callee>,
-}
-
-/// One function that is printed.
-pub struct Body<'p, 'a> {
-    pub printer: &'p mut Printer<'a>,
-    pub function: &'p Function,
-    pub names: Vec<String>,
+    /// The function that is printed, and its variables, as they are named in C.
+    pub id: Id,
+    pub locals: Vec<Local>,
     /// The names that are declared in the blocks around the current statement.
     scopes: Vec<BTreeSet<String>>,
     lines: String,
-    indent: usize,
 }
 
 impl<'a> Printer<'a> {
@@ -47,7 +44,8 @@ impl<'a> Printer<'a> {
     ) -> Done<Printer<'a>> {
         Ok(Printer {
             world,
-            types: Types::new(world),
+            types: BTreeMap::new(),
+            definitions: Vec::new(),
             names: names(world, functions)?,
             is_checked,
             helpers: Vec::new(),
@@ -55,48 +53,47 @@ impl<'a> Printer<'a> {
             functions: Vec::new(),
             far: BTreeSet::new(),
             constant: BTreeSet::new(),
+            id: Id { module: 0, item: 0, member: None },
+            locals: Vec::new(),
+            scopes: Vec::new(),
+            lines: String::new(),
         })
     }
 
     /// Returns what was printed since the last time.
     pub fn take(&mut self) -> String {
-        let lists = [&mut self.types.texts, &mut self.helpers, &mut self.functions];
+        let lists = [&mut self.definitions, &mut self.helpers, &mut self.functions];
         lists.map(std::mem::take).concat().join("\n")
     }
 
     /// Declares a function that another file defines, or prints a function behind those before it.
     pub fn function(&mut self, function: &Function, is_declaration: bool) -> Done<()> {
-        let (world, id) = (self.world, function.key.id);
-        let text = self.text(function, is_declaration);
-        text.map(|text| self.functions.push(text)).map_err(|fault| {
-            // What has no type in C may not know its line.
-            if fault.line.is_none() { world.fault_of(id, fault.reason) } else { fault }
-        })
+        (self.id, self.locals) = (function.key.id, function.locals.clone());
+        (self.scopes, self.lines) = (vec![BTreeSet::new()], String::new());
+        let text = self.text(function, is_declaration).map_err(|fault| match fault.line {
+            Some(_) => fault,
+            // What has no type in C does not know its line.
+            None => self.world.fault_of(self.id, fault.reason),
+        })?;
+        self.functions.push(text);
+        Ok(())
     }
 
     fn text(&mut self, function: &Function, is_declaration: bool) -> Done<String> {
-        let mut body = Body {
-            printer: self,
-            function,
-            names: vec![String::new(); function.locals.len()],
-            scopes: vec![BTreeSet::new()],
-            lines: String::new(),
-            indent: 1,
-        };
-        let head = body.head(is_declaration)?;
+        let head = self.head(function, is_declaration)?;
         if is_declaration {
-            let name = &body.printer.names[&function.key];
+            let name = &self.names[&function.key];
             return Ok(wrapped(&format!("{head} TK_SYMBOL({name});")) + "\n");
         }
-        body.statements(&function.body)?;
-        Ok(format!("{head}\n{{\n{}}}\n", body.lines))
+        self.statements(&function.body)?;
+        Ok(format!("{head}\n{{\n{}}}\n", self.lines))
     }
 
     /// Adds a function that returns a value under a condition, unless it is there.
     pub fn small(&mut self, name: &str, head: &str, check: &str, value: &str) {
         let check =
             if check.is_empty() { "".into() } else { format!("    TORKETTLE_CHECK({check});\n") };
-        self.helper(name, || format!("TK_CONSTEXPR {head}\n{{\n{check}    return {value};\n}}\n"));
+        self.helper(name, format!("TK_CONSTEXPR {head}\n{{\n{check}    return {value};\n}}\n"));
     }
 
     /// Adds the function that makes a part of a slice, and returns its name.
@@ -110,7 +107,7 @@ impl<'a> Printer<'a> {
             }
             _ => ("", "", "s.at, s.len"),
         };
-        let (of, from) = (self.types.name(of)?, self.types.name(from)?);
+        let (of, from) = (self.name(of)?, self.name(from)?);
         let name = format!("{of}_{kind}");
         let head = format!("{of} {name}({from} s{offsets})");
         self.small(&name, &head, check, &format!("{of}_of({value})"));
@@ -118,19 +115,14 @@ impl<'a> Printer<'a> {
     }
 
     /// Adds a small function or a constant, unless it is there.
-    pub fn helper(&mut self, name: &str, text: impl FnOnce() -> String) {
-        if !self.known.contains_key(name) {
-            let text = text();
-            self.known.insert(name.to_string(), text.clone());
+    pub fn helper(&mut self, name: &str, text: String) {
+        if self.known.insert(name.to_string(), text.clone()).is_none() {
             self.helpers.push(text);
         }
     }
-}
 
-impl Body<'_, '_> {
-    fn head(&mut self, is_line: bool) -> Done<String> {
-        let (world, function) = (self.printer.world, self.function);
-        let key = &function.key;
+    fn head(&mut self, function: &Function, is_line: bool) -> Done<String> {
+        let (world, key) = (self.world, &function.key);
         let kinds = all_kinds(&function.body);
         let mut parameters = Vec::new();
         for local in &function.parameters {
@@ -138,9 +130,8 @@ impl Body<'_, '_> {
             if world.is_zero(of) {
                 continue;
             }
-            self.name(*local);
-            let name = &self.names[*local];
-            parameters.push(declared(&self.printer.types.name(of)?, name));
+            let name = self.name_local(*local);
+            parameters.push(declared(&self.name(of)?, &name));
             if !kinds.contains(&Kind::Local(*local)) {
                 self.lines += &format!("    (void){name};\n");
             }
@@ -149,20 +140,20 @@ impl Body<'_, '_> {
         let source = world.source(key.id);
         let place = format!("{}:{}", source.path.display(), source.line(item.span));
         // A function is explained once.
-        let is_new = !is_line && self.printer.known.insert(place.clone(), String::new()).is_none();
+        let is_new = !is_line && self.known.insert(place.clone(), String::new()).is_none();
         let mut head = if is_new { explained(world, key.id) } else { String::new() };
         head += &format!("/* {} */\n", place.trim_start_matches("crates/"));
         let parameters = if parameters.is_empty() { "void".into() } else { parameters.join(", ") };
-        let result = self.printer.types.name(&function.result)?;
-        let name = self.printer.names[key].clone();
+        let result = self.name(&function.result)?;
+        let name = self.names[key].clone();
         // What calls itself cannot be inlined.
         let is_recursive = called(function).contains(key);
         let is_called = super::CALLED.contains(&world.name(key.id));
         let qualifier =
             if is_recursive || is_called { "TK_NOINLINE" } else { qualifier(&item.notes) };
-        let qualifier = match self.printer.far.contains(key) {
+        let qualifier = match self.far.contains(key) {
             true => "TK_FAR",
-            false if self.printer.constant.contains(key) => "TK_CONSTEXPR",
+            false if self.constant.contains(key) => "TK_CONSTEXPR",
             false => qualifier,
         };
         let line = format!("{qualifier} {}({parameters})", declared(&result, &name));
@@ -170,23 +161,21 @@ impl Body<'_, '_> {
     }
 
     fn line(&mut self, line: &str) {
-        let line = wrapped(&format!("{}{line}", "    ".repeat(self.indent)));
+        let line = wrapped(&format!("{}{line}", "    ".repeat(self.scopes.len())));
         self.lines += &line;
         self.lines.push('\n');
     }
 
     fn inner(&mut self, body: &[Statement]) -> Done<()> {
-        self.indent += 1;
         self.scopes.push(BTreeSet::new());
         self.statements(body)?;
         self.scopes.pop();
-        self.indent -= 1;
         Ok(())
     }
 
     // Gives a variable a name that hides no other.
-    fn name(&mut self, local: usize) {
-        let name = text::local(&self.function.locals[local].name);
+    fn name_local(&mut self, local: usize) -> String {
+        let name = text::local(&self.locals[local].name);
         let numbered = (2..).map(|number| format!("{name}_{number}"));
         let is_taken = |name: &String| self.scopes.iter().any(|scope| scope.contains(name));
         let free = std::iter::once(name.clone()).chain(numbered).find(|name| !is_taken(name));
@@ -194,7 +183,8 @@ impl Body<'_, '_> {
         if let Some(scope) = self.scopes.last_mut() {
             scope.insert(free.clone());
         }
-        self.names[local] = free;
+        self.locals[local].name = free.clone();
+        free
     }
 
     fn statements(&mut self, body: &[Statement]) -> Done<()> {
@@ -204,8 +194,8 @@ impl Body<'_, '_> {
     fn statement(&mut self, statement: &Statement) -> Done<()> {
         match statement {
             Statement::Comment(lines) => {
-                let source = self.printer.world.source(self.function.key.id);
-                self.lines += &comment(source, lines, &"    ".repeat(self.indent));
+                let source = self.world.source(self.id);
+                self.lines += &comment(source, lines, &"    ".repeat(self.scopes.len()));
             }
             Statement::Declare { local, value } => self.declare(*local, value.as_ref())?,
             Statement::Assign { place, value } => self.assign(place, value)?,
@@ -241,48 +231,41 @@ impl Body<'_, '_> {
     }
 
     fn declare(&mut self, local: usize, value: Option<&Term>) -> Done<()> {
-        let of = &self.function.locals[local].of;
+        let of = self.locals[local].of.clone();
+        let is_array = value.is_some_and(|it| it.kind == Kind::Elements);
         // The value may name what the variable hides.
-        let (mut is_array, mut text) = (false, String::new());
-        if let Some(value) = value {
-            is_array = value.kind == Kind::Elements;
-            text = match is_array {
-                true => format!(" = {}", terms::initializer(self, value)?),
-                false => format!(" = {}", self.term(value)?.text),
-            };
-        }
-        self.name(local);
-        let name = self.names[local].clone();
-        let declared = match of {
+        let text = match value {
+            None => String::new(),
+            Some(value) if is_array => format!(" = {}", terms::initializer(self, value)?),
+            Some(value) => format!(" = {}", self.term(value)?.text),
+        };
+        let name = self.name_local(local);
+        let declared = match &of {
             Type::Of(Form::Array { length }, parts) if is_array => {
-                format!("const {} {name}[{length}]", self.printer.types.name(&parts[0])?)
+                format!("const {} {name}[{length}]", self.name(&parts[0])?)
             }
-            _ => declared(&self.printer.types.name(of)?, &name),
+            of => declared(&self.name(of)?, &name),
         };
         self.line(&format!("{declared}{text};"));
         Ok(())
     }
 
     fn assign(&mut self, place: &Term, value: &Term) -> Done<()> {
-        let place_text = self.term(place)?;
-        let target = &place_text.text;
+        let target = self.term(place)?;
         let is_short = place.of.integer().is_some_and(|it| (32..=64).contains(&it.bits));
-        let (mut sign, mut value) = ("=", value);
-        if value.kind == Kind::Binary(BinaryOperator::Add) {
-            let is_shown = is_short && !self.printer.is_checked;
-            if is_shown && self.term(&value.parts[0])?.text == *target {
-                (sign, value) = ("+=", &value.parts[1]);
-            }
+        let is_sum = value.kind == Kind::Binary(BinaryOperator::Add) && !self.is_checked;
+        let mut text = format!("{} = {}", target.text, self.term(value)?.text);
+        if is_sum && is_short && self.term(&value.parts[0])?.text == target.text {
+            text = match self.term(&value.parts[1])?.text.as_str() {
+                "1" => format!("{}++", target.at(text::ATOM)),
+                value => format!("{} += {value}", target.text),
+            };
         }
-        let text = self.term(value)?.text;
-        match (sign, text.as_str()) {
-            ("+=", "1") => self.line(&format!("{}++;", place_text.at(terms::ATOM))),
-            _ => self.line(&format!("{target} {sign} {text};")),
-        }
+        self.line(&format!("{text};"));
         Ok(())
     }
 
-    fn term(&mut self, term: &Term) -> Done<terms::Text> {
+    fn term(&mut self, term: &Term) -> Done<text::Text> {
         terms::print(self, term)
     }
 }
@@ -312,7 +295,8 @@ fn qualifier(notes: &Notes) -> &'static str {
     found.map_or("TK_HINTED", |(_, qualifier)| qualifier)
 }
 
-// Returns the names of functions. Those of one name get what they differ in.
+// Returns the names of functions. Those of one name get what they differ in: the engine that is chosen, which has no
+// bytes, or their modules.
 fn names(world: &World, functions: &[&Function]) -> Done<BTreeMap<Callee, String>> {
     let mut named: BTreeMap<String, Vec<&Callee>> = BTreeMap::new();
     for function in functions {
@@ -321,9 +305,13 @@ fn names(world: &World, functions: &[&Function]) -> Done<BTreeMap<Callee, String
     let (mut names, mut taken) = (BTreeMap::new(), BTreeSet::new());
     for (name, keys) in named {
         for key in &keys {
-            let own = match keys.len() {
-                1 => name.clone(),
-                _ => distinct_name(world, &name, key, &keys),
+            let module = world.module(key.id);
+            let own = module.path.last().map_or(module.crate_name, String::as_str);
+            let own = if own == "calls" { module.crate_name } else { own };
+            let own = match keys.iter().filter(|it| it.id == key.id).count() {
+                _ if keys.len() == 1 => name.clone(),
+                1 => format!("{own}_{name}"),
+                _ => name.clone() + &chosen(world, key, true),
             };
             if !taken.insert(own.clone()) {
                 return Err(world.fault_of(key.id, format!("two functions `{own}`")));
@@ -334,32 +322,23 @@ fn names(world: &World, functions: &[&Function]) -> Done<BTreeMap<Callee, String
     Ok(names)
 }
 
+// Returns the types that a function is for, those with or without bytes.
+fn chosen(world: &World, key: &Callee, is_zero: bool) -> String {
+    let chosen = key.bindings.values().filter(|of| world.is_zero(of) == is_zero);
+    chosen.map(|of| format!("_{}", short(world, of))).collect()
+}
+
 fn plain_name(world: &World, key: &Callee) -> Done<String> {
-    let types = Types::new(world);
     let mut name = text::snake(world.name(key.id));
     if let ItemKind::Implementation { .. } = world.owner(key.id).kind {
         let place = world.place(key.id, &Bindings::new())?;
         name = match &place.bindings["Self"] {
             Type::Of(Form::Item(id), _) => {
-                let own = types.short(&Type::Of(Form::Item(*id), Vec::new()));
+                let own = short(world, &Type::Of(Form::Item(*id), Vec::new()));
                 format!("{own}_{name}")
             }
-            own => format!("{name}_{}", types.short(own)),
+            own => format!("{name}_{}", short(world, own)),
         };
     }
-    let chosen = key.bindings.values().filter(|of| !world.is_zero(of));
-    Ok(name + &chosen.map(|of| format!("_{}", types.short(of))).collect::<String>())
-}
-
-// An engine that is chosen has no bytes, and two modules may have functions of one name.
-fn distinct_name(world: &World, name: &str, key: &Callee, keys: &[&Callee]) -> String {
-    let types = Types::new(world);
-    if keys.iter().filter(|it| it.id == key.id).count() > 1 {
-        let chosen = key.bindings.values().filter(|of| world.is_zero(of));
-        return name.to_string()
-            + &chosen.map(|of| format!("_{}", types.short(of))).collect::<String>();
-    }
-    let module = world.module(key.id);
-    let own = module.path.last().map_or(module.crate_name, String::as_str);
-    format!("{}_{name}", if own == "calls" { module.crate_name } else { own })
+    Ok(name + &chosen(world, key, false))
 }

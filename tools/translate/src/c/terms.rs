@@ -2,26 +2,11 @@
 
 use super::ir::{Done, Form, Id, Integer, Kind, PLAIN, Term, Type};
 use super::lower;
-use super::print::{Body, Printer, explained};
-use super::text;
+use super::print::{Printer, explained};
+use super::text::{self, AND, ATOM, CHOICE, EQUALITY, OR, SHIFT, SUM, Text, UNARY};
 use super::types::{declared, integer_name, integer_type};
 use crate::source::Fault;
 use crate::tree::BinaryOperator;
-
-/// An expression, and how tightly its operator binds.
-pub struct Text {
-    pub text: String,
-    pub level: u8,
-}
-
-pub const ATOM: u8 = 15;
-const UNARY: u8 = 14;
-const SUM: u8 = 12;
-const SHIFT: u8 = 11;
-const EQUALITY: u8 = 9;
-const AND: u8 = 5;
-const OR: u8 = 4;
-const CHOICE: u8 = 3;
 
 /// The functions of the prelude for what C has no operator for, without `tk_`.
 const SMALL: &str = "u8_is_digit u32_min size_min size_max size_saturating_add size_saturating_sub \
@@ -29,92 +14,74 @@ const SMALL: &str = "u8_is_digit u32_min size_min size_max size_saturating_add s
     i8_unsigned_abs i16_unsigned_abs i32_unsigned_abs i64_unsigned_abs i128_unsigned_abs \
     i128_negate u16_load u32_load u64_load";
 
-impl Text {
-    pub fn new(text: impl Into<String>, level: u8) -> Text {
-        Text { text: text.into(), level }
-    }
-
-    pub fn atom(text: impl Into<String>) -> Text {
-        Text::new(text, ATOM)
-    }
-
-    /// Returns the text, between parentheses if it binds less tightly.
-    pub fn at(&self, level: u8) -> String {
-        if self.level >= level { self.text.clone() } else { format!("({})", self.text) }
-    }
-}
-
 /// Prints a term.
-pub fn print(body: &mut Body, term: &Term) -> Done<Text> {
-    let world = body.printer.world;
+pub fn print(printer: &mut Printer, term: &Term) -> Done<Text> {
+    let world = printer.world;
     let parts = term.parts.iter().filter(|it| !world.is_zero(&it.of));
-    let texts = parts.map(|part| print(body, part)).collect::<Done<Vec<Text>>>()?;
+    let texts = parts.map(|part| print(printer, part)).collect::<Done<Vec<Text>>>()?;
     Ok(match &term.kind {
-        Kind::Number { value, hexadecimal } => {
-            number(*value, *hexadecimal, &term.of).ok_or_else(|| refuse(body, term, "a number"))?
-        }
+        Kind::Number { value, hexadecimal } => number(*value, *hexadecimal, &term.of)
+            .ok_or_else(|| refuse(printer, term, "a number"))?,
         Kind::Byte(byte) => character(*byte),
         Kind::Boolean(value) => Text::atom(value.to_string()),
         Kind::Text(bytes) => {
             let is_plain =
                 bytes.iter().all(|it| matches!(it, b' '..=b'~') && !b"\"\\?".contains(it));
             let text = String::from_utf8(bytes.clone()).ok().filter(|_| is_plain);
-            let text = text.ok_or_else(|| refuse(body, term, "a text"))?;
+            let text = text.ok_or_else(|| refuse(printer, term, "a text"))?;
             Text::atom(format!("TK_TEXT(\"{text}\")"))
         }
-        Kind::Local(local) => Text::atom(body.names[*local].clone()),
-        Kind::Constant(id) => constant(body, *id)?,
+        Kind::Local(local) => Text::atom(printer.locals[*local].name.clone()),
+        Kind::Constant(id) => constant(printer, *id)?,
         Kind::Call(callee) => {
-            let name = body.printer.names.get(callee).cloned();
-            call(name.ok_or_else(|| refuse(body, term, "a call"))?, &texts)
+            let name = printer.names.get(callee).cloned();
+            call(name.ok_or_else(|| refuse(printer, term, "a call"))?, &texts)
         }
         Kind::Small(name) => {
             let own = term.parts[0].of.integer().or(term.of.integer());
             let name = own.map_or(String::new(), |own| format!("{}_{name}", integer_name(own)));
             if !SMALL.split(' ').any(|it| it == name) {
-                return Err(refuse(body, term, "this operation"));
+                return Err(refuse(printer, term, "this operation"));
             }
             call(format!("tk_{name}"), &texts)
         }
-        Kind::Binary(operator) => binary(body, *operator, false, term, texts)?,
-        Kind::Wrapping(operator) => binary(body, *operator, true, term, texts)?,
+        Kind::Binary(operator) => binary(printer, *operator, false, term, texts)?,
+        Kind::Wrapping(operator) => binary(printer, *operator, true, term, texts)?,
         Kind::Not => Text::new(format!("!{}", texts[0].at(UNARY)), UNARY),
-        Kind::Cast => cast(body, &term.parts[0], &texts[0], &term.of)?,
-        Kind::Make(variant) => made(body, *variant, &texts, &term.of)?,
+        Kind::Cast => cast(printer, &term.parts[0], &texts[0], &term.of)?,
+        Kind::Make(variant) => made(printer, *variant, &texts, &term.of)?,
         Kind::Choice => {
             let [test, then, other] = [texts[0].at(OR), texts[1].at(OR), texts[2].at(CHOICE)];
             Text::new(format!("{test} ? {then} : {other}"), CHOICE)
         }
         Kind::Address => Text::new(format!("&{}", texts[0].at(UNARY)), UNARY),
         Kind::Follow => Text::new(format!("*{}", texts[0].at(UNARY)), UNARY),
-        _ => part(body, term, &texts)?,
+        _ => part(printer, term, &texts)?,
     })
 }
 
 // Prints a part of a value.
-fn part(body: &mut Body, term: &Term, texts: &[Text]) -> Done<Text> {
-    let Some(first) = term.parts.first() else { return Err(refuse(body, term, "this operation")) };
+fn part(printer: &mut Printer, term: &Term, texts: &[Text]) -> Done<Text> {
+    let Some(first) = term.parts.first() else {
+        return Err(refuse(printer, term, "this operation"));
+    };
     let own = texts[0].at(ATOM);
     let argument = |at: usize| texts[at].text.as_str();
     Ok(Text::atom(match (&term.kind, first.of.target()) {
         (Kind::Field(variant, field), _) => {
-            let name = body.printer.types.field(&first.of, *variant, *field)?;
-            body.printer.types.name(&first.of)?;
+            let name = printer.field(&first.of, *variant, *field)?;
+            printer.name(&first.of)?;
             match first.kind {
-                Kind::Follow => format!("{}->{name}", print(body, &first.parts[0])?.at(ATOM)),
+                Kind::Follow => format!("{}->{name}", print(printer, &first.parts[0])?.at(ATOM)),
                 _ => format!("{own}.{name}"),
             }
         }
-        (Kind::Is(variant), of) => {
-            let (test, is_comparison) = body.printer.types.test(of, *variant, &own)?;
-            let other = if test.starts_with('!') { UNARY } else { ATOM };
-            return Ok(Text::new(test, if is_comparison { EQUALITY } else { other }));
-        }
+        (Kind::Is(variant), of) => return printer.test(of, *variant, &own),
         (Kind::At | Kind::Element, Type::Of(Form::Array { length }, _)) => {
             format!("{own}[tk_index({}, {length})]", argument(1))
         }
         (Kind::OfArray, Type::Of(Form::Array { length }, _)) => {
-            format!("{}_of({}, {length})", body.printer.types.name(&term.of)?, argument(0))
+            format!("{}_of({}, {length})", printer.name(&term.of)?, argument(0))
         }
         (Kind::Length, _) => format!("{own}.len"),
         (Kind::Element, _) => format!("{own}.at[{}]", argument(1)),
@@ -124,15 +91,15 @@ fn part(body: &mut Body, term: &Term, texts: &[Text]) -> Done<Text> {
             return Ok(Text::new(format!("{own}.at + ({own}.len - {})", argument(1)), SUM));
         }
         (Kind::Part(name), _) => {
-            let name = body.printer.part(name, &first.of, &term.of)?;
+            let name = printer.part(name, &first.of, &term.of)?;
             return Ok(call(name, texts));
         }
-        _ => return Err(refuse(body, term, "this operation")),
+        _ => return Err(refuse(printer, term, "this operation")),
     }))
 }
 
-pub fn refuse(body: &Body, term: &Term, what: &str) -> Fault {
-    body.printer.world.fault(body.function.key.id, term.span, format!("C: {what} has no rule"))
+pub fn refuse(printer: &Printer, term: &Term, what: &str) -> Fault {
+    printer.world.fault(printer.id, term.span, format!("C: {what} has no rule"))
 }
 
 fn call(name: String, texts: &[Text]) -> Text {
@@ -172,65 +139,55 @@ fn character(byte: u8) -> Text {
 }
 
 // A number is a macro, and other constants are variables.
-fn constant(body: &mut Body, id: Id) -> Done<Text> {
-    let world = body.printer.world;
+fn constant(printer: &mut Printer, id: Id) -> Done<Text> {
+    let world = printer.world;
     let value = lower::constant(world, id)?;
     let name = text::snake(world.name(id));
     if let Type::Integer(_) | Type::Boolean = value.of {
-        let (name, text) = (format!("TK_{}", name.to_uppercase()), print(body, &value)?.text);
+        let (name, text) = (format!("TK_{}", name.to_uppercase()), print(printer, &value)?.text);
         let line = format!("#define {name} {text}\n");
         // Two modules may have constants of one name, which then are the same number.
-        if body.printer.known.get(&name).is_some_and(|it| *it != line) {
+        if printer.known.get(&name).is_some_and(|it| *it != line) {
             return Err(world.fault(id, value.span, "C: two constants of one name"));
         }
-        body.printer.helper(&name, || line);
+        printer.helper(&name, line);
         return Ok(Text::atom(name));
     }
-    let (name, initial) = (format!("tk_{name}"), initializer(body, &value)?);
+    let (name, initial) = (format!("tk_{name}"), initializer(printer, &value)?);
     let (mut of, mut lengths) = (&value.of, String::new());
     while let Type::Of(Form::Array { length }, parts) = of {
         lengths += &format!("[{length}]");
         of = &parts[0];
     }
-    let declared = declared(&body.printer.types.name(of)?, &name);
+    let declared = declared(&printer.name(of)?, &name);
     let text = explained(world, id) + &format!("static const {declared}{lengths} = {initial};\n");
-    body.printer.helper(&name, || text);
+    printer.helper(&name, text);
     Ok(Text::atom(name))
 }
 
 /// Prints the value of a constant or an array, between braces.
-pub fn initializer(body: &mut Body, value: &Term) -> Done<String> {
+pub fn initializer(printer: &mut Printer, value: &Term) -> Done<String> {
     match value.kind {
         Kind::Make(PLAIN) | Kind::Elements => {
-            let parts = value.parts.iter().map(|it| initializer(body, it));
+            let parts = value.parts.iter().map(|it| initializer(printer, it));
             let parts = parts.collect::<Done<Vec<String>>>()?;
             Ok(match parts.iter().map(|it| it.len() + 2).sum::<usize>() {
                 0..=90 => format!("{{{}}}", parts.join(", ")),
                 _ => format!("{{\n    {},\n}}", parts.join(",\n    ")),
             })
         }
-        Kind::Field(PLAIN, field) => {
-            let base = match value.parts[0].kind {
-                Kind::Constant(id) => lower::constant(body.printer.world, id)?,
-                _ => value.parts[0].clone(),
-            };
-            match base.kind {
-                Kind::Make(PLAIN) => initializer(body, &base.parts[field]),
-                _ => Err(refuse(body, value, "this constant")),
-            }
-        }
-        _ => Ok(print(body, value)?.text),
+        _ => Ok(print(printer, value)?.text),
     }
 }
 
-fn cast(body: &Body, inner: &Term, text: &Text, of: &Type) -> Done<Text> {
-    let to = of.integer().ok_or_else(|| refuse(body, inner, "a cast to this type"))?;
+fn cast(printer: &Printer, inner: &Term, text: &Text, of: &Type) -> Done<Text> {
+    let to = of.integer().ok_or_else(|| refuse(printer, inner, "a cast to this type"))?;
     let (name, value) = (integer_name(to), &text.text);
     let Some(from) = inner.of.integer() else {
         return match (&inner.of, to.bits) {
             (Type::Boolean, 128) => Ok(Text::atom(format!("tk_{name}_of({value})"))),
             (Type::Boolean, _) => Ok(cast_to(to, text)),
-            _ => Err(refuse(body, inner, "a cast of this type")),
+            _ => Err(refuse(printer, inner, "a cast of this type")),
         };
     };
     let from_name = integer_name(from);
@@ -238,7 +195,7 @@ fn cast(body: &Body, inner: &Term, text: &Text, of: &Type) -> Done<Text> {
         _ if from == to => Text::new(value.clone(), text.level),
         (128, 128) => Text::atom(format!("tk_{from_name}_as_{name}({value})")),
         (_, 128) if from.is_signed => {
-            return Err(refuse(body, inner, "a signed number of 128 bits"));
+            return Err(refuse(printer, inner, "a signed number of 128 bits"));
         }
         (_, 128) => Text::atom(format!("tk_{name}_of({value})")),
         (128, bits) => {
@@ -253,10 +210,10 @@ fn cast_to(to: Integer, text: &Text) -> Text {
     Text::atom(format!("TK_CAST({}, {})", integer_type(to), text.text))
 }
 
-fn made(body: &mut Body, variant: usize, texts: &[Text], of: &Type) -> Done<Text> {
-    body.printer.types.name(of)?;
+fn made(printer: &mut Printer, variant: usize, texts: &[Text], of: &Type) -> Done<Text> {
+    printer.name(of)?;
     let fields: Vec<String> = texts.iter().map(|it| it.text.clone()).collect();
-    body.printer.types.made(of, variant, &fields).map(Text::atom)
+    printer.made(of, variant, &fields).map(Text::atom)
 }
 
 // Returns an operator, its level, and the name of the function that stands for it.
@@ -284,7 +241,7 @@ fn symbol(operator: BinaryOperator) -> (&'static str, u8, &'static str) {
 }
 
 fn binary(
-    body: &mut Body,
+    printer: &mut Printer,
     operator: BinaryOperator,
     is_wrapping: bool,
     term: &Term,
@@ -297,29 +254,29 @@ fn binary(
         }
         Type::Integer(own) => Some(own).filter(|_| !operator.is_comparison()),
         Type::Boolean => None,
-        _ => return Err(refuse(body, term, "a comparison of these")),
+        _ => return Err(refuse(printer, term, "a comparison of these")),
     };
     let (_, level, function) = symbol(operator);
     let Some(own) = own else { return Ok(Text::new(joined(operator, &texts), level)) };
     if is_wrapping && (own.is_signed || own.bits < 32) {
-        return Err(refuse(body, term, "a wrapping operation on this type"));
+        return Err(refuse(printer, term, "a wrapping operation on this type"));
     }
     // C computes with `int`, which a product or a shift of 16 bits may exceed.
     if own.bits < 32 && matches!(operator, Multiply | ShiftLeft) {
-        return Err(refuse(body, term, "this operation on so few bits"));
+        return Err(refuse(printer, term, "this operation on so few bits"));
     }
     if operator.is_shift() && own.is_signed {
-        return Err(refuse(body, term, "a shift of a signed number"));
+        return Err(refuse(printer, term, "a shift of a signed number"));
     }
     // A literal would be an `int`.
     if let (true, Kind::Number { value, .. }) = (operator.is_shift(), &term.parts[0].kind) {
         let is_long = own.bits == 64;
         texts[0].text = if is_long { format!("UINT64_C({value})") } else { format!("{value}u") };
     }
-    if body.printer.is_checked && !is_wrapping && !own.is_signed {
+    if printer.is_checked && !is_wrapping && !own.is_signed {
         if let Some(check) = condition(operator, own) {
             let name = format!("tk_{}_{function}", integer_name(own));
-            checked(body.printer, &name, own, operator, &check);
+            checked(printer, &name, own, operator, &check);
             return Ok(call(name, &texts));
         }
     }

@@ -11,6 +11,37 @@ const RESERVED: &str = "alignas alignof and asm auto bool break case catch char 
 
 const WIDTH: usize = 120;
 
+/// An expression, and how tightly its operator binds.
+pub struct Text {
+    pub text: String,
+    pub level: u8,
+}
+
+// The levels of operators.
+pub const ATOM: u8 = 15;
+pub const UNARY: u8 = 14;
+pub const SUM: u8 = 12;
+pub const SHIFT: u8 = 11;
+pub const EQUALITY: u8 = 9;
+pub const AND: u8 = 5;
+pub const OR: u8 = 4;
+pub const CHOICE: u8 = 3;
+
+impl Text {
+    pub fn new(text: impl Into<String>, level: u8) -> Text {
+        Text { text: text.into(), level }
+    }
+
+    pub fn atom(text: impl Into<String>) -> Text {
+        Text::new(text, ATOM)
+    }
+
+    /// Returns the text, between parentheses if it binds less tightly.
+    pub fn at(&self, level: u8) -> String {
+        if self.level >= level { self.text.clone() } else { format!("({})", self.text) }
+    }
+}
+
 /// Returns a name of C for one of Rust.
 pub fn local(name: &str) -> String {
     let name = snake(name.trim_start_matches('_'));
@@ -51,41 +82,40 @@ fn ascii(line: &str) -> String {
     line.chars().map(|it| if it.is_ascii() { it } else { '?' }).collect()
 }
 
-/// Breaks a long line behind commas and before `&&` and `||`, outermost ones first.
+/// Breaks a long line behind commas and before `&&` and `||`, outermost ones first. What follows stands below what it
+/// belongs to.
 pub fn wrapped(line: &str) -> String {
     if line.len() <= WIDTH {
         return line.to_string();
     }
-    let deepest = line.bytes().filter(|it| *it == b'(').count();
-    let broken = (0..=deepest).find_map(|depth| broken_at(line, depth));
-    let open = line.find('(').filter(|open| *open < WIDTH).map(|open| line.split_at(open + 1));
-    let broken = broken.or(open.map(|(head, rest)| (head.into(), format!("        {rest}"))));
-    let Some((first, rest)) = broken else { return line.to_string() };
-    format!("{first}\n{}", wrapped(&rest))
+    let outermost = breaks(line).into_iter().min_by_key(|(depth, at, _)| (*depth, WIDTH - at));
+    let open = || line.find('(').filter(|open| *open < WIDTH).map(|open| (0, open + 1, 8));
+    let Some((_, at, indent)) = outermost.or_else(open) else { return line.to_string() };
+    let rest = format!("{}{}", " ".repeat(indent), line[at..].trim_start());
+    format!("{}\n{}", &line[..at], wrapped(&rest))
 }
 
-// Breaks a line at the last place of this depth that fits. What follows stands below what it belongs to.
-fn broken_at(line: &str, wanted: usize) -> Option<(String, String)> {
+// Returns where a line can be broken: in how many parentheses, at which place, and where the rest begins.
+fn breaks(line: &str) -> Vec<(usize, usize, usize)> {
     let start = line.len() - line.trim_start().len();
-    let (mut opened, mut found) = (Vec::new(), None);
-    let (mut is_text, bytes) = (false, line.as_bytes());
-    for (at, byte) in line.bytes().enumerate() {
+    let (mut opened, mut found) = (Vec::new(), Vec::new());
+    let mut is_text = false;
+    for (at, byte) in line.bytes().enumerate().take(WIDTH + 1).skip(start) {
         match byte {
             b'"' => is_text = !is_text,
             _ if is_text => {}
             b'(' => opened.push(at + 1),
-            b')' => {
-                opened.pop();
-            }
-            b' ' if at > start && at <= WIDTH && opened.len() == wanted => {
-                let signs = [" && ", " || ", " ? ", " : "];
-                if bytes[at - 1] == b',' || signs.iter().any(|it| line[at..].starts_with(it)) {
-                    found = Some((at, opened.last().copied().unwrap_or(start + 4)));
+            b')' => drop(opened.pop()),
+            b' ' => {
+                let signs = ["&& ", "|| ", "? ", ": "];
+                if line[..at].ends_with(',')
+                    || signs.iter().any(|it| line[at + 1..].starts_with(it))
+                {
+                    found.push((opened.len(), at, opened.last().copied().unwrap_or(start + 4)));
                 }
             }
             _ => {}
         }
     }
-    let (at, indent) = found?;
-    Some((line[..at].to_string(), format!("{}{}", " ".repeat(indent), &line[at + 1..])))
+    found
 }

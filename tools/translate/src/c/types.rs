@@ -1,19 +1,11 @@
 //! The types of C: their names, and the structs that stand for tuples, `Option`, `Result`, structs and enums.
 
 use super::ir::{Done, Form, Integer, NONE, Type};
-use super::text::{self, comment};
+use super::print::Printer;
+use super::text::{self, EQUALITY, Text, UNARY, comment};
 use super::world::{Variant, World};
 use crate::source::Fault;
-use std::collections::BTreeMap;
 use std::path::Path;
-
-/// What is printed before the functions: types, and the small functions that make their values.
-pub struct Types<'a> {
-    world: &'a World<'a>,
-    /// The types that have a name, and their definitions.
-    known: BTreeMap<String, (Type, String)>,
-    pub texts: Vec<String>,
-}
 
 /// The struct of C for a type: its members behind the one that says of which variant a value is, and for each variant
 /// the members of its fields. Fields without bytes have none.
@@ -48,46 +40,38 @@ const ORDINALS: [&str; 2] = ["first", "second"];
 // The names of types that are shorter in C.
 const RENAMED: [(&str, &str); 1] = [("AtoiSimdError", "error")];
 
-impl<'a> Types<'a> {
-    pub fn new(world: &'a World<'a>) -> Types<'a> {
-        Types { world, known: BTreeMap::new(), texts: Vec::new() }
+/// Returns a name for a type that can be part of other names.
+pub fn short(world: &World, of: &Type) -> String {
+    match of {
+        Type::Integer(integer) => integer_name(*integer),
+        Type::Boolean => "bool".into(),
+        Type::Of(form, parts) => short_of(world, *form, parts),
+        _ => "unknown".into(),
     }
+}
 
-    /// Returns a name for a type that can be part of other names.
-    pub fn short(&self, of: &Type) -> String {
-        match of {
-            Type::Integer(integer) => integer_name(*integer),
-            Type::Boolean => "bool".into(),
-            Type::Of(form, parts) => self.short_of(*form, parts),
-            _ => "unknown".into(),
+fn short_of(world: &World, form: Form, parts: &[Type]) -> String {
+    let parts = parts.iter().filter(|part| !world.is_zero(part));
+    let names: Vec<String> = parts.map(|it| short(world, it)).collect();
+    let joined = names.join("_");
+    match form {
+        Form::Slice { is_mutable: false } if joined == "u8" => "bytes".into(),
+        Form::Slice { is_mutable: false } => format!("slice_{joined}"),
+        Form::Slice { is_mutable: true } => format!("room_{joined}"),
+        Form::Option => format!("option_{joined}"),
+        Form::Result if names[1..] == ["error"] => format!("result_{}", names[0]),
+        Form::Result => format!("result_{joined}"),
+        Form::Tuple if names.len() == 2 => format!("pair_{joined}"),
+        Form::Array { .. } | Form::Pointer | Form::Tuple => "unknown".into(),
+        Form::Item(id) => {
+            let name = world.name(id);
+            let renamed = RENAMED.iter().find(|(from, _)| *from == name);
+            renamed.map_or(text::snake(name), |(_, to)| to.to_string())
         }
     }
+}
 
-    fn short_of(&self, form: Form, parts: &[Type]) -> String {
-        let is_left = |part: &&Type| match form {
-            Form::Item(_) => **part != Type::Marker,
-            _ => !self.world.is_zero(part),
-        };
-        let names: Vec<String> = parts.iter().filter(is_left).map(|it| self.short(it)).collect();
-        let joined = names.join("_");
-        match form {
-            Form::Slice { is_mutable: false } if joined == "u8" => "bytes".into(),
-            Form::Slice { is_mutable: false } => format!("slice_{joined}"),
-            Form::Slice { is_mutable: true } => format!("room_{joined}"),
-            Form::Option => format!("option_{joined}"),
-            Form::Result if names[1..] == ["error"] => format!("result_{}", names[0]),
-            Form::Result => format!("result_{joined}"),
-            Form::Tuple if names.len() == 2 => format!("pair_{joined}"),
-            Form::Array { .. } | Form::Pointer | Form::Tuple => "unknown".into(),
-            Form::Item(id) => {
-                let name = self.world.name(id);
-                let renamed = RENAMED.iter().find(|(from, _)| *from == name);
-                let name = renamed.map_or(text::snake(name), |(_, to)| to.to_string());
-                std::iter::once(name).chain(names).collect::<Vec<_>>().join("_")
-            }
-        }
-    }
-
+impl Printer<'_> {
     /// Returns a type as C names it, and defines it before.
     pub fn name(&mut self, of: &Type) -> Done<String> {
         Ok(match of {
@@ -102,16 +86,13 @@ impl<'a> Types<'a> {
                 return Err(self.unknown(of));
             }
             _ => {
-                let name = format!("tk_{}", self.short(of));
-                match self.known.get(&name).cloned() {
-                    Some((own, _)) if own == *of => {}
-                    // Arrays of different lengths are the same pointers.
-                    Some((_, text)) if text == self.definition(of, &name)? => {}
+                let name = format!("tk_{}", short(self.world, of));
+                match self.types.insert(name.clone(), of.clone()) {
+                    Some(other) if other == *of => {}
                     Some(_) => return Err(self.unknown(of)),
                     None => {
                         let text = self.definition(of, &name)?;
-                        self.known.insert(name.clone(), (of.clone(), text.clone()));
-                        self.texts.push(text);
+                        self.definitions.push(text);
                     }
                 }
                 name
@@ -166,7 +147,7 @@ impl<'a> Types<'a> {
                     Some(number) if variants.len() == 1 => {
                         ORDINALS.get(number).ok_or_else(|| self.unknown(of))?.to_string()
                     }
-                    Some(_) => self.short(of),
+                    Some(_) => short(self.world, of),
                     None => text::local(name),
                 };
                 let fits = |at: usize| {
@@ -196,18 +177,20 @@ impl<'a> Types<'a> {
     }
 
     fn tag(&self, of: &Type, variant: &str) -> String {
-        format!("TK_{}_{}", self.short(of), text::snake(variant)).to_uppercase()
+        format!("TK_{}_{}", short(self.world, of), text::snake(variant)).to_uppercase()
     }
 
-    /// Returns the test whether a value is of a variant, and whether it is a comparison.
-    pub fn test(&self, of: &Type, variant: usize, value: &str) -> Done<(String, bool)> {
+    /// Returns the test whether a value is of a variant.
+    pub fn test(&self, of: &Type, variant: usize, value: &str) -> Done<Text> {
         let layout = self.layout(of)?;
-        let tag = self.tag(of, &layout.variants[variant].name);
         match Tag::of(of, &layout) {
             Tag::None => Err(self.unknown(of)),
-            Tag::Member => Ok((format!("{value}.tag == {tag}"), true)),
-            Tag::Boolean(tag) if variant == NONE => Ok((format!("!{value}.{tag}"), false)),
-            Tag::Boolean(tag) => Ok((format!("{value}.{tag}"), false)),
+            Tag::Boolean(tag) if variant == NONE => Ok(Text::new(format!("!{value}.{tag}"), UNARY)),
+            Tag::Boolean(tag) => Ok(Text::atom(format!("{value}.{tag}"))),
+            Tag::Member => {
+                let tag = self.tag(of, &layout.variants[variant].name);
+                Ok(Text::new(format!("{value}.tag == {tag}"), EQUALITY))
+            }
         }
     }
 
@@ -219,7 +202,7 @@ impl<'a> Types<'a> {
 
     // Returns the function that makes values of a variant.
     fn maker(&self, of: &Type, layout: &Layout, variant: usize) -> String {
-        let (kind, name) = (self.short(of), text::snake(&layout.variants[variant].name));
+        let (kind, name) = (short(self.world, of), text::snake(&layout.variants[variant].name));
         match Tag::of(of, layout) {
             Tag::Boolean(_) => format!("tk_{name}_{}", kind.split_once('_').map_or("", |it| it.1)),
             Tag::None if !of.is_slice() => format!("tk_{name}_{kind}"),

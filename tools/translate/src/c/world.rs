@@ -236,21 +236,13 @@ impl<'a> World<'a> {
         }
     }
 
-    /// Returns a type in which markers stand for arguments that its values hold nothing of.
+    /// Returns a type without the arguments of structs, of which their values hold nothing. A field that is of a
+    /// parameter has no type in C.
     pub fn erased(&self, of: &Type) -> Type {
-        let Type::Of(Form::Item(id), parts) = of else {
-            return of.map(&mut |part| self.erased(part));
-        };
-        let names = self.parameters(*id);
-        let own = names.iter().cloned().map(Type::Parameter).collect();
-        let variants = self.variants(&Type::Of(Form::Item(*id), own)).unwrap_or_default();
-        let fields: Vec<(String, Type)> = variants.into_iter().flat_map(|it| it.fields).collect();
-        let holds = |name: &String| fields.iter().any(|(_, of)| self.erased(of).has(name));
-        let parts = names.iter().zip(parts).map(|(name, part)| match holds(name) {
-            true => self.erased(part),
-            false => Type::Marker,
-        });
-        Type::Of(Form::Item(*id), parts.collect())
+        match of {
+            Type::Of(form @ Form::Item(_), _) => Type::Of(*form, Vec::new()),
+            _ => of.map(&mut |part| self.erased(part)),
+        }
     }
 
     /// Finds a member of a type by its name: one of its own, or one that a trait of it provides.

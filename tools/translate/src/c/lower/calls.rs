@@ -43,11 +43,8 @@ impl Lowering<'_, '_> {
     /// Returns a constant of a type. For a parameter that stands for itself, it is one that the function gets.
     pub fn constant_of(&mut self, owner: &Type, name: &str) -> Done<Term> {
         let of = owner.with(&self.open);
-        let found = self.world.member(&of, name);
-        let Some(Callee { id, bindings }) = found else {
-            return self.refuse("this name has no rule");
-        };
-        let ItemKind::Constant { annotation, .. } = &self.world.item(id).kind else {
+        let found = self.world.member(&of, name).map(|it| (&self.world.item(it.id).kind, it));
+        let Some((ItemKind::Constant { annotation, .. }, Callee { id, bindings })) = found else {
             return self.refuse("this name has no rule");
         };
         let Type::Parameter(parameter) = owner else {
@@ -77,14 +74,8 @@ impl Lowering<'_, '_> {
         };
         let is_own = self.place.bindings.contains_key(&first.name.text);
         let found = self.world.resolve(self.place.module, path);
-        let is_type = found.is_some_and(|it| {
-            let is_item = match &it.definition {
-                Definition::Item { .. } => true,
-                Definition::Foreign(name) => integer(name).is_some(),
-                _ => false,
-            };
-            is_item && it.used == before.len()
-        });
+        let is_type =
+            found.is_some_and(|it| it.used == before.len() && item_of(it.definition).is_some());
         if !(is_own && before.len() == 1 || is_type) {
             return Ok(None);
         }
@@ -105,7 +96,13 @@ impl Lowering<'_, '_> {
         if let ([owner, name], [argument]) = (path.names().as_slice(), arguments) {
             let of = integer(owner).filter(|_| matches!(*name, "from" | "from_le_bytes"));
             if let Some(of) = of {
-                return self.converted(of, name, argument);
+                let value = self.any(argument)?;
+                let length = of.integer().map_or(0, |it| u128::from(it.bits) / 8);
+                if *name == "from" {
+                    return Ok(self.make(Kind::Cast, vec![value], of));
+                }
+                self.unify(&value.of, &Type::array(Type::BYTE, length))?;
+                return Ok(self.make(Kind::Small("load"), vec![value], of));
             }
         }
         let found = match self.owner(path)? {
@@ -116,8 +113,7 @@ impl Lowering<'_, '_> {
             }
         };
         let Some(callee) = found else { return self.refuse("this function has no rule") };
-        let (callee, constants) = self.choose(callee, &path.last().arguments)?;
-        self.call_chosen(callee, constants, None, arguments)
+        self.call_of(callee, &path.last().arguments, None, arguments)
     }
 
     // Finds a member of a type, which matters then.
@@ -128,24 +124,9 @@ impl Lowering<'_, '_> {
         }
     }
 
-    // `u64::from` and `u64::from_le_bytes`.
-    fn converted(&mut self, of: Type, name: &str, argument: &Expression) -> Done<Term> {
-        let value = self.any(argument)?;
-        if name == "from" {
-            return Ok(self.make(Kind::Cast, vec![value], of));
-        }
-        let length = of.integer().map_or(0, |it| u128::from(it.bits) / 8);
-        self.unify(&value.of, &Type::array(Type::BYTE, length))?;
-        Ok(self.make(Kind::Small("load"), vec![value], of))
-    }
-
-    // Returns a function with the generics that a call writes, and its constants. Types that the call leaves out are
-    // found later.
-    fn choose(
-        &mut self,
-        mut callee: Callee,
-        arguments: &[GenericArgument],
-    ) -> Done<(Callee, Vec<Term>)> {
+    // Adds the generic types that a call writes to a function, and returns its constants. Types that the call leaves
+    // out are found later.
+    fn choose(&mut self, callee: &mut Callee, arguments: &[GenericArgument]) -> Done<Vec<Term>> {
         let mut given = arguments.iter();
         let mut constants = Vec::new();
         for parameter in &self.world.item(callee.id).generics {
@@ -171,24 +152,29 @@ impl Lowering<'_, '_> {
                 _ => return self.refuse("a generic constant that is not written"),
             }
         }
-        Ok((callee, constants))
+        Ok(constants)
     }
 
-    fn call_chosen(
+    fn call_of(
         &mut self,
-        callee: Callee,
-        constants: Vec<Term>,
+        mut callee: Callee,
+        generics: &[GenericArgument],
         receiver: Option<Term>,
         arguments: &[Expression],
     ) -> Done<Term> {
-        let (mut types, of) = signature(self.world, &callee)?;
-        let types = types.split_off(usize::from(receiver.is_some()).min(types.len()));
-        if types.len() != arguments.len() {
+        let constants = self.choose(&mut callee, generics)?;
+        let (types, of) = signature(self.world, &callee)?;
+        let own = usize::from(receiver.is_some());
+        if types.len() != own + arguments.len() {
             return self.refuse("another number of arguments");
         }
-        let arguments = arguments.iter().zip(types.into_iter().map(Some)).collect();
+        let given = types[own..].iter().map(|it| Some(it.clone()));
+        let arguments = arguments.iter().zip(given).collect();
         let terms = match receiver {
-            Some(receiver) => self.behind(receiver, arguments)?,
+            Some(receiver) => {
+                let receiver = self.coerce(receiver, &types[0])?;
+                self.behind(receiver, arguments)?
+            }
             None => self.operands(arguments)?,
         };
         let terms = constants.into_iter().chain(terms);
@@ -200,18 +186,11 @@ impl Lowering<'_, '_> {
 
     /// Evaluates a call of a method of a struct, an enum or a parameter.
     pub fn method_of_item(&mut self, receiver: Term, call: &MethodCall) -> Done<Term> {
-        let target = self.followed(receiver.clone());
-        let found = self.member(&target.of, &call.name.text)?;
-        let Some(callee) = found else { return self.refuse("this method has no rule") };
-        let wanted = signature(self.world, &callee)?.0;
-        let is_pointer = wanted.first().is_some_and(|of| of.target() != of);
-        let (callee, constants) = self.choose(callee, &call.generics)?;
-        let receiver = match self.known(&receiver.of) {
-            _ if !is_pointer => target,
-            of if of.target() != &of => receiver,
-            of => self.make(Kind::Address, vec![target], Type::pointer(of)),
-        };
-        self.call_chosen(callee, constants, Some(receiver), &call.arguments)
+        let of = self.followed(receiver.clone()).of;
+        match self.member(&of, &call.name.text)? {
+            Some(callee) => self.call_of(callee, &call.generics, Some(receiver), &call.arguments),
+            None => self.refuse("this method has no rule"),
+        }
     }
 }
 

@@ -6,14 +6,15 @@ use crate::c::ir::{Callee, Form, Function, Kind, Statement, Term, Type, all_kind
 /// What is known of a type that was unknown at first.
 #[derive(Clone, Debug)]
 pub enum Variable {
-    Free { is_integer: bool },
+    Unknown,
+    Integer,
     Known(Type),
 }
 
 impl Lowering<'_, '_> {
     /// Returns a type that is not known yet.
     pub fn fresh(&mut self, is_integer: bool) -> Type {
-        self.variables.push(Variable::Free { is_integer });
+        self.variables.push(if is_integer { Variable::Integer } else { Variable::Unknown });
         Type::Variable(self.variables.len() - 1)
     }
 
@@ -22,7 +23,7 @@ impl Lowering<'_, '_> {
         match of {
             Type::Variable(number) => match &self.variables[*number] {
                 Variable::Known(found) => self.known(found),
-                Variable::Free { .. } => of.clone(),
+                _ => of.clone(),
             },
             _ => of.clone(),
         }
@@ -32,7 +33,7 @@ impl Lowering<'_, '_> {
     pub fn full(&self, of: &Type) -> Type {
         match self.known(of) {
             Type::Variable(number) => match self.variables[number] {
-                Variable::Free { is_integer: true } => Type::I32,
+                Variable::Integer => Type::I32,
                 _ => Type::Variable(number),
             },
             found => found.map(&mut |part| self.full(part)),
@@ -44,7 +45,17 @@ impl Lowering<'_, '_> {
         match (self.known(left), self.known(right)) {
             (left, right) if left == right => Ok(()),
             (Type::Variable(number), other) | (other, Type::Variable(number)) => {
-                self.decide(number, other)
+                match (&self.variables[number], other) {
+                    // What is not known becomes an integer, too.
+                    (Variable::Integer, Type::Variable(other)) => {
+                        self.variables[other] = Variable::Known(Type::Variable(number));
+                    }
+                    (Variable::Integer, other) if other.integer().is_none() => {
+                        return self.refuse("an integer in place of another type");
+                    }
+                    (_, other) => self.variables[number] = Variable::Known(other),
+                }
+                Ok(())
             }
             (Type::Of(form, left), Type::Of(other, right))
                 if form == other && left.len() == right.len() =>
@@ -56,22 +67,6 @@ impl Lowering<'_, '_> {
                 self.refuse(format!("{left:?} in place of {right:?}"))
             }
         }
-    }
-
-    fn decide(&mut self, number: usize, other: Type) -> Done<()> {
-        if let Variable::Free { is_integer: true } = self.variables[number] {
-            match other {
-                Type::Variable(other) => {
-                    if let Variable::Free { is_integer } = &mut self.variables[other] {
-                        *is_integer = true;
-                    }
-                }
-                Type::Integer(_) | Type::Parameter(_) => {}
-                _ => return self.refuse("an integer in place of another type"),
-            }
-        }
-        self.variables[number] = Variable::Known(other);
-        Ok(())
     }
 
     /// Makes a term one of the wanted type: arrays become slices, and what may be written is shared.
@@ -92,6 +87,11 @@ impl Lowering<'_, '_> {
                 self.unify(&own[0], &parts[0])?;
                 Ok(self.make(Kind::OfArray, vec![term], wanted))
             }
+            // A receiver that a method changes.
+            (_, Type::Of(Form::Pointer, parts)) if of == target => {
+                self.unify(&of, &parts[0])?;
+                Ok(self.make(Kind::Address, vec![term], wanted))
+            }
             (_, Type::Variable(_) | Type::Of(Form::Pointer, _)) => {
                 self.unify(&of, &wanted)?;
                 Ok(term)
@@ -106,10 +106,6 @@ impl Lowering<'_, '_> {
     /// Ends a function: all types get what was found, and calls the functions for them.
     pub fn finish(&mut self, key: &Callee, parameters: Vec<usize>) -> Done<Function> {
         let mut body = std::mem::take(&mut self.statements);
-        each_term(&mut body, &mut |term| {
-            term.of = self.full(&term.of);
-            Ok(())
-        })?;
         loop {
             let used = all_kinds(&body);
             if !remove_unused(&mut body, &used) {

@@ -3,7 +3,7 @@
 use super::{Done, Lowering};
 use crate::c::ir::{Form, Integer, Kind, OK, Statement, Term, Type};
 use crate::tree::{
-    BinaryOperator, Expression, ExpressionKind, GenericArgument, LiteralKind, MethodCall,
+    BinaryOperator, Expression, ExpressionKind, GenericArgument, Literal, LiteralKind, MethodCall,
 };
 
 impl Lowering<'_, '_> {
@@ -29,7 +29,7 @@ impl Lowering<'_, '_> {
             }
             Type::Of(Form::Slice { .. }, _) => Type::SIZE,
             of @ Type::Integer(_) => of,
-            _ => return self.no_method(),
+            _ => return self.refuse("this method has no rule"),
         };
         let arguments = call.arguments.iter().map(|it| (it, Some(of.clone()))).collect();
         let terms = self.behind(target, arguments)?;
@@ -39,10 +39,6 @@ impl Lowering<'_, '_> {
             }
             _ => self.of_slice(terms, call),
         }
-    }
-
-    fn no_method<T>(&self) -> Done<T> {
-        self.refuse("this method has no rule")
     }
 
     // `RESULT.ok()`.
@@ -79,7 +75,7 @@ impl Lowering<'_, '_> {
             ("checked_mul", 2) => {
                 return Ok(self.checked("product_fits", Multiply, terms));
             }
-            _ => return self.no_method(),
+            _ => return self.refuse("this method has no rule"),
         };
         Ok(self.make(kind, terms, of))
     }
@@ -129,21 +125,21 @@ impl Lowering<'_, '_> {
                 })?;
                 Ok(self.unit())
             }
-            _ => self.no_method(),
+            _ => self.refuse("this method has no rule"),
         }
     }
 
     // The first or last bytes of a slice, if it has so many.
     fn chunk(&mut self, slice: Term, kind: Kind, call: &MethodCall) -> Done<Term> {
-        let length = match call.generics.as_slice() {
-            [GenericArgument::Constant(literal)] => match literal.kind {
-                LiteralKind::Integer(value) => value,
-                _ => return self.no_method(),
-            },
-            _ => return self.refuse("the number of bytes is not written"),
+        let [GenericArgument::Constant(Literal { kind: LiteralKind::Integer(length), .. })] =
+            call.generics[..]
+        else {
+            return self.refuse("the number of bytes is not written");
         };
         let slice = self.keep(slice, "all");
-        let Type::Of(_, parts) = self.known(&slice.of) else { return self.no_method() };
+        let Type::Of(_, parts) = self.known(&slice.of) else {
+            return self.refuse("this method has no rule");
+        };
         let count = self.number(length, Type::SIZE);
         let test = self.test(BinaryOperator::GreaterOrEqual, self.length(&slice), count.clone());
         let bytes = self.make(kind, vec![slice, count], Type::array(parts[0].clone(), length));

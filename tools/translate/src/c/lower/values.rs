@@ -161,12 +161,16 @@ impl Lowering<'_, '_> {
         }
         operands.extend(base.map(|base| (base, Some(of.clone()))));
         let mut terms = self.operands(operands)?;
-        let base = base.and_then(|_| terms.pop()).map(|base| self.keep(base, "base"));
+        let base = match base.and_then(|_| terms.pop()) {
+            Some(Term { kind: Kind::Constant(id), .. }) => Some(super::constant(self.world, id)?),
+            base => base.map(|base| self.keep(base, "base")),
+        };
         let mut all = Vec::new();
         for (number, (name, of)) in fields.into_iter().enumerate() {
             let given = given.iter().position(|(given, _)| given.text == name);
             all.push(match (given, &base) {
                 (Some(at), _) => terms[at].clone(),
+                (None, Some(base)) if base.kind == Kind::Make(PLAIN) => base.parts[number].clone(),
                 (None, Some(base)) => self.make(Kind::Field(PLAIN, number), vec![base.clone()], of),
                 (None, None) => return self.refuse("a field without a value"),
             });
@@ -216,11 +220,9 @@ impl Lowering<'_, '_> {
             let second = self.alone("what may not run", |it| it.term(right, &Type::Boolean))?;
             return Ok(self.test(operator, first, second));
         }
-        let terms = self.operands(vec![(left, None), (right, None)])?;
-        let mut terms = terms.into_iter().map(|term| self.followed(term));
-        let (Some(left), Some(right)) = (terms.next(), terms.next()) else {
-            return self.refuse("no operands");
-        };
+        let mut terms = self.operands(vec![(left, None), (right, None)])?;
+        let right = self.followed(terms.remove(1));
+        let left = self.followed(terms.remove(0));
         if !operator.is_shift() {
             self.unify(&left.of, &right.of)?;
         }
@@ -293,13 +295,7 @@ impl Lowering<'_, '_> {
                 self.unify(&wanted[1], &errors[0].of)?;
                 (OK, self.make(Kind::Make(ERR), errors, result))
             }
-            (Type::Of(Form::Option, _), _) => {
-                return self.refuse("`?` of an option in another function");
-            }
-            (Type::Of(Form::Result, _), _) => {
-                return self.refuse("`?` of a result in another function");
-            }
-            _ => return self.refuse("`?` of an unknown type"),
+            _ => return self.refuse("`?` of another type than the function has"),
         };
         let (tests, mut values) = self.parts(&found, good)?;
         let leaves = self.joined(tests, BinaryOperator::And).negated();
