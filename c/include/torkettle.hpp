@@ -7,6 +7,10 @@
 #ifndef TORKETTLE_HPP
 #define TORKETTLE_HPP
 
+#if __cplusplus < 201703L && !(defined _MSVC_LANG && _MSVC_LANG >= 201703L)
+#error "torkettle.hpp needs C++17 or later, and torkettle.h C++11 or later"
+#else
+
 #include "torkettle.h"
 
 #include <charconv>
@@ -447,4 +451,5 @@ fields<T> lines(const detail::string<Allocator> &&text) = delete;
 #undef TORKETTLE_CONSTEXPR_
 #undef TORKETTLE_IS_CONSTANT_
 
+#endif
 #endif
