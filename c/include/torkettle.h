@@ -50,6 +50,12 @@
 #include <intrin.h>
 #endif
 
+/* Programs that declare variables only at the start of a block may ask compilers for this warning. */
+#if defined __GNUC__ && !defined __cplusplus
+#pragma GCC diagnostic push
+#pragma GCC diagnostic ignored "-Wdeclaration-after-statement"
+#endif
+
 #ifdef __cplusplus
 #define TORKETTLE_NOEXCEPT noexcept
 #define TORKETTLE_BYTES_(text) reinterpret_cast<const uint8_t *>(text)
@@ -3193,6 +3199,9 @@ const char *torkettle_version(void) TORKETTLE_SYMBOL_(version);
 #undef TORKETTLE_PREFIX_
 #undef TORKETTLE_TEXT_
 #undef TORKETTLE_NOEXCEPT
+#if defined __GNUC__ && !defined __cplusplus
+#pragma GCC diagnostic pop
+#endif
 #endif
 
 #ifdef __cplusplus
