@@ -5,6 +5,7 @@
 #include "texts.hpp"
 #include "torkettle.hpp"
 
+#include <array>
 #include <charconv>
 #include <cstdint>
 #include <cstdio>
@@ -213,6 +214,55 @@ void read_ranges()
 #endif
 }
 
+#if __cplusplus >= 202002L && defined __cpp_constexpr_dynamic_alloc
+// What is read of a text: in a constant expression, the same as at run time.
+template <class T>
+struct Reading {
+    T value = 77;
+    std::ptrdiff_t length = 0;
+    std::errc error = std::errc();
+    std::optional<T> whole[4] = {};
+    bool operator==(const Reading &) const = default;
+};
+
+template <class T>
+constexpr Reading<T> reading(std::string_view text)
+{
+    Reading<T> made;
+    const auto [end, error] = torkettle::from_chars(text.data(), text.data() + text.size(), made.value);
+    made.length = end - text.data();
+    made.error = error;
+    for (unsigned flags = 0; flags < 4; flags++)
+        made.whole[flags] = torkettle::parse<T>(text, flags);
+    return made;
+}
+
+constexpr std::string_view constant_texts[] = {
+    "", "-", "+", "x", " 1", "--1", "+-5", "0", "-0", "+5", "5 ", "007", "12,34", "-7 ", "0000000000000000000000000042x",
+    "127", "128", "-128", "-129", "255", "256", "32767", "32768", "-32768", "-32769", "65535", "65536", "2147483647",
+    "2147483648", "-2147483648", "-2147483649", "4294967295", "4294967296", "9223372036854775807", "9223372036854775808",
+    "-9223372036854775808", "-9223372036854775809", "18446744073709551615", "18446744073709551616",
+    "170141183460469231731687303715884105727", "170141183460469231731687303715884105728",
+    "-170141183460469231731687303715884105728", "-170141183460469231731687303715884105729",
+    "340282366920938463463374607431768211455", "340282366920938463463374607431768211456", "00000000000000000007",
+    "000000000000000000007", "+000000000000000000007", "0000000000000000000000000000000000000007"};
+
+template <class T>
+constexpr auto constants = [] {
+    std::array<Reading<T>, std::size(constant_texts)> all;
+    for (std::size_t at = 0; at < all.size(); at++)
+        all[at] = reading<T>(constant_texts[at]);
+    return all;
+}();
+
+template <class... T>
+void compare_constants()
+{
+    for (std::size_t at = 0; at < std::size(constant_texts); at++)
+        require(((constants<T>[at] == reading<T>(constant_texts[at])) && ...), "a constant", constant_texts[at]);
+}
+#endif
+
 struct OtherAllocator : std::allocator<char> {
     template <class>
     struct rebind {
@@ -250,6 +300,13 @@ int main(int count, char **arguments)
     call_by_pointer();
     read_refused_separators();
     read_ranges();
+#if __cplusplus >= 202002L && defined __cpp_constexpr_dynamic_alloc
+    compare_constants<char, signed char, unsigned char, short, unsigned short, int, unsigned, long, unsigned long>();
+    compare_constants<long long, unsigned long long>();
+#ifdef __SIZEOF_INT128__
+    compare_constants<torkettle_i128, torkettle_u128>();
+#endif
+#endif
     // Few of these are numbers. The other texts are counted.
     calls = accepted = out_of_range = 0;
     for (unsigned long number = 0; number < texts; number++)
