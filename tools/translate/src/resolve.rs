@@ -88,23 +88,21 @@ impl<'a> Scopes<'a> {
 
     // Adds what is imported to the names of a module.
     fn import(&mut self, module: usize, import: &Import) -> Done<()> {
-        let (names, span) = (import.names(), import.last().span);
-        let all = if import.is_all { std_names::names_of(&names.join("::")) } else { &[] };
-        for name in all {
-            self.declare(module, name, span, foreign(&[&*names, &[name]].concat()))?;
+        let (names, last) = (import.names(), import.last());
+        let path = names.join("::");
+        let found: Vec<(&str, Definition)> = if import.is_all {
+            let all = std_names::names_of(&path).iter();
+            all.map(|name| (*name, foreign(&[&path, name]))).collect()
+        } else {
+            let name = &import.alias.as_ref().unwrap_or(last).text;
+            self.imported(module, &names).map(|it| (name.as_str(), it)).into_iter().collect()
+        };
+        if found.is_empty() {
+            let span = import.path[0].span.to(last.span);
+            let reason = format!("`{path}` is not known here");
+            return Err(self.module(module).source.fault(span, reason));
         }
-        let found = if import.is_all { None } else { self.imported(module, &names) };
-        match found {
-            Some(definition) => {
-                let name = import.alias.as_ref().unwrap_or(import.last());
-                self.declare(module, &name.text, span, definition)
-            }
-            None if !all.is_empty() => Ok(()),
-            None => {
-                let reason = format!("`{}` is not known here", names.join("::"));
-                Err(self.module(module).source.fault(import.path[0].span.to(span), reason))
-            }
-        }
+        found.into_iter().try_for_each(|(name, it)| self.declare(module, name, last.span, it))
     }
 
     // Resolves the path of a `use`, which begins with `crate`, `std` or a crate.

@@ -1,6 +1,5 @@
 //! Which files are read, what they export, what is written, and what `--check` compares.
 
-use crate::common::rust;
 use std::fs;
 use std::path::{Path, PathBuf};
 use torkettle_translate::modules::CRATES;
@@ -29,13 +28,6 @@ impl Package {
         let file = self.0.join(file);
         fs::create_dir_all(file.parent().unwrap()).unwrap();
         fs::write(file, content).unwrap();
-    }
-
-    // What is in the file of a module, without the comment that says of what it is made.
-    fn rust(&self, module: &str) -> String {
-        let text = fs::read_to_string(self.0.join("rust/src/proved").join(module)).unwrap();
-        assert!(text.starts_with("/* Made by .ci/translate from crates/"), "{text}");
-        text.split_once(" */ ").unwrap().1.into()
     }
 
     fn fault(&self) -> String {
@@ -99,9 +91,9 @@ fn a_module_has_one_file_and_a_declaration() {
     package.put("crates/atoi_core/src/deep/text.rt", "fn size() -> u8 {\n    48\n}\n");
     assert_eq!(package.fault(), "crates/atoi_core/src/lib.rt:2: a module without a file");
     package.put("crates/atoi_core/src/deep.rt", "mod text;\n");
-    write(&package.0).unwrap();
-    assert_eq!(package.rust("atoi_core/deep.rs"), "mod text;\n");
-    assert!(package.rust("atoi_core/deep/text.rs").starts_with("#[inline] fn size()"));
+    let deep =
+        "/* Made by .ci/translate from crates/atoi_core/src/deep.rt. Do not edit. */ mod text;\n";
+    assert_eq!(made(&package.0).unwrap()[Path::new("rust/src/proved/atoi_core/deep.rs")], deep);
     package.put("crates/atoi_core/src/deep/mod.rt", "");
     assert_eq!(package.fault(), "crates/atoi_core/src/deep/mod.rt: no `mod` declares this module");
 }
@@ -120,45 +112,4 @@ fn other_files_change_nothing() {
         package.put(&format!("rust/src/{file}"), "pub use crate::proved::a;");
     }
     assert_eq!(differing(&package), (7, vec![]));
-}
-
-#[test]
-fn the_package_has_its_own_files_for_engines() {
-    let package = Package::new("engines");
-    package.put("crates/atoi_simd/src/lib.rt", "mod default_engine;\npub fn exported() {}\n");
-    package.put("crates/atoi_simd/src/default_engine.rt", "a form that is refused");
-    let fast = "pub struct Swar;\npub fn parse() {}\n";
-    package.put("crates/atoi_fast/src/lib.rt", fast);
-    let twin = "rust/default_engine/atoi_simd.rs";
-    let uses = "//! A.\n\npub(crate) use atoi_fast::parse;\n\npub(crate) type DefaultEngine = ";
-    package.put(twin, format!("{uses}atoi_fast::Swar;\n"));
-    write(&package.0).unwrap();
-    let file = package.0.join("rust/src/proved/atoi_simd/default_engine.rs");
-    let made = fs::read_to_string(file).unwrap();
-    assert!(made.starts_with(&format!("/* Made by .ci/translate from {twin}. ")), "{made}");
-    assert!(made.ends_with("pub(crate) type DefaultEngine = crate::proved::atoi_fast::Swar;\n"));
-    package.put(twin, "a form that is refused");
-    assert!(package.fault().starts_with(&format!("{twin}:1: ")), "{}", package.fault());
-}
-
-#[test]
-fn the_package_leaves_out_what_only_other_engines_need() {
-    let fast =
-        ("atoi_fast/lib.rt", "mod vectors;\npub use crate::vectors::Vectors;\npub struct Swar;\n");
-    let vectors = ("atoi_fast/vectors.rt", "pub struct Vectors;\n");
-    // Only the feature `lanes` has vectors.
-    let expected = "#[cfg(feature = \"lanes\")] mod vectors;\n\
-        #[cfg(feature = \"lanes\")] pub use crate::proved::atoi_fast::vectors::Vectors;\npub struct Swar;\n";
-    assert_eq!(rust("", &[vectors, fast]).as_deref(), Ok(expected));
-    let others = [("atoi_column/vectors.rt", ""), ("atoi_column/lib.rt", "mod vectors;\n")];
-    assert_eq!(rust("", &others).as_deref(), Ok("mod vectors;\n"));
-    let lib = "pub mod kernels;\nmod other;\npub use crate::lanes::Lanes;\nuse crate::{wide_lanes::{a}, window_32::b};\n";
-    let expected = "// pub mod kernels;\nmod other;\n// pub use crate::lanes::Lanes;\n// use crate::{wide_lanes::{a}, window_32::b};\n";
-    let files = [("atoi_lanes/other.rt", ""), ("atoi_lanes/lib.rt", lib)];
-    assert_eq!(rust("", &files).as_deref(), Ok(expected));
-    let mixed = [
-        ("atoi_lanes/other.rt", "pub fn a() {}"),
-        ("atoi_lanes/lib.rt", "mod other;\nuse crate::{other::a, lanes::b};"),
-    ];
-    assert!(rust("", &mixed).is_err_and(|fault| fault.reason.contains("`crate::lanes::b`")));
 }
