@@ -224,10 +224,7 @@ fn may_be(item: &Item, role: Role) -> bool {
         ItemKind::Trait { .. } => matches!(role, Role::Bound | Role::Trait),
         // An argument of a type may be a constant.
         ItemKind::Constant { .. } => matches!(role, Role::Value | Role::Pattern | Role::Type),
-        ItemKind::Struct { fields, .. } if fields.is_empty() => {
-            !matches!(role, Role::Callee | Role::Bound | Role::Trait)
-        }
-        _ => matches!(role, Role::Type | Role::Struct),
+        _ => !matches!(role, Role::Callee | Role::Bound | Role::Trait),
     }
 }
 

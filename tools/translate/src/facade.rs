@@ -52,7 +52,7 @@ fn attributes(parser: &mut Parser) -> Done<bool> {
             attribute(parser)?;
         } else if parser.eat("#") {
             needs_lanes |= attribute(parser)?;
-        } else if !parser.eat_kind(Kind::Doc) && !parser.eat_kind(Kind::InnerDoc) {
+        } else if !parser.eat_kind(Kind::Doc) {
             return Ok(needs_lanes);
         }
     }

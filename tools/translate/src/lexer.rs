@@ -10,14 +10,12 @@ pub enum Kind {
     /// A whole number. The parser refuses prefixes and suffixes that it does not know.
     Integer,
     Byte,
+    /// A text, or the bytes of one, with its quotes.
     Text,
-    ByteText,
     /// An operator or a bracket, as long as it can be.
     Symbol,
     /// A line that documents what follows, `/// ..`.
     Doc,
-    /// A line that documents the file, `//! ..`.
-    InnerDoc,
     /// A clause, from its `{` to the `}` that closes it.
     Clause,
     /// What a `ghost use` imports, up to its `;`.
@@ -110,12 +108,13 @@ impl<'a> Lexer<'a> {
             self.at = self.source.text.len() - rest.len();
             // Four slashes document nothing.
             let is_doc = rest.starts_with("///") && !rest.starts_with("////");
-            if !rest.starts_with("//") || rest.starts_with("//!") || is_doc {
+            if !rest.starts_with("//") || is_doc {
                 return rest;
             }
-            let end = self.at + line_length(rest);
-            self.comments.push(Span { start: self.at, end });
-            self.at = end;
+            let comment = Span { start: self.at, end: self.at + line_length(rest) };
+            // What documents the file belongs to nothing in it.
+            self.comments.extend((!rest.starts_with("//!")).then_some(comment));
+            self.at = comment.end;
         }
     }
 
@@ -127,11 +126,10 @@ impl<'a> Lexer<'a> {
             return self.refuse("a raw text, a raw name or a text of C");
         }
         Ok(match rest.as_bytes() {
-            [b'/', b'/', b'!', ..] => self.push(Kind::InnerDoc, line_length(rest)),
             [b'/', b'/', ..] => self.push(Kind::Doc, line_length(rest)),
             [b'/', b'*', ..] => return self.refuse("a comment between `/*` and `*/`"),
             [b'"', ..] => self.quoted(Kind::Text, 0)?,
-            [b'b', b'"', ..] => self.quoted(Kind::ByteText, 1)?,
+            [b'b', b'"', ..] => self.quoted(Kind::Text, 1)?,
             [b'b', b'\'', ..] => self.quoted(Kind::Byte, 1)?,
             [b'\'', ..] if name_length(&rest[1..]) > 0 => {
                 self.push(Kind::Lifetime, 1 + name_length(&rest[1..]))

@@ -199,9 +199,8 @@ pub enum LiteralKind {
     Boolean(bool),
     Integer(u128),
     Byte(u8),
-    // The bytes of a text.
+    // The bytes of a text, which may be written as bytes.
     Text(Vec<u8>),
-    ByteText(Vec<u8>),
 }
 
 pub enum PatternKind {

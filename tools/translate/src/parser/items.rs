@@ -21,7 +21,6 @@ impl<'a> Parser<'a> {
     // Reads a whole module. A hint to the prover for all of it may stand between its items.
     pub(super) fn tree(mut self) -> Done<Tree> {
         let mut tree = Tree::default();
-        while self.eat_kind(Kind::InnerDoc) {}
         while self.kind() != Kind::End {
             let start = self.span();
             if self.eat_all(&["#", "!"]) {

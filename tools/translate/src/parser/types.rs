@@ -174,7 +174,7 @@ impl Parser<'_> {
 
     // Whether a literal comes next.
     pub(super) fn is_literal(&self) -> bool {
-        let kinds = [Kind::Integer, Kind::Byte, Kind::Text, Kind::ByteText];
+        let kinds = [Kind::Integer, Kind::Byte, Kind::Text];
         kinds.contains(&self.kind()) || self.is_one_of(&["true", "false"])
     }
 
@@ -186,8 +186,7 @@ impl Parser<'_> {
                 Some([byte]) => Some(LiteralKind::Byte(*byte)),
                 _ => None,
             },
-            Kind::Text => unescaped(text).map(LiteralKind::Text),
-            Kind::ByteText => unescaped(&text[1..]).map(LiteralKind::ByteText),
+            Kind::Text => unescaped(text.trim_start_matches('b')).map(LiteralKind::Text),
             _ if self.is_literal() => Some(LiteralKind::Boolean(text == "true")),
             _ => return self.refuse("a literal"),
         };

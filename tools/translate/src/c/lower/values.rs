@@ -50,9 +50,7 @@ impl Lowering<'_, '_> {
         let (kind, of) = match &literal.kind {
             LiteralKind::Boolean(value) => (Kind::Boolean(*value), Type::Boolean),
             LiteralKind::Byte(byte) => (Kind::Byte(*byte), Type::BYTE),
-            LiteralKind::Text(bytes) | LiteralKind::ByteText(bytes) => {
-                (Kind::Text(bytes.clone()), Type::slice(Type::BYTE, false))
-            }
+            LiteralKind::Text(bytes) => (Kind::Text(bytes.clone()), Type::slice(Type::BYTE, false)),
             LiteralKind::Integer(value) => {
                 let digits = self.source.at(literal.span).strip_prefix("0x").unwrap_or_default();
                 let hexadecimal = digits.chars().filter(|it| *it != '_').count();
