@@ -7,22 +7,6 @@ use torkettle_translate::modules::{Module, Package};
 use torkettle_translate::source::{Done, Source};
 use torkettle_translate::translate;
 
-// Crates that a facade can export from.
-const CRATES: [(&str, &str); 4] = [
-    ("atoi_core/digits.rt", "pub fn of() {}\n"),
-    ("atoi_core/numbers.rt", "fn a() {}\n"),
-    (
-        "atoi_core/lib.rt",
-        "pub mod digits;\npub mod numbers;\npub use crate::digits::of;\npub const N: u8 = 1;\n\
-        pub type T = u8;\npub struct S;\npub enum E { V }\n\
-        pub trait Parse: ParsePos {}\npub trait ParsePos {}\npub trait Open: Copy {}\n",
-    ),
-    (
-        "atoi_simd/lib.rt",
-        "pub use atoi_core::{E, Parse, S, digits, of};\npub use atoi_core as core_crate;\npub fn own() {}\n",
-    ),
-];
-
 // Puts characters in place of what stands for them.
 fn shown(text: &str) -> String {
     let signs = [
@@ -46,12 +30,15 @@ fn made(
 ) -> (Done<String>, usize) {
     let made = match place {
         "C" => c(form, false),
-        "facade" => rust(form, &CRATES),
+        "facade" => {
+            let facade = Source::new(Path::new("lib.rs"), form.into());
+            translate(&facade, package).map(|_| String::new())
+        }
         "other" => {
             check_other(&Source::new(Path::new("a.rs"), form.into())).map(|()| String::new())
         }
         _ if place.contains('/') => return added(facade, package, place, form),
-        _ => rust("mod proved {}", &[(&format!("{place}/lib.rt"), form)]),
+        _ => rust(place, form),
     };
     (made, 0)
 }
