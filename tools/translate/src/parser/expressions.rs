@@ -57,11 +57,11 @@ impl Parser<'_> {
     // its last end overflows in Rust, and ends in Rattle.
     fn index(&mut self, receiver: Expression) -> Done<Kind> {
         let receiver = Box::new(receiver);
-        let low = self.unless(&[".."], Self::boxed)?;
+        let low = if self.is("..") { None } else { Some(self.boxed()?) };
         match low {
             Some(index) if self.eat("]") => Ok(Kind::Index { receiver, index }),
             low if self.eat("..") => {
-                let high = self.unless(&["]"], Self::boxed)?;
+                let high = if self.is("]") { None } else { Some(self.boxed()?) };
                 self.expect("]")?;
                 Ok(Kind::Part { receiver, low, high })
             }
@@ -245,7 +245,8 @@ impl Parser<'_> {
                 Ok(Kind::For { pattern, value, body: parser.block()? })
             })?
         } else if self.eat("return") {
-            Kind::Return(self.unless(&[";", "}", ",", ")"], Self::boxed)?)
+            let is_alone = self.is_one_of(&[";", "}", ",", ")"]);
+            Kind::Return(if is_alone { None } else { Some(self.boxed()?) })
         } else if self.eat("break") {
             Kind::Break
         } else {
@@ -256,13 +257,9 @@ impl Parser<'_> {
     fn if_(&mut self) -> Done<Kind> {
         // The block has the names that the condition binds.
         let (condition, then) = self.scope(|parser| Ok((parser.condition()?, parser.block()?)))?;
-        let otherwise = self.after("else", |parser| {
-            let start = parser.span();
-            let kind = match parser.eat("if") {
-                true => parser.if_()?,
-                false => Kind::Block(parser.block()?),
-            };
-            Ok(Box::new(parser.node(start, kind)))
+        let otherwise = self.after("else", |parser| match parser.is_one_of(&["if", "{"]) {
+            true => parser.primary().map(Box::new),
+            false => parser.refuse("`if` or `{`"),
         })?;
         Ok(Kind::If { condition, then, otherwise })
     }

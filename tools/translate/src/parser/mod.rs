@@ -174,11 +174,6 @@ impl<'a> Parser<'a> {
         if self.eat(text) { read(self).map(Some) } else { Ok(None) }
     }
 
-    // Reads something that may be left out before one of these keywords or symbols.
-    fn unless<T>(&mut self, ends: &[&str], read: fn(&mut Self) -> Done<T>) -> Done<Option<T>> {
-        if self.is_one_of(ends) { Ok(None) } else { read(self).map(Some) }
-    }
-
     // Reads what has commas between it, up to a sign.
     fn list<T>(&mut self, end: &str, mut item: impl FnMut(&mut Self) -> Done<T>) -> Done<Vec<T>> {
         self.with_structs(true, |parser| {
