@@ -5,8 +5,8 @@ use crate::modules::{Module, Package};
 use crate::resolve::{Definition, Resolved, Scopes};
 use crate::source::{Fault, Source, Span};
 use crate::tree::{
-    ExpressionKind, Field, Function, GenericArgument, GenericKind, Item, ItemKind, LiteralKind,
-    Path, Segment, Type as TreeType, TypeKind,
+    ExpressionKind, Field, GenericArgument, GenericKind, Item, ItemKind, LiteralKind, Path,
+    Segment, Type as TreeType, TypeKind,
 };
 
 pub struct World<'a> {
@@ -75,10 +75,6 @@ impl<'a> World<'a> {
     /// Returns the name of an item or a member.
     pub fn name(&self, id: Id) -> &'a str {
         &self.item(id).name.text
-    }
-
-    pub fn function(&self, id: Id) -> Option<&'a Function> {
-        self.item(id).function()
     }
 
     /// Finds what the start of a path stands for.

@@ -75,7 +75,7 @@ pub fn constant(world: &World, id: Id) -> Done<Term> {
 /// Returns the types of the parameters of a function, without constants, and its result.
 pub fn signature(world: &World, callee: &Callee) -> Done<(Vec<Type>, Type)> {
     let place = world.place(callee.id, &callee.bindings)?;
-    let Some(tree) = world.function(callee.id) else {
+    let Some(tree) = world.item(callee.id).function() else {
         return Err(world.fault_of(callee.id, "no function"));
     };
     let types = tree.parameters.iter().map(|it| world.type_in(&place, &it.annotation));
@@ -107,7 +107,8 @@ impl<'w, 'i> Lowering<'w, 'i> {
 
     fn function(&mut self, key: &Callee) -> Done<super::ir::Function> {
         let world = self.world;
-        let Some(tree @ tree::Function { body: Some(body), .. }) = world.function(key.id) else {
+        let Some(tree @ tree::Function { body: Some(body), .. }) = world.item(key.id).function()
+        else {
             return self.refuse("no function with a body");
         };
         let (types, result) = signature(world, key)?;

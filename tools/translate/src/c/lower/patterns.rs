@@ -5,43 +5,58 @@ use crate::c::ir::{ERR, Form, Kind, NONE, OK, PLAIN, SOME, Term, Type};
 use crate::c::world::item_of;
 use crate::resolve::Definition;
 use crate::tree::{BinaryOperator, Block, Literal, LiteralKind, Path, Pattern, PatternKind};
+use std::cmp::Ordering;
 
-/// A name of a pattern, with the part that it stands for.
-#[derive(Clone)]
-pub struct Binding {
-    name: String,
-    is_mutable: bool,
-    value: Term,
+/// A name of a pattern, whether it may be changed, and the part that it stands for.
+pub type Binding = (String, bool, Term);
+
+/// What must hold if a value fits a pattern, in order, and what is bound then.
+#[derive(Default)]
+pub struct Fit {
+    pub tests: Vec<Term>,
+    pub bindings: Vec<Binding>,
 }
 
-type Matched = (Vec<Term>, Vec<Binding>);
-
 impl Lowering<'_, '_> {
-    /// Returns what must hold if a value fits a pattern, in order, and what is bound then.
-    pub fn matched(&mut self, pattern: &Pattern, value: &Term) -> Done<Matched> {
+    /// Returns when a value fits a pattern.
+    pub fn matched(&mut self, pattern: &Pattern, value: &Term) -> Done<Fit> {
+        let mut fit = Fit::default();
+        self.fit(pattern, value, &mut fit)?;
+        Ok(fit)
+    }
+
+    fn fit(&mut self, pattern: &Pattern, value: &Term, fit: &mut Fit) -> Done<()> {
+        use BinaryOperator::{And, Equal, LessOrEqual, Or};
         self.at = pattern.span;
         match &pattern.kind {
-            PatternKind::Wildcard | PatternKind::Rest => Ok((Vec::new(), Vec::new())),
+            PatternKind::Wildcard | PatternKind::Rest => {}
             PatternKind::Binding { name, is_mutable, pattern } => {
-                let (tests, mut bindings) = match pattern {
-                    Some(pattern) => self.matched(pattern, value)?,
-                    None => (Vec::new(), Vec::new()),
-                };
-                let (name, value) = (name.text.clone(), value.clone());
-                bindings.push(Binding { name, is_mutable: *is_mutable, value });
-                Ok((tests, bindings))
+                pattern.iter().try_for_each(|pattern| self.fit(pattern, value, fit))?;
+                fit.bindings.push((name.text.clone(), *is_mutable, value.clone()));
             }
-            PatternKind::Literal(literal) => {
-                Ok((vec![self.equals(value.clone(), literal)?], Vec::new()))
+            PatternKind::Literal(literal) => fit.tests.push(match literal.kind {
+                LiteralKind::Boolean(true) => value.clone(),
+                LiteralKind::Boolean(false) => value.clone().negated(),
+                _ => {
+                    let number = self.like(literal, value)?;
+                    self.test(Equal, value.clone(), number)
+                }
+            }),
+            PatternKind::Range { low, high } => {
+                let (low, high) = (self.like(low, value)?, self.like(high, value)?);
+                // No number is below the first 0, and compilers warn of such a test.
+                if !matches!(low.kind, Kind::Number { value: 0, .. }) {
+                    fit.tests.push(self.test(LessOrEqual, low, value.clone()));
+                }
+                fit.tests.push(self.test(LessOrEqual, value.clone(), high));
             }
-            PatternKind::Range { low, high } => Ok((self.in_range(value, low, high)?, Vec::new())),
             PatternKind::Tuple(patterns) => {
                 let parts = self.parts(value, PLAIN)?;
-                self.matched_all(parts, patterns)
+                self.fit_all(patterns, parts, fit)?;
             }
             PatternKind::Slice(patterns) => {
                 let parts = self.elements(patterns, value)?;
-                self.matched_all(parts, patterns)
+                self.fit_all(patterns, parts, fit)?;
             }
             PatternKind::Variant { path, fields } => {
                 let Some((of, variant)) = self.variant(path) else {
@@ -50,93 +65,69 @@ impl Lowering<'_, '_> {
                 let value = self.followed(value.clone());
                 self.unify(&of, &value.of)?;
                 let parts = self.parts(&value, variant)?;
-                self.matched_all(parts, fields)
+                self.fit_all(fields, parts, fit)?;
             }
             PatternKind::Either(patterns) => {
                 let mut tests = Vec::new();
                 for pattern in patterns {
-                    let (own, bindings) = self.matched(pattern, value)?;
-                    if !bindings.is_empty() {
+                    let own = self.matched(pattern, value)?;
+                    if !own.bindings.is_empty() {
                         return self.refuse("alternatives that bind names");
                     }
-                    tests.push(self.joined(own, BinaryOperator::And));
+                    tests.push(self.joined(own.tests, And));
                 }
-                Ok((vec![self.joined(tests, BinaryOperator::Or)], Vec::new()))
+                fit.tests.push(self.joined(tests, Or));
             }
-            PatternKind::Struct { .. } => self.refuse("this pattern has no rule"),
+            PatternKind::Struct { .. } => return self.refuse("this pattern has no rule"),
         }
+        Ok(())
     }
 
-    fn equals(&mut self, term: Term, literal: &Literal) -> Done<Term> {
-        if let LiteralKind::Boolean(value) = literal.kind {
-            return Ok(if value { term } else { term.negated() });
-        }
-        let number = self.literal(literal);
-        self.unify(&term.of, &number.of)?;
-        Ok(self.test(BinaryOperator::Equal, term, number))
+    // Returns a literal of the type of a value.
+    fn like(&mut self, literal: &Literal, value: &Term) -> Done<Term> {
+        let term = self.literal(literal);
+        self.unify(&value.of, &term.of)?;
+        Ok(term)
     }
 
-    fn in_range(&mut self, term: &Term, low: &Literal, high: &Literal) -> Done<Vec<Term>> {
-        let (first, last) = (self.literal(low), self.literal(high));
-        self.unify(&term.of, &first.of)?;
-        self.unify(&term.of, &last.of)?;
-        // No number is below the first 0, and compilers warn of such a test.
-        let is_lowest = matches!(first.kind, Kind::Number { value: 0, .. });
-        let above = self.test(BinaryOperator::LessOrEqual, first, term.clone());
-        let below = self.test(BinaryOperator::LessOrEqual, term.clone(), last);
-        Ok((!is_lowest).then_some(above).into_iter().chain([below]).collect())
-    }
-
-    // Adds what must hold if parts fit patterns to other tests.
-    fn matched_all(
+    // The same for parts of a value, behind tests.
+    fn fit_all(
         &mut self,
-        (mut tests, parts): (Vec<Term>, Vec<Term>),
         patterns: &[Pattern],
-    ) -> Done<Matched> {
-        let mut bindings = Vec::new();
+        (tests, parts): (Vec<Term>, Vec<Term>),
+        fit: &mut Fit,
+    ) -> Done<()> {
         if patterns.len() != parts.len() {
             return self.refuse("a pattern with another number of parts");
         }
-        for (pattern, part) in patterns.iter().zip(&parts) {
-            let (more, found) = self.matched(pattern, part)?;
-            tests.extend(more);
-            bindings.extend(found);
-        }
-        Ok((tests, bindings))
+        fit.tests.extend(tests);
+        let mut pairs = patterns.iter().zip(&parts);
+        pairs.try_for_each(|(pattern, part)| self.fit(pattern, part, fit))
     }
 
     // Returns whether a slice is as long as its patterns ask, and what each of them is for.
     fn elements(&mut self, patterns: &[Pattern], slice: &Term) -> Done<(Vec<Term>, Vec<Term>)> {
+        use BinaryOperator::{Equal, GreaterOrEqual, Subtract};
         if !self.known(&slice.of).is_slice() {
             return self.refuse("a slice pattern for what is no slice");
         }
-        let rest = patterns.iter().position(is_rest);
-        let (operator, fixed) = match rest {
-            Some(_) => (BinaryOperator::GreaterOrEqual, patterns.len() - 1),
-            None => (BinaryOperator::Equal, patterns.len()),
-        };
+        let count = patterns.len();
+        let rest = patterns.iter().position(is_rest).unwrap_or(count);
+        let (operator, fixed) =
+            if rest < count { (GreaterOrEqual, count - 1) } else { (Equal, count) };
         let test = self.test(operator, self.length(slice), self.size(fixed));
         let mut parts = Vec::new();
-        for at in 0..patterns.len() {
-            let after = patterns.len() - at;
-            let from_end = |it: &Self, count: usize| {
-                let parts = vec![it.length(slice), it.size(count)];
-                it.make(Kind::Binary(BinaryOperator::Subtract), parts, Type::SIZE)
-            };
+        for at in 0..count {
             let from = self.size(at);
-            parts.push(match rest {
-                Some(rest) if at == rest && after == 1 => {
-                    self.part("from", vec![slice.clone(), from])?
-                }
-                Some(0) if at == 0 => {
-                    let to = from_end(self, after - 1);
-                    self.part("to", vec![slice.clone(), to])?
-                }
-                Some(rest) if at == rest => return self.refuse("a rest between elements"),
-                Some(rest) if at > rest => {
-                    self.element(slice.clone(), from_end(self, after), Kind::Element)?
-                }
-                _ => self.element(slice.clone(), from, Kind::Element)?,
+            let after = count - at - usize::from(at == rest);
+            let to = vec![self.length(slice), self.size(after)];
+            let to = self.make(Kind::Binary(Subtract), to, Type::SIZE);
+            parts.push(match at.cmp(&rest) {
+                Ordering::Less => self.element(slice.clone(), from, Kind::Element)?,
+                Ordering::Greater => self.element(slice.clone(), to, Kind::Element)?,
+                Ordering::Equal if after == 0 => self.part("from", vec![slice.clone(), from])?,
+                Ordering::Equal if at == 0 => self.part("to", vec![slice.clone(), to])?,
+                Ordering::Equal => return self.refuse("a rest between elements"),
             });
         }
         Ok((vec![test], parts))
@@ -216,7 +207,7 @@ impl Lowering<'_, '_> {
             _ => {}
         }
         let value = self.keep(value, "found");
-        let (tests, bindings) = self.matched(pattern, &value)?;
+        let Fit { tests, bindings } = self.matched(pattern, &value)?;
         match otherwise {
             Some(block) => {
                 let (leaving, _) = self.apart(|it| it.block(block, Target::Nothing))?;
@@ -234,7 +225,7 @@ impl Lowering<'_, '_> {
 
     /// Lets the names of a pattern stand for its parts where they may, or else for variables.
     pub fn bind_all(&mut self, bindings: Vec<Binding>, may_stand: impl Fn(&Self, &Term) -> bool) {
-        for Binding { name, is_mutable, value } in bindings {
+        for (name, is_mutable, value) in bindings {
             match may_stand(self, &value) && !is_mutable {
                 true => self.name(&name, value),
                 false => self.declare(&name, value, is_mutable),

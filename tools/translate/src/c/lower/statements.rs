@@ -1,6 +1,6 @@
 //! Statements: blocks, variables, loops, assignments, and branches, which end in statements, a choice, or a variable.
 
-use super::patterns::Binding;
+use super::patterns::{Binding, Fit};
 use super::{Done, Lowering, Target};
 use crate::c::ir::{Kind, Statement, Term, Type};
 use crate::tree::{
@@ -183,7 +183,7 @@ impl Lowering<'_, '_> {
     pub fn fits(&mut self, value: &Expression, pattern: &Pattern) -> Done<(Term, Vec<Binding>)> {
         let found = self.any(value)?;
         let found = self.keep(found, "found");
-        let (tests, bindings) = self.matched(pattern, &found)?;
+        let Fit { tests, bindings } = self.matched(pattern, &found)?;
         Ok((self.joined(tests, BinaryOperator::And), bindings))
     }
 
@@ -192,7 +192,7 @@ impl Lowering<'_, '_> {
         let found = self.keep(found, "found");
         let mut branches: Vec<Branch> = Vec::new();
         for (number, arm) in arms.iter().enumerate() {
-            let (mut tests, bindings) = self.matched(&arm.pattern, &found)?;
+            let Fit { mut tests, bindings } = self.matched(&arm.pattern, &found)?;
             if let Some(guard) = &arm.guard {
                 tests.push(self.alone("a guard", |it| {
                     it.bind_all(bindings.clone(), |_, _| true);
