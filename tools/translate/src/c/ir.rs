@@ -34,7 +34,7 @@ pub enum Type {
     // A generic parameter that stands for itself.
     Parameter(String),
     // A type that is not known yet.
-    Variable(usize),
+    Variable { number: usize, is_integer: bool },
 }
 
 #[derive(Clone, Copy, Debug, PartialEq, Eq, PartialOrd, Ord)]

@@ -111,20 +111,28 @@ pub fn print(
         instances.visit(keys, is_end, &mut seen, &mut found);
         (seen, found)
     };
-    let is_far = |it: &Function| FAR.contains(&world.name(it.key.id)) || print::is_apart(world, it);
+    let is_far = |it: &Function| {
+        let qualifier = print::qualifier(world, it);
+        FAR.contains(&world.name(it.key.id)) || matches!(qualifier, "TK_NOINLINE" | "TK_COLD")
+    };
     let (_, functions) = reached(&all, &|_| false);
     let mut printer = print::Printer::new(world, &functions, is_checked)?;
     let (inline, _) = reached(&open, &is_far);
     all.retain(|it| CONSTANT.contains(&world.name(it.id)));
-    (printer.constant, _) = reached(&all, &|_| false);
+    let (constant, _) = reached(&all, &|_| false);
+    let qualifier = |it: &Function| match inline.contains(&it.key) && is_far(it) {
+        true => "TK_FAR",
+        false if constant.contains(&it.key) => "TK_CONSTEXPR",
+        false => print::qualifier(world, it),
+    };
+    for far in functions.iter().filter(|it| qualifier(it) == "TK_FAR") {
+        printer.declaration(far, "TK_FAR")?;
+    }
     let (near, rest): (Vec<&Function>, Vec<_>) =
         functions.into_iter().partition(|it| inline.contains(&it.key) && !is_far(it));
-    let far: Vec<&Function> = rest.iter().copied().filter(|it| inline.contains(&it.key)).collect();
-    printer.far = far.iter().map(|it| it.key.clone()).collect();
-    far.iter().try_for_each(|it| printer.function(it, true))?;
-    near.iter().try_for_each(|it| printer.function(it, false))?;
+    near.iter().try_for_each(|it| printer.function(it, qualifier(it)))?;
     let inline = printer.take();
-    rest.iter().try_for_each(|it| printer.function(it, false))?;
+    rest.iter().try_for_each(|it| printer.function(it, qualifier(it)))?;
     Ok((inline, printer.take()))
 }
 

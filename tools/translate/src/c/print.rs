@@ -8,7 +8,7 @@ use super::terms;
 use super::text::{self, comment, wrapped};
 use super::types::{declared, short};
 use super::world::World;
-use crate::tree::{AttributeKind, BinaryOperator, ItemKind, Notes};
+use crate::tree::{AttributeKind, BinaryOperator, ItemKind};
 use std::collections::{BTreeMap, BTreeSet};
 
 /// All that is printed.
@@ -24,10 +24,6 @@ pub struct Printer<'a> {
     pub helpers: Vec<String>,
     pub known: BTreeMap<String, String>,
     pub functions: Vec<String>,
-    /// The functions that other files call.
-    pub far: BTreeSet<Callee>,
-    /// The functions that a compiler of C++20 may call.
-    pub constant: BTreeSet<Callee>,
     /// The function that is printed, and its variables, as they are named in C.
     pub id: Id,
     pub locals: Vec<Local>,
@@ -51,8 +47,6 @@ impl<'a> Printer<'a> {
             helpers: Vec::new(),
             known: BTreeMap::new(),
             functions: Vec::new(),
-            far: BTreeSet::new(),
-            constant: BTreeSet::new(),
             id: Id { module: 0, item: 0, member: None },
             locals: Vec::new(),
             scopes: Vec::new(),
@@ -66,27 +60,37 @@ impl<'a> Printer<'a> {
         lists.map(std::mem::take).concat().join("\n")
     }
 
-    /// Declares a function that another file defines, or prints a function behind those before it.
-    pub fn function(&mut self, function: &Function, is_declaration: bool) -> Done<()> {
-        (self.id, self.locals) = (function.key.id, function.locals.clone());
-        (self.scopes, self.lines) = (vec![BTreeSet::new()], String::new());
-        let text = self.text(function, is_declaration).map_err(|fault| match fault.line {
+    /// Declares a function that another file defines.
+    pub fn declaration(&mut self, function: &Function, qualifier: &str) -> Done<()> {
+        let head = self.head(function, qualifier)?;
+        let name = &self.names[&function.key];
+        self.functions.push(wrapped(&format!("{head} TK_SYMBOL({name});")) + "\n");
+        Ok(())
+    }
+
+    /// Prints a function behind those before it.
+    pub fn function(&mut self, function: &Function, qualifier: &str) -> Done<()> {
+        let world = self.world;
+        let text = self.text(function, qualifier).map_err(|fault| match fault.line {
             Some(_) => fault,
             // What has no type in C does not know its line.
-            None => self.world.fault_of(self.id, fault.reason),
+            None => world.fault_of(function.key.id, fault.reason),
         })?;
         self.functions.push(text);
         Ok(())
     }
 
-    fn text(&mut self, function: &Function, is_declaration: bool) -> Done<String> {
-        let head = self.head(function, is_declaration)?;
-        if is_declaration {
-            let name = &self.names[&function.key];
-            return Ok(wrapped(&format!("{head} TK_SYMBOL({name});")) + "\n");
-        }
+    fn text(&mut self, function: &Function, qualifier: &str) -> Done<String> {
+        let (world, id) = (self.world, function.key.id);
+        let head = wrapped(&self.head(function, qualifier)?);
         self.statements(&function.body)?;
-        Ok(format!("{head}\n{{\n{}}}\n", self.lines))
+        let source = world.source(id);
+        let place = format!("{}:{}", source.path.display(), source.line(world.item(id).span));
+        // A function is explained once.
+        let is_new = self.known.insert(place.clone(), String::new()).is_none();
+        let comment = if is_new { explained(world, id) } else { String::new() };
+        let place = place.trim_start_matches("crates/");
+        Ok(format!("{comment}/* {place} */\n{head}\n{{\n{}}}\n", self.lines))
     }
 
     /// Adds a function that returns a value under a condition, unless it is there.
@@ -121,13 +125,15 @@ impl<'a> Printer<'a> {
         }
     }
 
-    fn head(&mut self, function: &Function, is_line: bool) -> Done<String> {
-        let (world, key) = (self.world, &function.key);
+    // Starts a function, and returns its line.
+    fn head(&mut self, function: &Function, qualifier: &str) -> Done<String> {
+        (self.id, self.locals) = (function.key.id, function.locals.clone());
+        (self.scopes, self.lines) = (vec![BTreeSet::new()], String::new());
         let kinds = all_kinds(&function.body);
         let mut parameters = Vec::new();
         for local in &function.parameters {
             let of = &function.locals[*local].of;
-            if world.is_zero(of) {
+            if self.world.is_zero(of) {
                 continue;
             }
             let name = self.name_local(*local);
@@ -136,28 +142,10 @@ impl<'a> Printer<'a> {
                 self.lines += &format!("    (void){name};\n");
             }
         }
-        let item = world.item(key.id);
-        let source = world.source(key.id);
-        let place = format!("{}:{}", source.path.display(), source.line(item.span));
-        // A function is explained once.
-        let is_new = !is_line && self.known.insert(place.clone(), String::new()).is_none();
-        let mut head = if is_new { explained(world, key.id) } else { String::new() };
-        head += &format!("/* {} */\n", place.trim_start_matches("crates/"));
         let parameters = if parameters.is_empty() { "void".into() } else { parameters.join(", ") };
         let result = self.name(&function.result)?;
-        let name = self.names[key].clone();
-        // What calls itself cannot be inlined.
-        let is_recursive = called(function).contains(key);
-        let is_called = super::CALLED.contains(&world.name(key.id));
-        let qualifier =
-            if is_recursive || is_called { "TK_NOINLINE" } else { qualifier(&item.notes) };
-        let qualifier = match self.far.contains(key) {
-            true => "TK_FAR",
-            false if self.constant.contains(key) => "TK_CONSTEXPR",
-            false => qualifier,
-        };
-        let line = format!("{qualifier} {}({parameters})", declared(&result, &name));
-        Ok(if is_line { line } else { head + &wrapped(&line) })
+        let head = declared(&result, &self.names[&function.key]);
+        Ok(format!("{qualifier} {head}({parameters})"))
     }
 
     fn line(&mut self, line: &str) {
@@ -277,21 +265,20 @@ pub fn explained(world: &World, id: Id) -> String {
     comment(world.source(id), lines, "")
 }
 
-/// Says whether a function is one that callers do not contain.
-pub fn is_apart(world: &World, function: &Function) -> bool {
-    let qualifier = qualifier(&world.item(function.key.id).notes);
-    called(function).contains(&function.key) || qualifier == "TK_NOINLINE" || qualifier == "TK_COLD"
-}
-
-// What a compiler has to do with a function, as its attributes say it.
-fn qualifier(notes: &Notes) -> &'static str {
+/// Returns what a compiler has to do with a function, as its attributes say it. What calls itself cannot be inlined.
+pub fn qualifier(world: &World, function: &Function) -> &'static str {
+    let id = function.key.id;
+    if super::CALLED.contains(&world.name(id)) || called(function).contains(&function.key) {
+        return "TK_NOINLINE";
+    }
     let qualifiers = [
         (AttributeKind::Cold, "TK_COLD"),
         (AttributeKind::NeverInline, "TK_NOINLINE"),
         (AttributeKind::AlwaysInline, "TK_INLINE"),
     ];
-    let has = |kind: &AttributeKind| notes.attributes.iter().any(|it| it.kind == *kind);
-    let found = qualifiers.iter().find(|(kind, _)| has(kind));
+    let has =
+        |kind: &AttributeKind| world.item(id).notes.attributes.iter().any(|it| it.kind == *kind);
+    let found = qualifiers.into_iter().find(|(kind, _)| has(kind));
     found.map_or("TK_HINTED", |(_, qualifier)| qualifier)
 }
 

@@ -15,25 +15,6 @@ struct Layout {
     places: Vec<Vec<Option<usize>>>,
 }
 
-/// What says of which variant a value is.
-enum Tag {
-    None,
-    /// A member that is true for the first of two variants.
-    Boolean(&'static str),
-    Member,
-}
-
-impl Tag {
-    fn of(of: &Type, layout: &Layout) -> Tag {
-        match of {
-            Type::Of(Form::Option, _) => Tag::Boolean("is_some"),
-            Type::Of(Form::Result, _) => Tag::Boolean("is_ok"),
-            _ if layout.variants.len() < 2 => Tag::None,
-            _ => Tag::Member,
-        }
-    }
-}
-
 // The names of the fields of tuples.
 const ORDINALS: [&str; 2] = ["first", "second"];
 
@@ -82,7 +63,7 @@ impl Printer<'_> {
                 Type::Of(Form::Array { .. }, parts) => format!("{} *", self.name(&parts[0])?),
                 target => format!("{} *", self.name(target)?),
             },
-            Type::Marker | Type::Parameter(_) | Type::Variable(_) => {
+            Type::Marker | Type::Parameter(_) | Type::Variable { .. } => {
                 return Err(self.unknown(of));
             }
             _ => {
@@ -106,26 +87,27 @@ impl Printer<'_> {
 
     fn definition(&mut self, of: &Type, name: &str) -> Done<String> {
         let layout = self.layout(of)?;
-        let tags = layout.variants.iter().map(|it| format!("    {}", self.tag(of, &it.name)));
-        let tags = tags.collect::<Vec<String>>().join(",\n");
-        let tags = |name: &str| format!("typedef enum {name} {{\n{tags}\n}} {name};\n");
         let (mut lines, mut before) = (String::new(), String::new());
         if let Type::Of(Form::Item(id), _) = of {
             before = comment(self.world.source(*id), &self.world.item(*id).notes.docs, "");
         }
-        match Tag::of(of, &layout) {
-            Tag::None => {}
-            Tag::Boolean(tag) => lines += &format!("    bool {tag};\n"),
-            Tag::Member => {
-                before += &(tags(&format!("{name}_tag")) + "\n");
-                lines += &format!("    {name}_tag tag;\n");
+        let all = 0..layout.variants.len();
+        let tags: Vec<_> = all.clone().filter_map(|it| self.tag(of, &layout, it)).collect();
+        match tags.first() {
+            Some(("tag", _)) => {
+                let tags: Vec<String> = tags.iter().map(|(_, tag)| format!("    {tag}")).collect();
+                let (tags, name) = (tags.join(",\n"), format!("{name}_tag"));
+                before += &format!("typedef enum {name} {{\n{tags}\n}} {name};\n\n");
+                lines += &format!("    {name} tag;\n");
             }
+            Some((member, _)) => lines += &format!("    bool {member};\n"),
+            None => {}
         }
         for (name, of) in &layout.members {
             lines += &format!("    {};\n", declared(&self.name(of)?, name));
         }
         let mut text = format!("{before}typedef struct {name} {{\n{lines}}} {name};\n");
-        for variant in 0..layout.variants.len() {
+        for variant in all {
             text += &self.maker_text(of, name, &layout, variant)?;
         }
         Ok(text)
@@ -176,22 +158,29 @@ impl Printer<'_> {
         place.map(|it| layout.members[it].0.clone()).ok_or_else(|| self.unknown(of))
     }
 
-    fn tag(&self, of: &Type, variant: &str) -> String {
-        format!("TK_{}_{}", short(self.world, of), text::snake(variant)).to_uppercase()
+    // Returns the member that says of which variant a value is, and what it says.
+    fn tag(&self, of: &Type, layout: &Layout, variant: usize) -> Option<(&'static str, String)> {
+        let is_first = (variant != NONE).to_string();
+        match of {
+            Type::Of(Form::Option, _) => Some(("is_some", is_first)),
+            Type::Of(Form::Result, _) => Some(("is_ok", is_first)),
+            _ if layout.variants.len() < 2 => None,
+            _ => {
+                let name = text::snake(&layout.variants[variant].name);
+                Some(("tag", format!("TK_{}_{name}", short(self.world, of)).to_uppercase()))
+            }
+        }
     }
 
     /// Returns the test whether a value is of a variant.
     pub fn test(&self, of: &Type, variant: usize, value: &str) -> Done<Text> {
-        let layout = self.layout(of)?;
-        match Tag::of(of, &layout) {
-            Tag::None => Err(self.unknown(of)),
-            Tag::Boolean(tag) if variant == NONE => Ok(Text::new(format!("!{value}.{tag}"), UNARY)),
-            Tag::Boolean(tag) => Ok(Text::atom(format!("{value}.{tag}"))),
-            Tag::Member => {
-                let tag = self.tag(of, &layout.variants[variant].name);
-                Ok(Text::new(format!("{value}.tag == {tag}"), EQUALITY))
-            }
-        }
+        let tag = self.tag(of, &self.layout(of)?, variant);
+        let (member, tag) = tag.ok_or_else(|| self.unknown(of))?;
+        Ok(match tag.as_str() {
+            "true" => Text::atom(format!("{value}.{member}")),
+            "false" => Text::new(format!("!{value}.{member}"), UNARY),
+            tag => Text::new(format!("{value}.{member} == {tag}"), EQUALITY),
+        })
     }
 
     /// Returns a value of a variant, by its function.
@@ -203,10 +192,11 @@ impl Printer<'_> {
     // Returns the function that makes values of a variant.
     fn maker(&self, of: &Type, layout: &Layout, variant: usize) -> String {
         let (kind, name) = (short(self.world, of), text::snake(&layout.variants[variant].name));
-        match Tag::of(of, layout) {
-            Tag::Boolean(_) => format!("tk_{name}_{}", kind.split_once('_').map_or("", |it| it.1)),
-            Tag::None if !of.is_slice() => format!("tk_{name}_{kind}"),
-            _ => format!("tk_{kind}_{name}"),
+        match self.tag(of, layout, variant) {
+            Some(("tag", _)) => format!("tk_{kind}_{name}"),
+            Some(_) => format!("tk_{name}_{}", kind.split_once('_').map_or("", |it| it.1)),
+            None if of.is_slice() => format!("tk_{kind}_{name}"),
+            None => format!("tk_{name}_{kind}"),
         }
     }
 
@@ -224,11 +214,8 @@ impl Printer<'_> {
             let (member, of) = &layout.members[*place];
             parameters.push(declared(&self.name(of)?, member));
         }
-        let mut values: Vec<String> = match Tag::of(of, layout) {
-            Tag::Boolean(_) => vec![(variant != NONE).to_string()],
-            Tag::Member => vec![self.tag(of, &layout.variants[variant].name)],
-            Tag::None => Vec::new(),
-        };
+        let tag = self.tag(of, layout, variant);
+        let mut values: Vec<String> = tag.into_iter().map(|(_, value)| value).collect();
         for (place, (member, of)) in layout.members.iter().enumerate() {
             let is_set = places.contains(&Some(place));
             values.push(if is_set { member.clone() } else { self.zero(of)? });

@@ -3,28 +3,19 @@
 use super::{Done, Lowering};
 use crate::c::ir::{Callee, Form, Function, Kind, Statement, Term, Type, all_kinds, each_term};
 
-/// What is known of a type that was unknown at first.
-#[derive(Clone, Debug)]
-pub enum Variable {
-    Unknown,
-    Integer,
-    Known(Type),
-}
-
 impl Lowering<'_, '_> {
     /// Returns a type that is not known yet.
     pub fn fresh(&mut self, is_integer: bool) -> Type {
-        self.variables.push(if is_integer { Variable::Integer } else { Variable::Unknown });
-        Type::Variable(self.variables.len() - 1)
+        self.variables.push(None);
+        Type::Variable { number: self.variables.len() - 1, is_integer }
     }
 
     /// Returns what is known of a type, but of its parts only what they were made with.
     pub fn known(&self, of: &Type) -> Type {
         match of {
-            Type::Variable(number) => match &self.variables[*number] {
-                Variable::Known(found) => self.known(found),
-                _ => of.clone(),
-            },
+            Type::Variable { number, .. } => {
+                self.variables[*number].as_ref().map_or(of.clone(), |found| self.known(found))
+            }
             _ => of.clone(),
         }
     }
@@ -32,10 +23,7 @@ impl Lowering<'_, '_> {
     /// Returns a type with all that is known. Integers that nothing decides are `i32`, as in Rust.
     pub fn full(&self, of: &Type) -> Type {
         match self.known(of) {
-            Type::Variable(number) => match self.variables[number] {
-                Variable::Integer => Type::I32,
-                _ => Type::Variable(number),
-            },
+            Type::Variable { is_integer: true, .. } => Type::I32,
             found => found.map(&mut |part| self.full(part)),
         }
     }
@@ -44,17 +32,18 @@ impl Lowering<'_, '_> {
     pub fn unify(&mut self, left: &Type, right: &Type) -> Done<()> {
         match (self.known(left), self.known(right)) {
             (left, right) if left == right => Ok(()),
-            (Type::Variable(number), other) | (other, Type::Variable(number)) => {
-                match (&self.variables[number], other) {
-                    // What is not known becomes an integer, too.
-                    (Variable::Integer, Type::Variable(other)) => {
-                        self.variables[other] = Variable::Known(Type::Variable(number));
-                    }
-                    (Variable::Integer, other) if other.integer().is_none() => {
-                        return self.refuse("an integer in place of another type");
-                    }
-                    (_, other) => self.variables[number] = Variable::Known(other),
-                }
+            (left @ Type::Variable { is_integer: true, .. }, Type::Variable { number, .. }) => {
+                self.variables[number] = Some(left);
+                Ok(())
+            }
+            (Type::Variable { is_integer: true, .. }, other)
+            | (other, Type::Variable { is_integer: true, .. })
+                if !matches!(other, Type::Integer(_) | Type::Variable { .. }) =>
+            {
+                self.refuse("an integer in place of another type")
+            }
+            (Type::Variable { number, .. }, other) | (other, Type::Variable { number, .. }) => {
+                self.variables[number] = Some(other);
                 Ok(())
             }
             (Type::Of(form, left), Type::Of(other, right))
@@ -92,7 +81,7 @@ impl Lowering<'_, '_> {
                 self.unify(&of, &parts[0])?;
                 Ok(self.make(Kind::Address, vec![term], wanted))
             }
-            (_, Type::Variable(_) | Type::Of(Form::Pointer, _)) => {
+            (_, Type::Variable { .. } | Type::Of(Form::Pointer, _)) => {
                 self.unify(&of, &wanted)?;
                 Ok(term)
             }

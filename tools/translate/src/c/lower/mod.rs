@@ -12,7 +12,6 @@ use super::ir::{Bindings, Callee, Done, Id, Kind, Local, PLAIN, Statement, Term,
 use super::world::{Place, World};
 use crate::source::{Fault, Source, Span};
 use crate::tree::{self, BinaryOperator, Expression, GenericKind, ItemKind};
-use infer::Variable;
 use std::collections::BTreeMap;
 
 struct Lowering<'w, 'i> {
@@ -28,7 +27,8 @@ struct Lowering<'w, 'i> {
     constants: BTreeMap<(String, Id), usize>,
     /// The part of the source that is lowered, which terms and faults name.
     at: Span,
-    variables: Vec<Variable>,
+    /// What is known of types that were unknown at first.
+    variables: Vec<Option<Type>>,
     locals: Vec<Local>,
     scopes: Vec<BTreeMap<String, Term>>,
     /// The statements of the block that is made.
