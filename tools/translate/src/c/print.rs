@@ -14,14 +14,14 @@ use std::collections::{BTreeMap, BTreeSet};
 /// All that is printed.
 pub struct Printer<'a> {
     pub world: &'a World<'a>,
-    /// The types that have a name, and their definitions.
-    pub types: BTreeMap<String, Type>,
+    /// The definitions of types.
     pub definitions: Vec<String>,
     pub names: BTreeMap<Callee, String>,
     /// Whether operators say that nothing overflows.
     pub is_checked: bool,
-    /// Small functions and constants by their names, in the order of their use.
+    /// Small functions and constants.
     pub helpers: Vec<String>,
+    /// What has a name, and what it is.
     pub known: BTreeMap<String, String>,
     pub functions: Vec<String>,
     /// The function that is printed, and its variables, as they are named in C.
@@ -40,7 +40,6 @@ impl<'a> Printer<'a> {
     ) -> Done<Printer<'a>> {
         Ok(Printer {
             world,
-            types: BTreeMap::new(),
             definitions: Vec::new(),
             names: names(world, functions)?,
             is_checked,
@@ -83,7 +82,7 @@ impl<'a> Printer<'a> {
     fn text(&mut self, function: &Function, qualifier: &str) -> Done<String> {
         let (world, id) = (self.world, function.key.id);
         let head = wrapped(&self.head(function, qualifier)?);
-        self.statements(&function.body)?;
+        self.block(&function.body)?;
         let source = world.source(id);
         let place = format!("{}:{}", source.path.display(), source.line(world.item(id).span));
         // A function is explained once.
@@ -149,14 +148,14 @@ impl<'a> Printer<'a> {
     }
 
     fn line(&mut self, line: &str) {
-        let line = wrapped(&format!("{}{line}", "    ".repeat(self.scopes.len())));
+        let line = wrapped(&format!("{}{line}", "    ".repeat(self.scopes.len() - 1)));
         self.lines += &line;
         self.lines.push('\n');
     }
 
-    fn inner(&mut self, body: &[Statement]) -> Done<()> {
+    fn block(&mut self, body: &[Statement]) -> Done<()> {
         self.scopes.push(BTreeSet::new());
-        self.statements(body)?;
+        body.iter().try_for_each(|statement| self.statement(statement))?;
         self.scopes.pop();
         Ok(())
     }
@@ -175,24 +174,20 @@ impl<'a> Printer<'a> {
         free
     }
 
-    fn statements(&mut self, body: &[Statement]) -> Done<()> {
-        body.iter().try_for_each(|statement| self.statement(statement))
-    }
-
     fn statement(&mut self, statement: &Statement) -> Done<()> {
         match statement {
             Statement::Comment(lines) => {
                 let source = self.world.source(self.id);
-                self.lines += &comment(source, lines, &"    ".repeat(self.scopes.len()));
+                self.lines += &comment(source, lines, &"    ".repeat(self.scopes.len() - 1));
             }
             Statement::Declare { local, value } => self.declare(*local, value.as_ref())?,
             Statement::Assign { place, value } => self.assign(place, value)?,
             Statement::If { condition, then, otherwise } => {
                 self.with_term("if (", condition, ") {")?;
-                self.inner(then)?;
+                self.block(then)?;
                 if !otherwise.is_empty() {
                     self.line("} else {");
-                    self.inner(otherwise)?;
+                    self.block(otherwise)?;
                 }
                 self.line("}");
             }
@@ -201,7 +196,7 @@ impl<'a> Printer<'a> {
                     Kind::Boolean(true) => self.line("for (;;) {"),
                     _ => self.with_term("while (", condition, ") {")?,
                 }
-                self.inner(body)?;
+                self.block(body)?;
                 self.line("}");
             }
             Statement::Return(term) => self.with_term("return ", term, ";")?,

@@ -68,8 +68,8 @@ impl Printer<'_> {
             }
             _ => {
                 let name = format!("tk_{}", short(self.world, of));
-                match self.types.insert(name.clone(), of.clone()) {
-                    Some(other) if other == *of => {}
+                match self.known.insert(name.clone(), format!("{of:?}")) {
+                    Some(other) if other == format!("{of:?}") => {}
                     Some(_) => return Err(self.unknown(of)),
                     None => {
                         let text = self.definition(of, &name)?;

@@ -89,8 +89,9 @@ impl Lowering<'_, '_> {
             if fields.len() != arguments.len() {
                 return self.refuse("another number of fields");
             }
-            let types = fields.into_iter().map(|(_, of)| Some(of));
-            let terms = self.operands(arguments.iter().zip(types).collect())?;
+            let types: Vec<Type> = fields.into_iter().map(|(_, of)| of).collect();
+            let terms = self.operands(&arguments.iter().collect::<Vec<_>>())?;
+            let terms = self.coerce_all(terms, &types)?;
             return Ok(self.make(Kind::Make(variant), terms, of));
         }
         if let ([owner, name], [argument]) = (path.names().as_slice(), arguments) {
@@ -164,19 +165,18 @@ impl Lowering<'_, '_> {
     ) -> Done<Term> {
         let constants = self.choose(&mut callee, generics)?;
         let (types, of) = signature(self.world, &callee)?;
-        let own = usize::from(receiver.is_some());
-        if types.len() != own + arguments.len() {
+        if types.len() != usize::from(receiver.is_some()) + arguments.len() {
             return self.refuse("another number of arguments");
         }
-        let given = types[own..].iter().map(|it| Some(it.clone()));
-        let arguments = arguments.iter().zip(given).collect();
+        let arguments: Vec<&Expression> = arguments.iter().collect();
         let terms = match receiver {
             Some(receiver) => {
                 let receiver = self.coerce(receiver, &types[0])?;
-                self.behind(receiver, arguments)?
+                self.behind(receiver, &arguments)?
             }
-            None => self.operands(arguments)?,
+            None => self.operands(&arguments)?,
         };
+        let terms = self.coerce_all(terms, &types)?;
         let terms = constants.into_iter().chain(terms);
         let terms = terms.filter(|it| !self.world.is_zero(&self.known(&it.of))).collect();
         let term = self.make(Kind::Call(callee), terms, of);

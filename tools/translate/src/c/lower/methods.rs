@@ -31,8 +31,9 @@ impl Lowering<'_, '_> {
             of @ Type::Integer(_) => of,
             _ => return self.refuse("this method has no rule"),
         };
-        let arguments = call.arguments.iter().map(|it| (it, Some(of.clone()))).collect();
-        let terms = self.behind(target, arguments)?;
+        let mut terms = self.behind(target, &call.arguments.iter().collect::<Vec<_>>())?;
+        let arguments = terms.split_off(1);
+        terms.extend(self.coerce_all(arguments, &vec![of.clone(); call.arguments.len()])?);
         match of.integer() {
             Some(integer) if !self.known(&terms[0].of).is_slice() => {
                 self.of_number(name, terms, integer)

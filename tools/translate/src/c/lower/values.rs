@@ -14,7 +14,7 @@ impl Lowering<'_, '_> {
             ExpressionKind::Literal(literal) => Ok(self.literal(literal)),
             ExpressionKind::Path(path) => self.path(path),
             ExpressionKind::Tuple(parts) => {
-                let terms = self.operands(parts.iter().map(|it| (it, None)).collect())?;
+                let terms = self.operands(&parts.iter().collect::<Vec<_>>())?;
                 Ok(self.tuple_of(terms))
             }
             ExpressionKind::Array(parts) => self.array(parts),
@@ -33,8 +33,8 @@ impl Lowering<'_, '_> {
             ExpressionKind::Method(call) => self.method(call),
             ExpressionKind::Field { receiver, name } => self.field(receiver, &name.text),
             ExpressionKind::Index { receiver, index } => {
-                let mut terms = self.operands(vec![(receiver, None), (index, Some(Type::SIZE))])?;
-                let at = terms.remove(1);
+                let mut terms = self.operands(&[receiver, index])?;
+                let at = self.coerce(terms.remove(1), &Type::SIZE)?;
                 self.element(terms.remove(0), at, Kind::At)
             }
             ExpressionKind::Part { receiver, low, high } => {
@@ -67,20 +67,18 @@ impl Lowering<'_, '_> {
 
     fn array(&mut self, parts: &[Expression]) -> Done<Term> {
         let element = self.fresh(false);
-        let terms = self.operands(parts.iter().map(|it| (it, Some(element.clone()))).collect())?;
+        let terms = self.operands(&parts.iter().collect::<Vec<_>>())?;
+        let terms = self.coerce_all(terms, &vec![element.clone(); parts.len()])?;
         let of = Type::array(element, parts.len() as u128);
         Ok(self.make(Kind::Elements, terms, of))
     }
 
     /// Evaluates operands from left to right. Those before one with statements are held in variables, and so
     /// are results of calls that write.
-    pub fn operands(&mut self, operands: Vec<(&Expression, Option<Type>)>) -> Done<Vec<Term>> {
+    pub fn operands(&mut self, operands: &[&Expression]) -> Done<Vec<Term>> {
         let mut terms: Vec<Term> = Vec::new();
-        for (operand, of) in &operands {
-            let (statements, term) = self.apart(|it| match of {
-                Some(of) => it.term(operand, of),
-                None => it.any(operand),
-            })?;
+        for operand in operands {
+            let (statements, term) = self.apart(|it| it.any(operand))?;
             let has_effect = term.has_effect() && operands.len() > 1;
             if has_effect || !statements.is_empty() {
                 terms = terms.into_iter().map(|earlier| self.before(earlier)).collect();
@@ -91,12 +89,13 @@ impl Lowering<'_, '_> {
         Ok(terms)
     }
 
+    /// Makes terms ones of the wanted types.
+    pub fn coerce_all(&mut self, terms: Vec<Term>, types: &[Type]) -> Done<Vec<Term>> {
+        terms.into_iter().zip(types).map(|(term, of)| self.coerce(term, of)).collect()
+    }
+
     /// Evaluates operands behind a value, which must not depend on what they change.
-    pub fn behind(
-        &mut self,
-        first: Term,
-        operands: Vec<(&Expression, Option<Type>)>,
-    ) -> Done<Vec<Term>> {
+    pub fn behind(&mut self, first: Term, operands: &[&Expression]) -> Done<Vec<Term>> {
         let (statements, terms) = self.apart(|it| it.operands(operands))?;
         let changes = !statements.is_empty() || terms.iter().any(Term::has_effect);
         let is_pointer = matches!(self.known(&first.of), Type::Of(Form::Pointer, _));
@@ -151,14 +150,12 @@ impl Lowering<'_, '_> {
     ) -> Done<Term> {
         let of = self.named_type(&path.segments)?;
         let fields = self.fields_of(&of, PLAIN)?;
-        let mut operands = Vec::new();
-        for (given, value) in given {
-            let field = fields.iter().find(|(name, _)| *name == given.text);
-            let (_, of) = field.ok_or_else(|| self.fault("no such field"))?;
-            operands.push((value, Some(of.clone())));
+        let is_field = |given: &Name| fields.iter().any(|(name, _)| *name == given.text);
+        if !given.iter().all(|(given, _)| is_field(given)) {
+            return self.refuse("no such field");
         }
-        operands.extend(base.map(|base| (base, Some(of.clone()))));
-        let mut terms = self.operands(operands)?;
+        let operands: Vec<&Expression> = given.iter().map(|(_, it)| it).chain(base).collect();
+        let mut terms = self.operands(&operands)?;
         let base = match base.and_then(|_| terms.pop()) {
             Some(Term { kind: Kind::Constant(id), .. }) => Some(super::constant(self.world, id)?),
             base => base.map(|base| self.keep(base, "base")),
@@ -167,7 +164,7 @@ impl Lowering<'_, '_> {
         for (number, (name, of)) in fields.into_iter().enumerate() {
             let given = given.iter().position(|(given, _)| given.text == name);
             all.push(match (given, &base) {
-                (Some(at), _) => terms[at].clone(),
+                (Some(at), _) => self.coerce(terms[at].clone(), &of)?,
                 (None, Some(base)) if base.kind == Kind::Make(PLAIN) => base.parts[number].clone(),
                 (None, Some(base)) => self.make(Kind::Field(PLAIN, number), vec![base.clone()], of),
                 (None, None) => return self.refuse("a field without a value"),
@@ -218,7 +215,7 @@ impl Lowering<'_, '_> {
             let second = self.alone("what may not run", |it| it.term(right, &Type::Boolean))?;
             return Ok(self.test(operator, first, second));
         }
-        let mut terms = self.operands(vec![(left, None), (right, None)])?;
+        let mut terms = self.operands(&[left, right])?;
         let right = self.followed(terms.remove(1));
         let left = self.followed(terms.remove(0));
         if !operator.is_shift() {
@@ -247,8 +244,11 @@ impl Lowering<'_, '_> {
         low: Option<&Expression>,
         high: Option<&Expression>,
     ) -> Done<Term> {
-        let offsets = low.into_iter().chain(high).map(|it| (it, Some(Type::SIZE)));
-        let terms = self.operands([(receiver, None)].into_iter().chain(offsets).collect())?;
+        let operands: Vec<&Expression> =
+            [Some(receiver), low, high].into_iter().flatten().collect();
+        let mut terms = self.operands(&operands)?;
+        let offsets = self.coerce_all(terms.split_off(1), &[Type::SIZE, Type::SIZE])?;
+        terms.extend(offsets);
         let name = match (low, high) {
             (Some(_), Some(_)) => "between",
             (Some(_), None) => "from",
