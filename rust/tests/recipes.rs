@@ -1,8 +1,10 @@
 //! The recipes of docs/RECIPES.md, and what they return for more texts than the page shows.
 
-use std::num::{IntErrorKind, NonZero, ParseFloatError, ParseIntError};
+use std::num::{IntErrorKind, NonZero, ParseFloatError, ParseIntError, Wrapping};
 use torkettle::formats::{canonical, digits_then, fixed_width};
-use torkettle::{IntError, from_ascii, from_ascii_prefix, parse_pos};
+use torkettle::{
+    AtoiSimdError, IntError, Parse, from_ascii, from_ascii_prefix, parse, parse_pos, parse_prefix,
+};
 
 #[test]
 fn a_buffer_that_ends_within_a_number() {
@@ -209,11 +211,16 @@ fn types_of_std_around_an_integer() {
         from_ascii(text).ok().and_then(NonZero::new)
     }
 
+    fn checksum(text: &[u8]) -> Result<Wrapping<u32>, IntError> {
+        from_ascii(text).map(Wrapping)
+    }
+
     assert_eq!(workers(b"8"), NonZero::new(8));
 
     for text in ["0", "+8", "-1", "x", "", "4294967295", "4294967296"] {
         assert_eq!(workers(text.as_bytes()), text.parse().ok(), "{text:?}");
     }
+    assert_eq!(checksum(b"8"), Ok(Wrapping(8)));
 }
 
 #[test]
@@ -234,4 +241,114 @@ fn cells_of_which_some_are_blank() {
     for row in [&b"1,x"[..], b"1 2", b"1,-", b"1,\0,2"] {
         assert!(cells(row).is_err());
     }
+}
+
+#[test]
+fn the_greatest_number_in_place_of_one_out_of_range() {
+    fn seconds(text: &[u8]) -> Result<u32, IntError> {
+        let only_digits = text.iter().all(u8::is_ascii_digit);
+        match from_ascii(text) {
+            Err(error) if error.kind() == IntErrorKind::PosOverflow && only_digits => Ok(u32::MAX),
+            result => result,
+        }
+    }
+
+    assert_eq!(seconds(b"99999999999"), Ok(u32::MAX));
+    assert!(seconds(b"99999999999s").is_err());
+
+    for text in ["0", "4294967294", "4294967295", "4294967296"] {
+        let expected = text.parse::<u64>().unwrap().min(u32::MAX.into());
+        assert_eq!(seconds(text.as_bytes()).map(u64::from), Ok(expected));
+    }
+    for text in ["", "-1", "-99999999999", "x", "9 "] {
+        assert!(seconds(text.as_bytes()).is_err(), "{text:?}");
+    }
+}
+
+#[test]
+fn a_text_for_users() {
+    fn reason(text: &[u8], error: AtoiSimdError<'_>) -> String {
+        match (error, error.offset_in(text)) {
+            (AtoiSimdError::Empty, _) => "no digit".to_string(),
+            (AtoiSimdError::Invalid64(..) | AtoiSimdError::Invalid128(..), Some(offset)) => {
+                format!("unexpected byte at byte {offset}")
+            }
+            _ => "number out of range".to_string(),
+        }
+    }
+
+    let text = b"-12x";
+    let error = parse::<i32, true, true>(text).unwrap_err();
+    assert_eq!(reason(text, error), "unexpected byte at byte 3");
+
+    fn check<T: Parse + std::fmt::Debug>(text: &[u8], expected: &str) {
+        let error = parse::<T, true, true>(text).map(drop).unwrap_err();
+        assert_eq!(reason(text, error), expected);
+    }
+    check::<u8>(b"", "no digit");
+    check::<u8>(b"-5", "no digit");
+    check::<u8>(b"0256", "number out of range");
+    check::<u64>(b"99999999999999999999999", "number out of range");
+    check::<i128>(b"-00000000000000000000000007 ", "unexpected byte at byte 27");
+}
+
+#[test]
+fn a_text_that_moves() {
+    struct Port {
+        number: u16,
+        text: Vec<u8>,
+    }
+
+    fn port(text: Vec<u8>) -> Option<Port> {
+        let number = parse::<u16, true, true>(&text).ok()?;
+        Some(Port { number, text })
+    }
+
+    let found = port(b"8080".to_vec()).unwrap();
+    assert_eq!((found.number, &found.text[..]), (8080, &b"8080"[..]));
+    assert!(port(b"80x".to_vec()).is_none());
+    // The error of `from_ascii` does not borrow, so here the text can move at once.
+    let text = b"8080".to_vec();
+    let found = from_ascii(&text).map(|number| Port { number, text }).unwrap();
+    assert_eq!((found.number, &found.text[..]), (8080, &b"8080"[..]));
+}
+
+#[test]
+fn a_fixed_width_of_a_short_text() {
+    // Reads a status such as 404. `Ok(None)` asks for more input.
+    fn status(text: &[u8]) -> Result<Option<(u16, &[u8])>, &'static str> {
+        match fixed_width(text, 3) {
+            Some(found) => Ok(Some(found)),
+            None if text.len() < 3 && text.iter().all(u8::is_ascii_digit) => Ok(None),
+            None => Err("no three digits"),
+        }
+    }
+
+    assert_eq!(status(b"404 Not Found"), Ok(Some((404, &b" Not Found"[..]))));
+    assert_eq!(status(b"40"), Ok(None));
+
+    for text in [&b""[..], b"4"] {
+        assert_eq!(status(text), Ok(None));
+    }
+    for text in [&b"x"[..], b"4x", b"40x", b"-40", b" 404"] {
+        assert_eq!(status(text), Err("no three digits"));
+    }
+}
+
+#[test]
+fn a_number_at_the_start_by_a_test_for_one_digit() {
+    fn number_at(text: &[u8]) -> Result<(u32, usize), AtoiSimdError<'_>> {
+        match text {
+            [digit @ b'0'..=b'9', next, ..] if !next.is_ascii_digit() => {
+                Ok((u32::from(digit - b'0'), 1))
+            }
+            _ => parse_prefix::<u32, true, true>(text),
+        }
+    }
+
+    for text in ["7,8", "70,8", "7", "+7,", "4294967295;", "0,", "x", "", "7x"] {
+        let text = text.as_bytes();
+        assert_eq!(number_at(text), parse_prefix::<u32, true, true>(text));
+    }
+    assert_eq!(number_at(b"9 "), Ok((9, 1)));
 }
