@@ -1194,7 +1194,7 @@ TK_CONSTEXPR int8_t tk_from_parts_i8(bool minus, tk_u128 magnitude)
 }
 
 /* Returns the number of a slice of one digit. */
-/* atoi_fast/src/quick.rt:10 */
+/* atoi_fast/src/quick.rt:11 */
 TK_INLINE tk_option_i8 tk_one_digit_i8(tk_bytes s)
 {
     if (s.len == 1 && '0' <= s.at[0] && s.at[0] <= '9') {
@@ -1212,7 +1212,7 @@ TK_CONSTEXPR uint8_t tk_from_parts_u8(bool minus, tk_u128 magnitude)
     return TK_CAST(uint8_t, tk_u128_low(magnitude));
 }
 
-/* atoi_fast/src/quick.rt:10 */
+/* atoi_fast/src/quick.rt:11 */
 TK_INLINE tk_option_u8 tk_one_digit_u8(tk_bytes s)
 {
     if (s.len == 1 && '0' <= s.at[0] && s.at[0] <= '9') {
@@ -1229,7 +1229,7 @@ TK_CONSTEXPR int16_t tk_from_parts_i16(bool minus, tk_u128 magnitude)
     return TK_CAST(int16_t, tk_i128_low(tk_with_sign_64(minus, tk_u128_low(magnitude))));
 }
 
-/* atoi_fast/src/quick.rt:10 */
+/* atoi_fast/src/quick.rt:11 */
 TK_INLINE tk_option_i16 tk_one_digit_i16(tk_bytes s)
 {
     if (s.len == 1 && '0' <= s.at[0] && s.at[0] <= '9') {
@@ -1247,7 +1247,7 @@ TK_CONSTEXPR uint16_t tk_from_parts_u16(bool minus, tk_u128 magnitude)
     return TK_CAST(uint16_t, tk_u128_low(magnitude));
 }
 
-/* atoi_fast/src/quick.rt:10 */
+/* atoi_fast/src/quick.rt:11 */
 TK_INLINE tk_option_u16 tk_one_digit_u16(tk_bytes s)
 {
     if (s.len == 1 && '0' <= s.at[0] && s.at[0] <= '9') {
@@ -1264,7 +1264,7 @@ TK_CONSTEXPR int32_t tk_from_parts_i32(bool minus, tk_u128 magnitude)
     return TK_CAST(int32_t, tk_i128_low(tk_with_sign_64(minus, tk_u128_low(magnitude))));
 }
 
-/* atoi_fast/src/quick.rt:10 */
+/* atoi_fast/src/quick.rt:11 */
 TK_INLINE tk_option_i32 tk_one_digit_i32(tk_bytes s)
 {
     if (s.len == 1 && '0' <= s.at[0] && s.at[0] <= '9') {
@@ -1282,7 +1282,7 @@ TK_CONSTEXPR uint32_t tk_from_parts_u32(bool minus, tk_u128 magnitude)
     return TK_CAST(uint32_t, tk_u128_low(magnitude));
 }
 
-/* atoi_fast/src/quick.rt:10 */
+/* atoi_fast/src/quick.rt:11 */
 TK_INLINE tk_option_u32 tk_one_digit_u32(tk_bytes s)
 {
     if (s.len == 1 && '0' <= s.at[0] && s.at[0] <= '9') {
@@ -1299,7 +1299,7 @@ TK_CONSTEXPR int64_t tk_from_parts_i64(bool minus, tk_u128 magnitude)
     return TK_CAST(int64_t, tk_i128_low(tk_with_sign_64(minus, tk_u128_low(magnitude))));
 }
 
-/* atoi_fast/src/quick.rt:10 */
+/* atoi_fast/src/quick.rt:11 */
 TK_INLINE tk_option_i64 tk_one_digit_i64(tk_bytes s)
 {
     if (s.len == 1 && '0' <= s.at[0] && s.at[0] <= '9') {
@@ -1317,7 +1317,7 @@ TK_CONSTEXPR uint64_t tk_from_parts_u64(bool minus, tk_u128 magnitude)
     return tk_u128_low(magnitude);
 }
 
-/* atoi_fast/src/quick.rt:10 */
+/* atoi_fast/src/quick.rt:11 */
 TK_INLINE tk_option_u64 tk_one_digit_u64(tk_bytes s)
 {
     if (s.len == 1 && '0' <= s.at[0] && s.at[0] <= '9') {
@@ -1340,7 +1340,7 @@ TK_CONSTEXPR tk_i128 tk_from_parts_i128(bool minus, tk_u128 magnitude)
     return tk_i128_negate(tk_u128_as_i128(magnitude));
 }
 
-/* atoi_fast/src/quick.rt:10 */
+/* atoi_fast/src/quick.rt:11 */
 TK_INLINE tk_option_i128 tk_one_digit_i128(tk_bytes s)
 {
     if (s.len == 1 && '0' <= s.at[0] && s.at[0] <= '9') {
@@ -1358,7 +1358,7 @@ TK_CONSTEXPR tk_u128 tk_from_parts_u128(bool minus, tk_u128 magnitude)
     return magnitude;
 }
 
-/* atoi_fast/src/quick.rt:10 */
+/* atoi_fast/src/quick.rt:11 */
 TK_INLINE tk_option_u128 tk_one_digit_u128(tk_bytes s)
 {
     if (s.len == 1 && '0' <= s.at[0] && s.at[0] <= '9') {
@@ -1370,7 +1370,7 @@ TK_INLINE tk_option_u128 tk_one_digit_u128(tk_bytes s)
 }
 
 /* Returns the word of the first 8 bytes. */
-/* atoi_fast/src/loads.rt:110 */
+/* atoi_fast/src/loads.rt:111 */
 TK_HINTED uint64_t tk_load_full(tk_bytes s)
 {
     if (s.len >= 8) {
@@ -1380,7 +1380,7 @@ TK_HINTED uint64_t tk_load_full(tk_bytes s)
     return 0;
 }
 
-/* atoi_fast/src/short_prefix.rt:66 */
+/* atoi_fast/src/short_prefix.rt:78 */
 TK_HINTED uint8_t tk_lowest_byte(uint64_t word)
 {
     return TK_CAST(uint8_t, word & 0xFF);
@@ -1450,7 +1450,7 @@ TK_INLINE tk_option_i8 tk_number_in_range_i8(uint64_t most, bool minus, uint64_t
 }
 
 /* The number of 8 to 15 bytes, of which the first eight spell `high`, with a zero for a minus. */
-/* atoi_fast/src/short_prefix.rt:74 */
+/* atoi_fast/src/short_prefix.rt:86 */
 TK_INLINE tk_option_pair_i8_size tk_prefix_of_two_words_i8(bool minus, uint64_t high, tk_bytes s)
 {
     uint64_t next = tk_load_full(tk_bytes_from(s, 8));
@@ -1472,7 +1472,7 @@ TK_INLINE tk_option_pair_i8_size tk_prefix_of_two_words_i8(bool minus, uint64_t 
  * Returns the number at the start of `s` and its length, if that is below 16 or, for `i64` and `u64`, at most 19
  * digits. Others may be `None`, too.
  */
-/* atoi_fast/src/short_prefix.rt:33 */
+/* atoi_fast/src/short_prefix.rt:45 */
 TK_INLINE tk_option_pair_i8_size tk_prefix_of_words_i8(tk_bytes s)
 {
     uint64_t word = tk_load_full(s);
@@ -1510,7 +1510,7 @@ TK_INLINE tk_option_pair_i8_size tk_prefix_of_words_i8(tk_bytes s)
 }
 
 /* The number of one digit at the start of a slice. */
-/* atoi_fast/src/quick.rt:41 */
+/* atoi_fast/src/quick.rt:66 */
 TK_INLINE tk_option_pair_i8_size tk_digit_prefix_i8(tk_bytes s)
 {
     if (s.len >= 2 && '0' <= s.at[1] && s.at[1] <= '9') {
@@ -1528,7 +1528,7 @@ TK_INLINE tk_option_pair_i8_size tk_digit_prefix_i8(tk_bytes s)
  * Returns the number at the start of a slice and its length, if that is one digit or two, or, in a slice of at least
  * 16 bytes, fewer than 16 bytes. Others may be `None`, too. A minus before more digits takes no branch.
  */
-/* atoi_fast/src/quick.rt:25 */
+/* atoi_fast/src/quick.rt:50 */
 TK_INLINE tk_option_pair_i8_size tk_quick_prefix_i8(tk_bytes s)
 {
     if (s.len >= 3 && '0' <= s.at[1] && s.at[1] <= '9' && '0' <= s.at[2] && s.at[2] <= '9' && s.len >= 16) {
@@ -1555,7 +1555,7 @@ TK_INLINE tk_option_u8 tk_number_in_range_u8(uint64_t most, bool minus, uint64_t
     return tk_some_u8(tk_from_parts_u8(minus, tk_u128_of(magnitude)));
 }
 
-/* atoi_fast/src/short_prefix.rt:74 */
+/* atoi_fast/src/short_prefix.rt:86 */
 TK_INLINE tk_option_pair_u8_size tk_prefix_of_two_words_u8(bool minus, uint64_t high, tk_bytes s)
 {
     uint64_t next = tk_load_full(tk_bytes_from(s, 8));
@@ -1573,7 +1573,7 @@ TK_INLINE tk_option_pair_u8_size tk_prefix_of_two_words_u8(bool minus, uint64_t 
     return tk_some_pair_u8_size(tk_new_pair_u8_size(number, 8 + TK_CAST(size_t, more)));
 }
 
-/* atoi_fast/src/short_prefix.rt:33 */
+/* atoi_fast/src/short_prefix.rt:45 */
 TK_INLINE tk_option_pair_u8_size tk_prefix_of_words_u8(tk_bytes s)
 {
     uint64_t word = tk_load_full(s);
@@ -1610,7 +1610,7 @@ TK_INLINE tk_option_pair_u8_size tk_prefix_of_words_u8(tk_bytes s)
     return tk_some_pair_u8_size(tk_new_pair_u8_size(number, TK_CAST(size_t, len)));
 }
 
-/* atoi_fast/src/quick.rt:41 */
+/* atoi_fast/src/quick.rt:66 */
 TK_INLINE tk_option_pair_u8_size tk_digit_prefix_u8(tk_bytes s)
 {
     if (s.len >= 2 && '0' <= s.at[1] && s.at[1] <= '9') {
@@ -1624,7 +1624,7 @@ TK_INLINE tk_option_pair_u8_size tk_digit_prefix_u8(tk_bytes s)
     return tk_none_pair_u8_size();
 }
 
-/* atoi_fast/src/quick.rt:25 */
+/* atoi_fast/src/quick.rt:50 */
 TK_INLINE tk_option_pair_u8_size tk_quick_prefix_u8(tk_bytes s)
 {
     if (s.len >= 3 && '0' <= s.at[1] && s.at[1] <= '9' && '0' <= s.at[2] && s.at[2] <= '9' && s.len >= 16) {
@@ -1651,7 +1651,7 @@ TK_INLINE tk_option_i16 tk_number_in_range_i16(uint64_t most, bool minus, uint64
     return tk_some_i16(tk_from_parts_i16(minus, tk_u128_of(magnitude)));
 }
 
-/* atoi_fast/src/short_prefix.rt:74 */
+/* atoi_fast/src/short_prefix.rt:86 */
 TK_INLINE tk_option_pair_i16_size tk_prefix_of_two_words_i16(bool minus, uint64_t high, tk_bytes s)
 {
     uint64_t next = tk_load_full(tk_bytes_from(s, 8));
@@ -1669,7 +1669,7 @@ TK_INLINE tk_option_pair_i16_size tk_prefix_of_two_words_i16(bool minus, uint64_
     return tk_some_pair_i16_size(tk_new_pair_i16_size(number, 8 + TK_CAST(size_t, more)));
 }
 
-/* atoi_fast/src/short_prefix.rt:33 */
+/* atoi_fast/src/short_prefix.rt:45 */
 TK_INLINE tk_option_pair_i16_size tk_prefix_of_words_i16(tk_bytes s)
 {
     uint64_t word = tk_load_full(s);
@@ -1706,7 +1706,7 @@ TK_INLINE tk_option_pair_i16_size tk_prefix_of_words_i16(tk_bytes s)
     return tk_some_pair_i16_size(tk_new_pair_i16_size(number, TK_CAST(size_t, len)));
 }
 
-/* atoi_fast/src/quick.rt:41 */
+/* atoi_fast/src/quick.rt:66 */
 TK_INLINE tk_option_pair_i16_size tk_digit_prefix_i16(tk_bytes s)
 {
     if (s.len >= 2 && '0' <= s.at[1] && s.at[1] <= '9') {
@@ -1720,7 +1720,7 @@ TK_INLINE tk_option_pair_i16_size tk_digit_prefix_i16(tk_bytes s)
     return tk_none_pair_i16_size();
 }
 
-/* atoi_fast/src/quick.rt:25 */
+/* atoi_fast/src/quick.rt:50 */
 TK_INLINE tk_option_pair_i16_size tk_quick_prefix_i16(tk_bytes s)
 {
     if (s.len >= 3 && '0' <= s.at[1] && s.at[1] <= '9' && '0' <= s.at[2] && s.at[2] <= '9' && s.len >= 16) {
@@ -1747,7 +1747,7 @@ TK_INLINE tk_option_u16 tk_number_in_range_u16(uint64_t most, bool minus, uint64
     return tk_some_u16(tk_from_parts_u16(minus, tk_u128_of(magnitude)));
 }
 
-/* atoi_fast/src/short_prefix.rt:74 */
+/* atoi_fast/src/short_prefix.rt:86 */
 TK_INLINE tk_option_pair_u16_size tk_prefix_of_two_words_u16(bool minus, uint64_t high, tk_bytes s)
 {
     uint64_t next = tk_load_full(tk_bytes_from(s, 8));
@@ -1765,7 +1765,7 @@ TK_INLINE tk_option_pair_u16_size tk_prefix_of_two_words_u16(bool minus, uint64_
     return tk_some_pair_u16_size(tk_new_pair_u16_size(number, 8 + TK_CAST(size_t, more)));
 }
 
-/* atoi_fast/src/short_prefix.rt:33 */
+/* atoi_fast/src/short_prefix.rt:45 */
 TK_INLINE tk_option_pair_u16_size tk_prefix_of_words_u16(tk_bytes s)
 {
     uint64_t word = tk_load_full(s);
@@ -1802,7 +1802,7 @@ TK_INLINE tk_option_pair_u16_size tk_prefix_of_words_u16(tk_bytes s)
     return tk_some_pair_u16_size(tk_new_pair_u16_size(number, TK_CAST(size_t, len)));
 }
 
-/* atoi_fast/src/quick.rt:41 */
+/* atoi_fast/src/quick.rt:66 */
 TK_INLINE tk_option_pair_u16_size tk_digit_prefix_u16(tk_bytes s)
 {
     if (s.len >= 2 && '0' <= s.at[1] && s.at[1] <= '9') {
@@ -1816,7 +1816,7 @@ TK_INLINE tk_option_pair_u16_size tk_digit_prefix_u16(tk_bytes s)
     return tk_none_pair_u16_size();
 }
 
-/* atoi_fast/src/quick.rt:25 */
+/* atoi_fast/src/quick.rt:50 */
 TK_INLINE tk_option_pair_u16_size tk_quick_prefix_u16(tk_bytes s)
 {
     if (s.len >= 3 && '0' <= s.at[1] && s.at[1] <= '9' && '0' <= s.at[2] && s.at[2] <= '9' && s.len >= 16) {
@@ -1843,7 +1843,7 @@ TK_INLINE tk_option_i32 tk_number_in_range_i32(uint64_t most, bool minus, uint64
     return tk_some_i32(tk_from_parts_i32(minus, tk_u128_of(magnitude)));
 }
 
-/* atoi_fast/src/short_prefix.rt:74 */
+/* atoi_fast/src/short_prefix.rt:86 */
 TK_INLINE tk_option_pair_i32_size tk_prefix_of_two_words_i32(bool minus, uint64_t high, tk_bytes s)
 {
     uint64_t next = tk_load_full(tk_bytes_from(s, 8));
@@ -1861,7 +1861,7 @@ TK_INLINE tk_option_pair_i32_size tk_prefix_of_two_words_i32(bool minus, uint64_
     return tk_some_pair_i32_size(tk_new_pair_i32_size(number, 8 + TK_CAST(size_t, more)));
 }
 
-/* atoi_fast/src/short_prefix.rt:33 */
+/* atoi_fast/src/short_prefix.rt:45 */
 TK_INLINE tk_option_pair_i32_size tk_prefix_of_words_i32(tk_bytes s)
 {
     uint64_t word = tk_load_full(s);
@@ -1898,7 +1898,7 @@ TK_INLINE tk_option_pair_i32_size tk_prefix_of_words_i32(tk_bytes s)
     return tk_some_pair_i32_size(tk_new_pair_i32_size(number, TK_CAST(size_t, len)));
 }
 
-/* atoi_fast/src/quick.rt:41 */
+/* atoi_fast/src/quick.rt:66 */
 TK_INLINE tk_option_pair_i32_size tk_digit_prefix_i32(tk_bytes s)
 {
     if (s.len >= 2 && '0' <= s.at[1] && s.at[1] <= '9') {
@@ -1912,7 +1912,7 @@ TK_INLINE tk_option_pair_i32_size tk_digit_prefix_i32(tk_bytes s)
     return tk_none_pair_i32_size();
 }
 
-/* atoi_fast/src/quick.rt:25 */
+/* atoi_fast/src/quick.rt:50 */
 TK_INLINE tk_option_pair_i32_size tk_quick_prefix_i32(tk_bytes s)
 {
     if (s.len >= 3 && '0' <= s.at[1] && s.at[1] <= '9' && '0' <= s.at[2] && s.at[2] <= '9' && s.len >= 16) {
@@ -1939,7 +1939,7 @@ TK_INLINE tk_option_u32 tk_number_in_range_u32(uint64_t most, bool minus, uint64
     return tk_some_u32(tk_from_parts_u32(minus, tk_u128_of(magnitude)));
 }
 
-/* atoi_fast/src/short_prefix.rt:74 */
+/* atoi_fast/src/short_prefix.rt:86 */
 TK_INLINE tk_option_pair_u32_size tk_prefix_of_two_words_u32(bool minus, uint64_t high, tk_bytes s)
 {
     uint64_t next = tk_load_full(tk_bytes_from(s, 8));
@@ -1957,7 +1957,7 @@ TK_INLINE tk_option_pair_u32_size tk_prefix_of_two_words_u32(bool minus, uint64_
     return tk_some_pair_u32_size(tk_new_pair_u32_size(number, 8 + TK_CAST(size_t, more)));
 }
 
-/* atoi_fast/src/short_prefix.rt:33 */
+/* atoi_fast/src/short_prefix.rt:45 */
 TK_INLINE tk_option_pair_u32_size tk_prefix_of_words_u32(tk_bytes s)
 {
     uint64_t word = tk_load_full(s);
@@ -1994,7 +1994,7 @@ TK_INLINE tk_option_pair_u32_size tk_prefix_of_words_u32(tk_bytes s)
     return tk_some_pair_u32_size(tk_new_pair_u32_size(number, TK_CAST(size_t, len)));
 }
 
-/* atoi_fast/src/quick.rt:41 */
+/* atoi_fast/src/quick.rt:66 */
 TK_INLINE tk_option_pair_u32_size tk_digit_prefix_u32(tk_bytes s)
 {
     if (s.len >= 2 && '0' <= s.at[1] && s.at[1] <= '9') {
@@ -2008,7 +2008,7 @@ TK_INLINE tk_option_pair_u32_size tk_digit_prefix_u32(tk_bytes s)
     return tk_none_pair_u32_size();
 }
 
-/* atoi_fast/src/quick.rt:25 */
+/* atoi_fast/src/quick.rt:50 */
 TK_INLINE tk_option_pair_u32_size tk_quick_prefix_u32(tk_bytes s)
 {
     if (s.len >= 3 && '0' <= s.at[1] && s.at[1] <= '9' && '0' <= s.at[2] && s.at[2] <= '9' && s.len >= 16) {
@@ -2042,7 +2042,7 @@ TK_INLINE tk_option_i64 tk_number_in_range_i64(uint64_t most, bool minus, uint64
     return tk_some_i64(tk_from_parts_i64(minus, tk_u128_of(magnitude)));
 }
 
-/* atoi_fast/src/short_prefix.rt:74 */
+/* atoi_fast/src/short_prefix.rt:86 */
 TK_INLINE tk_option_pair_i64_size tk_prefix_of_two_words_i64(bool minus, uint64_t high, tk_bytes s)
 {
     uint64_t next = tk_load_full(tk_bytes_from(s, 8));
@@ -2061,7 +2061,7 @@ TK_INLINE tk_option_pair_i64_size tk_prefix_of_two_words_i64(bool minus, uint64_
     return tk_some_pair_i64_size(tk_new_pair_i64_size(number, 8 + TK_CAST(size_t, more)));
 }
 
-/* atoi_fast/src/short_prefix.rt:33 */
+/* atoi_fast/src/short_prefix.rt:45 */
 TK_INLINE tk_option_pair_i64_size tk_prefix_of_words_i64(tk_bytes s)
 {
     uint64_t word = tk_load_full(s);
@@ -2098,7 +2098,7 @@ TK_INLINE tk_option_pair_i64_size tk_prefix_of_words_i64(tk_bytes s)
     return tk_some_pair_i64_size(tk_new_pair_i64_size(number, TK_CAST(size_t, len)));
 }
 
-/* atoi_fast/src/quick.rt:41 */
+/* atoi_fast/src/quick.rt:66 */
 TK_INLINE tk_option_pair_i64_size tk_digit_prefix_i64(tk_bytes s)
 {
     if (s.len >= 2 && '0' <= s.at[1] && s.at[1] <= '9') {
@@ -2112,7 +2112,7 @@ TK_INLINE tk_option_pair_i64_size tk_digit_prefix_i64(tk_bytes s)
     return tk_none_pair_i64_size();
 }
 
-/* atoi_fast/src/quick.rt:25 */
+/* atoi_fast/src/quick.rt:50 */
 TK_INLINE tk_option_pair_i64_size tk_quick_prefix_i64(tk_bytes s)
 {
     if (s.len >= 3 && '0' <= s.at[1] && s.at[1] <= '9' && '0' <= s.at[2] && s.at[2] <= '9' && s.len >= 16) {
@@ -2139,7 +2139,7 @@ TK_INLINE tk_option_u64 tk_number_in_range_u64(uint64_t most, bool minus, uint64
     return tk_some_u64(tk_from_parts_u64(minus, tk_u128_of(magnitude)));
 }
 
-/* atoi_fast/src/short_prefix.rt:74 */
+/* atoi_fast/src/short_prefix.rt:86 */
 TK_INLINE tk_option_pair_u64_size tk_prefix_of_two_words_u64(bool minus, uint64_t high, tk_bytes s)
 {
     uint64_t next = tk_load_full(tk_bytes_from(s, 8));
@@ -2158,7 +2158,7 @@ TK_INLINE tk_option_pair_u64_size tk_prefix_of_two_words_u64(bool minus, uint64_
     return tk_some_pair_u64_size(tk_new_pair_u64_size(number, 8 + TK_CAST(size_t, more)));
 }
 
-/* atoi_fast/src/short_prefix.rt:33 */
+/* atoi_fast/src/short_prefix.rt:45 */
 TK_INLINE tk_option_pair_u64_size tk_prefix_of_words_u64(tk_bytes s)
 {
     uint64_t word = tk_load_full(s);
@@ -2195,7 +2195,7 @@ TK_INLINE tk_option_pair_u64_size tk_prefix_of_words_u64(tk_bytes s)
     return tk_some_pair_u64_size(tk_new_pair_u64_size(number, TK_CAST(size_t, len)));
 }
 
-/* atoi_fast/src/quick.rt:41 */
+/* atoi_fast/src/quick.rt:66 */
 TK_INLINE tk_option_pair_u64_size tk_digit_prefix_u64(tk_bytes s)
 {
     if (s.len >= 2 && '0' <= s.at[1] && s.at[1] <= '9') {
@@ -2209,7 +2209,7 @@ TK_INLINE tk_option_pair_u64_size tk_digit_prefix_u64(tk_bytes s)
     return tk_none_pair_u64_size();
 }
 
-/* atoi_fast/src/quick.rt:25 */
+/* atoi_fast/src/quick.rt:50 */
 TK_INLINE tk_option_pair_u64_size tk_quick_prefix_u64(tk_bytes s)
 {
     if (s.len >= 3 && '0' <= s.at[1] && s.at[1] <= '9' && '0' <= s.at[2] && s.at[2] <= '9' && s.len >= 16) {
@@ -2237,7 +2237,7 @@ TK_INLINE tk_option_i128 tk_number_in_range_i128(uint64_t most, bool minus, uint
     return tk_some_i128(tk_from_parts_i128(minus, tk_u128_of(magnitude)));
 }
 
-/* atoi_fast/src/short_prefix.rt:74 */
+/* atoi_fast/src/short_prefix.rt:86 */
 TK_INLINE tk_option_pair_i128_size tk_prefix_of_two_words_i128(bool minus, uint64_t high, tk_bytes s)
 {
     uint64_t next = tk_load_full(tk_bytes_from(s, 8));
@@ -2255,7 +2255,7 @@ TK_INLINE tk_option_pair_i128_size tk_prefix_of_two_words_i128(bool minus, uint6
     return tk_some_pair_i128_size(tk_new_pair_i128_size(number, 8 + TK_CAST(size_t, more)));
 }
 
-/* atoi_fast/src/short_prefix.rt:33 */
+/* atoi_fast/src/short_prefix.rt:45 */
 TK_INLINE tk_option_pair_i128_size tk_prefix_of_words_i128(tk_bytes s)
 {
     uint64_t word = tk_load_full(s);
@@ -2292,7 +2292,7 @@ TK_INLINE tk_option_pair_i128_size tk_prefix_of_words_i128(tk_bytes s)
     return tk_some_pair_i128_size(tk_new_pair_i128_size(number, TK_CAST(size_t, len)));
 }
 
-/* atoi_fast/src/quick.rt:41 */
+/* atoi_fast/src/quick.rt:66 */
 TK_INLINE tk_option_pair_i128_size tk_digit_prefix_i128(tk_bytes s)
 {
     if (s.len >= 2 && '0' <= s.at[1] && s.at[1] <= '9') {
@@ -2306,7 +2306,7 @@ TK_INLINE tk_option_pair_i128_size tk_digit_prefix_i128(tk_bytes s)
     return tk_none_pair_i128_size();
 }
 
-/* atoi_fast/src/quick.rt:25 */
+/* atoi_fast/src/quick.rt:50 */
 TK_INLINE tk_option_pair_i128_size tk_quick_prefix_i128(tk_bytes s)
 {
     if (s.len >= 3 && '0' <= s.at[1] && s.at[1] <= '9' && '0' <= s.at[2] && s.at[2] <= '9' && s.len >= 16) {
@@ -2334,7 +2334,7 @@ TK_INLINE tk_option_u128 tk_number_in_range_u128(uint64_t most, bool minus, uint
     return tk_some_u128(tk_from_parts_u128(minus, tk_u128_of(magnitude)));
 }
 
-/* atoi_fast/src/short_prefix.rt:74 */
+/* atoi_fast/src/short_prefix.rt:86 */
 TK_INLINE tk_option_pair_u128_size tk_prefix_of_two_words_u128(bool minus, uint64_t high, tk_bytes s)
 {
     uint64_t next = tk_load_full(tk_bytes_from(s, 8));
@@ -2352,7 +2352,7 @@ TK_INLINE tk_option_pair_u128_size tk_prefix_of_two_words_u128(bool minus, uint6
     return tk_some_pair_u128_size(tk_new_pair_u128_size(number, 8 + TK_CAST(size_t, more)));
 }
 
-/* atoi_fast/src/short_prefix.rt:33 */
+/* atoi_fast/src/short_prefix.rt:45 */
 TK_INLINE tk_option_pair_u128_size tk_prefix_of_words_u128(tk_bytes s)
 {
     uint64_t word = tk_load_full(s);
@@ -2389,7 +2389,7 @@ TK_INLINE tk_option_pair_u128_size tk_prefix_of_words_u128(tk_bytes s)
     return tk_some_pair_u128_size(tk_new_pair_u128_size(number, TK_CAST(size_t, len)));
 }
 
-/* atoi_fast/src/quick.rt:41 */
+/* atoi_fast/src/quick.rt:66 */
 TK_INLINE tk_option_pair_u128_size tk_digit_prefix_u128(tk_bytes s)
 {
     if (s.len >= 2 && '0' <= s.at[1] && s.at[1] <= '9') {
@@ -2403,7 +2403,7 @@ TK_INLINE tk_option_pair_u128_size tk_digit_prefix_u128(tk_bytes s)
     return tk_none_pair_u128_size();
 }
 
-/* atoi_fast/src/quick.rt:25 */
+/* atoi_fast/src/quick.rt:50 */
 TK_INLINE tk_option_pair_u128_size tk_quick_prefix_u128(tk_bytes s)
 {
     if (s.len >= 3 && '0' <= s.at[1] && s.at[1] <= '9' && '0' <= s.at[2] && s.at[2] <= '9' && s.len >= 16) {

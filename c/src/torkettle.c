@@ -1511,7 +1511,7 @@ TK_CONSTEXPR tk_slice_u128 tk_slice_u128_shared(tk_room_u128 s)
  * Returns the word of the first 8 bytes from `at` on. If fewer follow, shifts the last 8 bytes of `s`
  * down.
  */
-/* atoi_fast/src/loads.rt:52 */
+/* atoi_fast/src/loads.rt:53 */
 TK_INLINE uint64_t tk_load_from(tk_bytes s, size_t at)
 {
     if (s.len == at) {
@@ -1538,7 +1538,7 @@ TK_HINTED tk_u128 tk_append_digits(uint64_t high, uint32_t digits, uint64_t low)
 }
 
 /* The number of 16 to 20 bytes, of which the first sixteen spell `high`, with a zero for a minus. */
-/* atoi_fast/src/short_prefix.rt:100 */
+/* atoi_fast/src/short_prefix.rt:112 */
 TK_FAR tk_option_pair_i64_size tk_prefix_of_three_words_i64(bool minus, uint64_t high, tk_bytes s)
 {
     uint64_t next = tk_load_from(s, 16);
@@ -1555,7 +1555,7 @@ TK_FAR tk_option_pair_i64_size tk_prefix_of_three_words_i64(bool minus, uint64_t
     return tk_some_pair_i64_size(tk_new_pair_i64_size(tk_from_parts_i64(minus, magnitude), 16 + TK_CAST(size_t, more)));
 }
 
-/* atoi_fast/src/short_prefix.rt:100 */
+/* atoi_fast/src/short_prefix.rt:112 */
 TK_FAR tk_option_pair_u64_size tk_prefix_of_three_words_u64(bool minus, uint64_t high, tk_bytes s)
 {
     uint64_t next = tk_load_from(s, 16);
@@ -1570,6 +1570,43 @@ TK_FAR tk_option_pair_u64_size tk_prefix_of_three_words_u64(bool minus, uint64_t
         return tk_none_pair_u64_size();
     }
     return tk_some_pair_u64_size(tk_new_pair_u64_size(tk_from_parts_u64(minus, magnitude), 16 + TK_CAST(size_t, more)));
+}
+
+/* Returns the number of one digit. */
+/* atoi_fast/src/short_slice.rt:13 */
+TK_INLINE int8_t tk_loaded_digit_i8(tk_bytes s)
+{
+    return tk_from_parts_i8(false, tk_u128_of(TK_CAST(uint8_t, s.at[tk_index(0, s.len)] - '0')));
+}
+
+/*
+ * Never inlined, so that a `+` is a branch: with a select, the digits' address would wait for the
+ * first byte.
+ */
+/* atoi_fast/src/sign.rt:46 */
+TK_NOINLINE tk_bytes tk_without_first(tk_bytes s)
+{
+    return tk_bytes_from(s, 1);
+}
+
+/* `atoi_core::take_sign`, with the same contract. It branches on a `+` alone. */
+/* atoi_fast/src/sign.rt:7 */
+TK_INLINE tk_pair_bool_bytes tk_sign_take_sign(bool signed_, bool skip_plus, tk_bytes s)
+{
+    if (!signed_ && !skip_plus) {
+        return tk_new_pair_bool_bytes(false, s);
+    }
+    if (s.len < 1) {
+        return tk_new_pair_bool_bytes(false, s);
+    }
+    uint8_t first = s.at[0];
+    /* Before the `+`: with the sign set on two paths, rustc 1.95 branches on it for `i128`. */
+    bool minus = signed_ & (first == '-');
+    if (skip_plus && first == '+') {
+        return tk_new_pair_bool_bytes(minus, tk_without_first(s));
+    }
+    /* Sliced by 0 or 1: with mixed signs, a branch would be mispredicted. */
+    return tk_new_pair_bool_bytes(minus, tk_bytes_from(s, TK_CAST(size_t, minus)));
 }
 
 /* A window that is not full, and so reports no zeros. */
@@ -1644,7 +1681,7 @@ TK_INLINE tk_window tk_window_of_one(tk_bytes s)
     return tk_window_not_full(0, 0);
 }
 
-/* atoi_fast/src/loads.rt:87 */
+/* atoi_fast/src/loads.rt:88 */
 TK_HINTED uint32_t tk_load_last_four(tk_bytes s)
 {
     if (s.len >= 4) {
@@ -1655,7 +1692,7 @@ TK_HINTED uint32_t tk_load_last_four(tk_bytes s)
 }
 
 /* `load_from` for four bytes, of which the first is there. */
-/* atoi_fast/src/loads.rt:71 */
+/* atoi_fast/src/loads.rt:72 */
 TK_INLINE uint32_t tk_load_four_from(tk_bytes s, size_t at)
 {
     if (s.len < at + 4) {
@@ -1669,7 +1706,7 @@ TK_INLINE uint32_t tk_load_four_from(tk_bytes s, size_t at)
     return 0;
 }
 
-/* atoi_fast/src/loads.rt:98 */
+/* atoi_fast/src/loads.rt:99 */
 TK_HINTED uint32_t tk_load_last_two(tk_bytes s)
 {
     if (s.len >= 2) {
@@ -1680,7 +1717,7 @@ TK_HINTED uint32_t tk_load_last_two(tk_bytes s)
 }
 
 /* Returns the factor that moves the lowest of `len` bytes to where `load_flipped` has the first byte. */
-/* atoi_fast/src/loads.rt:40 */
+/* atoi_fast/src/loads.rt:41 */
 TK_INLINE uint64_t tk_factor_of(size_t len)
 {
     return tk_u64_load(tk_short[tk_index(len, 9)]);
@@ -1690,7 +1727,8 @@ TK_INLINE uint64_t tk_factor_of(size_t len)
 /* atoi_fast/src/loads.rt:25 */
 TK_INLINE uint64_t tk_load_flipped(tk_bytes s)
 {
-    tk_bytes fours = s.len < 4 ? tk_bytes_of(tk_short[tk_index(0, 9)], 8) : s;
+    tk_bytes short_ = tk_bytes_of(tk_short[tk_index(0, 9)], 8);
+    tk_bytes fours = s.len < 4 ? short_ : s;
     uint32_t front = (TK_CAST(uint32_t, s.at[tk_index(0, s.len)]) | tk_load_four_from(fours, 0)) ^ TK_FOUR_ZEROS;
     uint32_t back = (tk_load_last_four(fours) | (tk_load_last_two(s) << 16)) ^ TK_FOUR_ZEROS;
     /* A product takes less time than a shift on many processors. */
@@ -1737,7 +1775,7 @@ TK_INLINE tk_window tk_window_up_to_8(tk_bytes s)
     return tk_new_window(digits - (8 - TK_CAST(uint32_t, s.len)), 0, tk_value_in_word(flipped ^ TK_ZEROS, digits));
 }
 
-/* atoi_fast/src/loads.rt:121 */
+/* atoi_fast/src/loads.rt:122 */
 TK_HINTED uint64_t tk_load_last(tk_bytes s)
 {
     if (s.len >= 8) {
@@ -2316,43 +2354,6 @@ TK_INLINE tk_result_i8 tk_whole_with_sign_i8(bool minus, bool skip, tk_bytes s)
     return tk_ok_i8(tk_from_parts_i8(minus, magnitude));
 }
 
-/* `atoi_core::whole_pos`, with the same contract. */
-/* atoi_fast/src/calls.rt:101 */
-TK_INLINE tk_result_i8 tk_whole_pos_i8(bool skip, tk_bytes s)
-{
-    return tk_whole_with_sign_i8(false, skip, s);
-}
-
-/*
- * Never inlined, so that a `+` is a branch: with a select, the digits' address would wait for the
- * first byte.
- */
-/* atoi_fast/src/sign.rt:46 */
-TK_NOINLINE tk_bytes tk_without_first(tk_bytes s)
-{
-    return tk_bytes_from(s, 1);
-}
-
-/* `atoi_core::take_sign`, with the same contract. It branches on a `+` alone. */
-/* atoi_fast/src/sign.rt:7 */
-TK_INLINE tk_pair_bool_bytes tk_sign_take_sign(bool signed_, bool skip_plus, tk_bytes s)
-{
-    if (!signed_ && !skip_plus) {
-        return tk_new_pair_bool_bytes(false, s);
-    }
-    if (s.len < 1) {
-        return tk_new_pair_bool_bytes(false, s);
-    }
-    uint8_t first = s.at[0];
-    /* Before the `+`: with the sign set on two paths, rustc 1.95 branches on it for `i128`. */
-    bool minus = signed_ & (first == '-');
-    if (skip_plus && first == '+') {
-        return tk_new_pair_bool_bytes(minus, tk_without_first(s));
-    }
-    /* Sliced by 0 or 1: with mixed signs, a branch would be mispredicted. */
-    return tk_new_pair_bool_bytes(minus, tk_bytes_from(s, TK_CAST(size_t, minus)));
-}
-
 /* `parse_text` for a byte that is no digit, or none. */
 /* atoi_fast/src/calls.rt:53 */
 TK_COLD tk_result_i8 tk_parse_no_digit_i8(bool skip, bool skip_plus, tk_bytes s)
@@ -2365,10 +2366,10 @@ TK_COLD tk_result_i8 tk_parse_no_digit_i8(bool skip, bool skip_plus, tk_bytes s)
 }
 
 /* Returns the number of a slice of 2 to 8 bytes, if all are digits after at most a minus. */
-/* atoi_fast/src/short_slice.rt:12 */
-TK_INLINE tk_option_i8 tk_short_signed_i8(tk_bytes s)
+/* atoi_fast/src/short_slice.rt:38 */
+TK_INLINE tk_option_i8 tk_short_slice_i8(tk_bytes s)
 {
-    bool minus = s.at[tk_index(0, s.len)] == '-';
+    bool minus = true & (s.at[tk_index(0, s.len)] == '-');
     /* A `-` that is flipped once more is the digit 0, without a branch. */
     uint64_t flipped = tk_load_flipped(s) ^ (tk_factor_of(s.len) * (0x1D * TK_CAST(uint64_t, minus)));
     if (tk_leading_digits_flipped(flipped) != 8) {
@@ -2377,13 +2378,20 @@ TK_INLINE tk_option_i8 tk_short_signed_i8(tk_bytes s)
     return tk_number_in_range_i8(TK_MOST_IN_WORD, minus, tk_sum_of(flipped));
 }
 
+/* `short_slice` for a signed type, which counts its load. */
+/* atoi_fast/src/short_slice.rt:25 */
+TK_INLINE tk_option_i8 tk_short_signed_i8(tk_bytes s)
+{
+    return tk_short_slice_i8(s);
+}
+
 /* `atoi_core::parse_text` for an engine of decimal digits, with the same clauses. */
 /* atoi_fast/src/calls.rt:24 */
 TK_INLINE tk_result_i8 tk_parse_text_i8(bool skip, bool skip_plus, tk_bytes s)
 {
     if (s.len <= 1) {
         if (s.len == 1 && '0' <= s.at[0] && s.at[0] <= '9') {
-            return tk_whole_pos_i8(skip, s);
+            return tk_ok_i8(tk_loaded_digit_i8(s));
         }
         return tk_parse_no_digit_i8(skip, skip_plus, s);
     }
@@ -2406,6 +2414,12 @@ TK_INLINE tk_result_i8 tk_atoi_simd_parse_i8(tk_bytes s, bool skip, bool skip_pl
     return tk_parse_text_i8(skip, skip_plus, s);
 }
 
+/* atoi_fast/src/short_slice.rt:13 */
+TK_INLINE uint8_t tk_loaded_digit_u8(tk_bytes s)
+{
+    return tk_from_parts_u8(false, tk_u128_of(TK_CAST(uint8_t, s.at[tk_index(0, s.len)] - '0')));
+}
+
 /* atoi_fast/src/calls.rt:128 */
 TK_INLINE tk_result_u8 tk_whole_with_sign_u8(bool minus, bool skip, tk_bytes s)
 {
@@ -2415,12 +2429,6 @@ TK_INLINE tk_result_u8 tk_whole_with_sign_u8(bool minus, bool skip, tk_bytes s)
     }
     tk_u128 magnitude = magnitude_found.value;
     return tk_ok_u8(tk_from_parts_u8(minus, magnitude));
-}
-
-/* atoi_fast/src/calls.rt:101 */
-TK_INLINE tk_result_u8 tk_whole_pos_u8(bool skip, tk_bytes s)
-{
-    return tk_whole_with_sign_u8(false, skip, s);
 }
 
 /* atoi_fast/src/calls.rt:53 */
@@ -2438,7 +2446,7 @@ TK_INLINE tk_result_u8 tk_parse_text_u8(bool skip, bool skip_plus, tk_bytes s)
 {
     if (s.len <= 1) {
         if (s.len == 1 && '0' <= s.at[0] && s.at[0] <= '9') {
-            return tk_whole_pos_u8(skip, s);
+            return tk_ok_u8(tk_loaded_digit_u8(s));
         }
         return tk_parse_no_digit_u8(skip, skip_plus, s);
     }
@@ -2454,6 +2462,12 @@ TK_INLINE tk_result_u8 tk_atoi_simd_parse_u8(tk_bytes s, bool skip, bool skip_pl
     return tk_parse_text_u8(skip, skip_plus, s);
 }
 
+/* atoi_fast/src/short_slice.rt:13 */
+TK_INLINE int16_t tk_loaded_digit_i16(tk_bytes s)
+{
+    return tk_from_parts_i16(false, tk_u128_of(TK_CAST(uint8_t, s.at[tk_index(0, s.len)] - '0')));
+}
+
 /* atoi_fast/src/calls.rt:128 */
 TK_INLINE tk_result_i16 tk_whole_with_sign_i16(bool minus, bool skip, tk_bytes s)
 {
@@ -2463,12 +2477,6 @@ TK_INLINE tk_result_i16 tk_whole_with_sign_i16(bool minus, bool skip, tk_bytes s
     }
     tk_u128 magnitude = magnitude_found.value;
     return tk_ok_i16(tk_from_parts_i16(minus, magnitude));
-}
-
-/* atoi_fast/src/calls.rt:101 */
-TK_INLINE tk_result_i16 tk_whole_pos_i16(bool skip, tk_bytes s)
-{
-    return tk_whole_with_sign_i16(false, skip, s);
 }
 
 /* atoi_fast/src/calls.rt:53 */
@@ -2481,10 +2489,10 @@ TK_COLD tk_result_i16 tk_parse_no_digit_i16(bool skip, bool skip_plus, tk_bytes 
     return tk_whole_with_sign_i16(minus, skip, tk_bytes_to(body, tk_size_min(body.len, 1)));
 }
 
-/* atoi_fast/src/short_slice.rt:12 */
-TK_INLINE tk_option_i16 tk_short_signed_i16(tk_bytes s)
+/* atoi_fast/src/short_slice.rt:38 */
+TK_INLINE tk_option_i16 tk_short_slice_i16(tk_bytes s)
 {
-    bool minus = s.at[tk_index(0, s.len)] == '-';
+    bool minus = true & (s.at[tk_index(0, s.len)] == '-');
     /* A `-` that is flipped once more is the digit 0, without a branch. */
     uint64_t flipped = tk_load_flipped(s) ^ (tk_factor_of(s.len) * (0x1D * TK_CAST(uint64_t, minus)));
     if (tk_leading_digits_flipped(flipped) != 8) {
@@ -2493,12 +2501,18 @@ TK_INLINE tk_option_i16 tk_short_signed_i16(tk_bytes s)
     return tk_number_in_range_i16(TK_MOST_IN_WORD, minus, tk_sum_of(flipped));
 }
 
+/* atoi_fast/src/short_slice.rt:25 */
+TK_INLINE tk_option_i16 tk_short_signed_i16(tk_bytes s)
+{
+    return tk_short_slice_i16(s);
+}
+
 /* atoi_fast/src/calls.rt:24 */
 TK_INLINE tk_result_i16 tk_parse_text_i16(bool skip, bool skip_plus, tk_bytes s)
 {
     if (s.len <= 1) {
         if (s.len == 1 && '0' <= s.at[0] && s.at[0] <= '9') {
-            return tk_whole_pos_i16(skip, s);
+            return tk_ok_i16(tk_loaded_digit_i16(s));
         }
         return tk_parse_no_digit_i16(skip, skip_plus, s);
     }
@@ -2521,6 +2535,12 @@ TK_INLINE tk_result_i16 tk_atoi_simd_parse_i16(tk_bytes s, bool skip, bool skip_
     return tk_parse_text_i16(skip, skip_plus, s);
 }
 
+/* atoi_fast/src/short_slice.rt:13 */
+TK_INLINE uint16_t tk_loaded_digit_u16(tk_bytes s)
+{
+    return tk_from_parts_u16(false, tk_u128_of(TK_CAST(uint8_t, s.at[tk_index(0, s.len)] - '0')));
+}
+
 /* atoi_fast/src/calls.rt:128 */
 TK_INLINE tk_result_u16 tk_whole_with_sign_u16(bool minus, bool skip, tk_bytes s)
 {
@@ -2530,12 +2550,6 @@ TK_INLINE tk_result_u16 tk_whole_with_sign_u16(bool minus, bool skip, tk_bytes s
     }
     tk_u128 magnitude = magnitude_found.value;
     return tk_ok_u16(tk_from_parts_u16(minus, magnitude));
-}
-
-/* atoi_fast/src/calls.rt:101 */
-TK_INLINE tk_result_u16 tk_whole_pos_u16(bool skip, tk_bytes s)
-{
-    return tk_whole_with_sign_u16(false, skip, s);
 }
 
 /* atoi_fast/src/calls.rt:53 */
@@ -2553,7 +2567,7 @@ TK_INLINE tk_result_u16 tk_parse_text_u16(bool skip, bool skip_plus, tk_bytes s)
 {
     if (s.len <= 1) {
         if (s.len == 1 && '0' <= s.at[0] && s.at[0] <= '9') {
-            return tk_whole_pos_u16(skip, s);
+            return tk_ok_u16(tk_loaded_digit_u16(s));
         }
         return tk_parse_no_digit_u16(skip, skip_plus, s);
     }
@@ -2569,6 +2583,12 @@ TK_INLINE tk_result_u16 tk_atoi_simd_parse_u16(tk_bytes s, bool skip, bool skip_
     return tk_parse_text_u16(skip, skip_plus, s);
 }
 
+/* atoi_fast/src/short_slice.rt:13 */
+TK_INLINE int32_t tk_loaded_digit_i32(tk_bytes s)
+{
+    return tk_from_parts_i32(false, tk_u128_of(TK_CAST(uint8_t, s.at[tk_index(0, s.len)] - '0')));
+}
+
 /* atoi_fast/src/calls.rt:128 */
 TK_INLINE tk_result_i32 tk_whole_with_sign_i32(bool minus, bool skip, tk_bytes s)
 {
@@ -2578,12 +2598,6 @@ TK_INLINE tk_result_i32 tk_whole_with_sign_i32(bool minus, bool skip, tk_bytes s
     }
     tk_u128 magnitude = magnitude_found.value;
     return tk_ok_i32(tk_from_parts_i32(minus, magnitude));
-}
-
-/* atoi_fast/src/calls.rt:101 */
-TK_INLINE tk_result_i32 tk_whole_pos_i32(bool skip, tk_bytes s)
-{
-    return tk_whole_with_sign_i32(false, skip, s);
 }
 
 /* atoi_fast/src/calls.rt:53 */
@@ -2596,10 +2610,10 @@ TK_COLD tk_result_i32 tk_parse_no_digit_i32(bool skip, bool skip_plus, tk_bytes 
     return tk_whole_with_sign_i32(minus, skip, tk_bytes_to(body, tk_size_min(body.len, 1)));
 }
 
-/* atoi_fast/src/short_slice.rt:12 */
-TK_INLINE tk_option_i32 tk_short_signed_i32(tk_bytes s)
+/* atoi_fast/src/short_slice.rt:38 */
+TK_INLINE tk_option_i32 tk_short_slice_i32(tk_bytes s)
 {
-    bool minus = s.at[tk_index(0, s.len)] == '-';
+    bool minus = true & (s.at[tk_index(0, s.len)] == '-');
     /* A `-` that is flipped once more is the digit 0, without a branch. */
     uint64_t flipped = tk_load_flipped(s) ^ (tk_factor_of(s.len) * (0x1D * TK_CAST(uint64_t, minus)));
     if (tk_leading_digits_flipped(flipped) != 8) {
@@ -2608,12 +2622,18 @@ TK_INLINE tk_option_i32 tk_short_signed_i32(tk_bytes s)
     return tk_number_in_range_i32(TK_MOST_IN_WORD, minus, tk_sum_of(flipped));
 }
 
+/* atoi_fast/src/short_slice.rt:25 */
+TK_INLINE tk_option_i32 tk_short_signed_i32(tk_bytes s)
+{
+    return tk_short_slice_i32(s);
+}
+
 /* atoi_fast/src/calls.rt:24 */
 TK_INLINE tk_result_i32 tk_parse_text_i32(bool skip, bool skip_plus, tk_bytes s)
 {
     if (s.len <= 1) {
         if (s.len == 1 && '0' <= s.at[0] && s.at[0] <= '9') {
-            return tk_whole_pos_i32(skip, s);
+            return tk_ok_i32(tk_loaded_digit_i32(s));
         }
         return tk_parse_no_digit_i32(skip, skip_plus, s);
     }
@@ -2636,6 +2656,12 @@ TK_INLINE tk_result_i32 tk_atoi_simd_parse_i32(tk_bytes s, bool skip, bool skip_
     return tk_parse_text_i32(skip, skip_plus, s);
 }
 
+/* atoi_fast/src/short_slice.rt:13 */
+TK_INLINE uint32_t tk_loaded_digit_u32(tk_bytes s)
+{
+    return tk_from_parts_u32(false, tk_u128_of(TK_CAST(uint8_t, s.at[tk_index(0, s.len)] - '0')));
+}
+
 /* atoi_fast/src/calls.rt:128 */
 TK_INLINE tk_result_u32 tk_whole_with_sign_u32(bool minus, bool skip, tk_bytes s)
 {
@@ -2646,12 +2672,6 @@ TK_INLINE tk_result_u32 tk_whole_with_sign_u32(bool minus, bool skip, tk_bytes s
     }
     tk_u128 magnitude = magnitude_found.value;
     return tk_ok_u32(tk_from_parts_u32(minus, magnitude));
-}
-
-/* atoi_fast/src/calls.rt:101 */
-TK_INLINE tk_result_u32 tk_whole_pos_u32(bool skip, tk_bytes s)
-{
-    return tk_whole_with_sign_u32(false, skip, s);
 }
 
 /* atoi_fast/src/calls.rt:53 */
@@ -2669,7 +2689,7 @@ TK_INLINE tk_result_u32 tk_parse_text_u32(bool skip, bool skip_plus, tk_bytes s)
 {
     if (s.len <= 1) {
         if (s.len == 1 && '0' <= s.at[0] && s.at[0] <= '9') {
-            return tk_whole_pos_u32(skip, s);
+            return tk_ok_u32(tk_loaded_digit_u32(s));
         }
         return tk_parse_no_digit_u32(skip, skip_plus, s);
     }
@@ -2685,6 +2705,12 @@ TK_INLINE tk_result_u32 tk_atoi_simd_parse_u32(tk_bytes s, bool skip, bool skip_
     return tk_parse_text_u32(skip, skip_plus, s);
 }
 
+/* atoi_fast/src/short_slice.rt:13 */
+TK_INLINE int64_t tk_loaded_digit_i64(tk_bytes s)
+{
+    return tk_from_parts_i64(false, tk_u128_of(TK_CAST(uint8_t, s.at[tk_index(0, s.len)] - '0')));
+}
+
 /* atoi_fast/src/calls.rt:128 */
 TK_INLINE tk_result_i64 tk_whole_with_sign_i64(bool minus, bool skip, tk_bytes s)
 {
@@ -2697,12 +2723,6 @@ TK_INLINE tk_result_i64 tk_whole_with_sign_i64(bool minus, bool skip, tk_bytes s
     return tk_ok_i64(tk_from_parts_i64(minus, magnitude));
 }
 
-/* atoi_fast/src/calls.rt:101 */
-TK_INLINE tk_result_i64 tk_whole_pos_i64(bool skip, tk_bytes s)
-{
-    return tk_whole_with_sign_i64(false, skip, s);
-}
-
 /* atoi_fast/src/calls.rt:53 */
 TK_COLD tk_result_i64 tk_parse_no_digit_i64(bool skip, bool skip_plus, tk_bytes s)
 {
@@ -2713,10 +2733,10 @@ TK_COLD tk_result_i64 tk_parse_no_digit_i64(bool skip, bool skip_plus, tk_bytes 
     return tk_whole_with_sign_i64(minus, skip, tk_bytes_to(body, tk_size_min(body.len, 1)));
 }
 
-/* atoi_fast/src/short_slice.rt:12 */
-TK_INLINE tk_option_i64 tk_short_signed_i64(tk_bytes s)
+/* atoi_fast/src/short_slice.rt:38 */
+TK_INLINE tk_option_i64 tk_short_slice_i64(tk_bytes s)
 {
-    bool minus = s.at[tk_index(0, s.len)] == '-';
+    bool minus = true & (s.at[tk_index(0, s.len)] == '-');
     /* A `-` that is flipped once more is the digit 0, without a branch. */
     uint64_t flipped = tk_load_flipped(s) ^ (tk_factor_of(s.len) * (0x1D * TK_CAST(uint64_t, minus)));
     if (tk_leading_digits_flipped(flipped) != 8) {
@@ -2725,12 +2745,18 @@ TK_INLINE tk_option_i64 tk_short_signed_i64(tk_bytes s)
     return tk_number_in_range_i64(TK_MOST_IN_WORD, minus, tk_sum_of(flipped));
 }
 
+/* atoi_fast/src/short_slice.rt:25 */
+TK_INLINE tk_option_i64 tk_short_signed_i64(tk_bytes s)
+{
+    return tk_short_slice_i64(s);
+}
+
 /* atoi_fast/src/calls.rt:24 */
 TK_INLINE tk_result_i64 tk_parse_text_i64(bool skip, bool skip_plus, tk_bytes s)
 {
     if (s.len <= 1) {
         if (s.len == 1 && '0' <= s.at[0] && s.at[0] <= '9') {
-            return tk_whole_pos_i64(skip, s);
+            return tk_ok_i64(tk_loaded_digit_i64(s));
         }
         return tk_parse_no_digit_i64(skip, skip_plus, s);
     }
@@ -2753,6 +2779,12 @@ TK_INLINE tk_result_i64 tk_atoi_simd_parse_i64(tk_bytes s, bool skip, bool skip_
     return tk_parse_text_i64(skip, skip_plus, s);
 }
 
+/* atoi_fast/src/short_slice.rt:13 */
+TK_INLINE uint64_t tk_loaded_digit_u64(tk_bytes s)
+{
+    return tk_from_parts_u64(false, tk_u128_of(TK_CAST(uint8_t, s.at[tk_index(0, s.len)] - '0')));
+}
+
 /* atoi_fast/src/calls.rt:128 */
 TK_INLINE tk_result_u64 tk_whole_with_sign_u64(bool minus, bool skip, tk_bytes s)
 {
@@ -2763,12 +2795,6 @@ TK_INLINE tk_result_u64 tk_whole_with_sign_u64(bool minus, bool skip, tk_bytes s
     }
     tk_u128 magnitude = magnitude_found.value;
     return tk_ok_u64(tk_from_parts_u64(minus, magnitude));
-}
-
-/* atoi_fast/src/calls.rt:101 */
-TK_INLINE tk_result_u64 tk_whole_pos_u64(bool skip, tk_bytes s)
-{
-    return tk_whole_with_sign_u64(false, skip, s);
 }
 
 /* atoi_fast/src/calls.rt:53 */
@@ -2786,7 +2812,7 @@ TK_INLINE tk_result_u64 tk_parse_text_u64(bool skip, bool skip_plus, tk_bytes s)
 {
     if (s.len <= 1) {
         if (s.len == 1 && '0' <= s.at[0] && s.at[0] <= '9') {
-            return tk_whole_pos_u64(skip, s);
+            return tk_ok_u64(tk_loaded_digit_u64(s));
         }
         return tk_parse_no_digit_u64(skip, skip_plus, s);
     }
@@ -2802,6 +2828,12 @@ TK_INLINE tk_result_u64 tk_atoi_simd_parse_u64(tk_bytes s, bool skip, bool skip_
     return tk_parse_text_u64(skip, skip_plus, s);
 }
 
+/* atoi_fast/src/short_slice.rt:13 */
+TK_INLINE tk_i128 tk_loaded_digit_i128(tk_bytes s)
+{
+    return tk_from_parts_i128(false, tk_u128_of(TK_CAST(uint8_t, s.at[tk_index(0, s.len)] - '0')));
+}
+
 /* atoi_fast/src/calls.rt:128 */
 TK_INLINE tk_result_i128 tk_whole_with_sign_i128(bool minus, bool skip, tk_bytes s)
 {
@@ -2814,12 +2846,6 @@ TK_INLINE tk_result_i128 tk_whole_with_sign_i128(bool minus, bool skip, tk_bytes
     }
     tk_u128 magnitude = magnitude_found.value;
     return tk_ok_i128(tk_from_parts_i128(minus, magnitude));
-}
-
-/* atoi_fast/src/calls.rt:101 */
-TK_INLINE tk_result_i128 tk_whole_pos_i128(bool skip, tk_bytes s)
-{
-    return tk_whole_with_sign_i128(false, skip, s);
 }
 
 /* atoi_fast/src/calls.rt:53 */
@@ -2837,7 +2863,7 @@ TK_INLINE tk_result_i128 tk_parse_text_i128(bool skip, bool skip_plus, tk_bytes 
 {
     if (s.len <= 1) {
         if (s.len == 1 && '0' <= s.at[0] && s.at[0] <= '9') {
-            return tk_whole_pos_i128(skip, s);
+            return tk_ok_i128(tk_loaded_digit_i128(s));
         }
         return tk_parse_no_digit_i128(skip, skip_plus, s);
     }
@@ -2853,6 +2879,12 @@ TK_INLINE tk_result_i128 tk_atoi_simd_parse_i128(tk_bytes s, bool skip, bool ski
     return tk_parse_text_i128(skip, skip_plus, s);
 }
 
+/* atoi_fast/src/short_slice.rt:13 */
+TK_INLINE tk_u128 tk_loaded_digit_u128(tk_bytes s)
+{
+    return tk_from_parts_u128(false, tk_u128_of(TK_CAST(uint8_t, s.at[tk_index(0, s.len)] - '0')));
+}
+
 /* atoi_fast/src/calls.rt:128 */
 TK_INLINE tk_result_u128 tk_whole_with_sign_u128(bool minus, bool skip, tk_bytes s)
 {
@@ -2865,12 +2897,6 @@ TK_INLINE tk_result_u128 tk_whole_with_sign_u128(bool minus, bool skip, tk_bytes
     }
     tk_u128 magnitude = magnitude_found.value;
     return tk_ok_u128(tk_from_parts_u128(minus, magnitude));
-}
-
-/* atoi_fast/src/calls.rt:101 */
-TK_INLINE tk_result_u128 tk_whole_pos_u128(bool skip, tk_bytes s)
-{
-    return tk_whole_with_sign_u128(false, skip, s);
 }
 
 /* atoi_fast/src/calls.rt:53 */
@@ -2888,7 +2914,7 @@ TK_INLINE tk_result_u128 tk_parse_text_u128(bool skip, bool skip_plus, tk_bytes 
 {
     if (s.len <= 1) {
         if (s.len == 1 && '0' <= s.at[0] && s.at[0] <= '9') {
-            return tk_whole_pos_u128(skip, s);
+            return tk_ok_u128(tk_loaded_digit_u128(s));
         }
         return tk_parse_no_digit_u128(skip, skip_plus, s);
     }
@@ -3049,7 +3075,7 @@ TK_NOINLINE tk_result_pair_i8_size tk_atoi_simd_parse_prefix_i8(tk_bytes s, bool
     return tk_parse_prefix_text_i8(skip, skip_plus, s);
 }
 
-/* atoi_fast/src/short_prefix.rt:124 */
+/* atoi_fast/src/short_prefix.rt:136 */
 TK_INLINE tk_option_pair_u8_size tk_unsigned_prefix_u8(tk_bytes s)
 {
     uint64_t word = tk_load_full(s);
@@ -3164,7 +3190,7 @@ TK_NOINLINE tk_result_pair_i16_size tk_atoi_simd_parse_prefix_i16(tk_bytes s, bo
     return tk_parse_prefix_text_i16(skip, skip_plus, s);
 }
 
-/* atoi_fast/src/short_prefix.rt:124 */
+/* atoi_fast/src/short_prefix.rt:136 */
 TK_INLINE tk_option_pair_u16_size tk_unsigned_prefix_u16(tk_bytes s)
 {
     uint64_t word = tk_load_full(s);
@@ -3279,7 +3305,7 @@ TK_NOINLINE tk_result_pair_i32_size tk_atoi_simd_parse_prefix_i32(tk_bytes s, bo
     return tk_parse_prefix_text_i32(skip, skip_plus, s);
 }
 
-/* atoi_fast/src/short_prefix.rt:124 */
+/* atoi_fast/src/short_prefix.rt:136 */
 TK_INLINE tk_option_pair_u32_size tk_unsigned_prefix_u32(tk_bytes s)
 {
     uint64_t word = tk_load_full(s);
@@ -3395,7 +3421,7 @@ TK_NOINLINE tk_result_pair_i64_size tk_atoi_simd_parse_prefix_i64(tk_bytes s, bo
     return tk_parse_prefix_text_i64(skip, skip_plus, s);
 }
 
-/* atoi_fast/src/short_prefix.rt:124 */
+/* atoi_fast/src/short_prefix.rt:136 */
 TK_INLINE tk_option_pair_u64_size tk_unsigned_prefix_u64(tk_bytes s)
 {
     uint64_t word = tk_load_full(s);
@@ -3513,7 +3539,7 @@ TK_NOINLINE tk_result_pair_i128_size tk_atoi_simd_parse_prefix_i128(tk_bytes s, 
     return tk_parse_prefix_text_i128(skip, skip_plus, s);
 }
 
-/* atoi_fast/src/short_prefix.rt:124 */
+/* atoi_fast/src/short_prefix.rt:136 */
 TK_INLINE tk_option_pair_u128_size tk_unsigned_prefix_u128(tk_bytes s)
 {
     uint64_t word = tk_load_full(s);
@@ -3581,10 +3607,23 @@ TK_NOINLINE tk_result_pair_u128_size tk_atoi_simd_parse_prefix_u128(tk_bytes s, 
     return tk_parse_prefix_text_u128(skip, skip_plus, s);
 }
 
+/* `atoi_core::whole_pos`, with the same contract. */
+/* atoi_fast/src/calls.rt:101 */
+TK_INLINE tk_result_i8 tk_whole_pos_i8(bool skip, tk_bytes s)
+{
+    return tk_whole_with_sign_i8(false, skip, s);
+}
+
 /* atoi_simd/src/parse_pos_trait.rt:37 */
 TK_INLINE tk_result_i8 tk_atoi_simd_parse_pos_i8(tk_bytes s, bool skip)
 {
     return tk_whole_pos_i8(skip, s);
+}
+
+/* atoi_fast/src/calls.rt:101 */
+TK_INLINE tk_result_u8 tk_whole_pos_u8(bool skip, tk_bytes s)
+{
+    return tk_whole_with_sign_u8(false, skip, s);
 }
 
 /* atoi_simd/src/parse_pos_trait.rt:25 */
@@ -3593,10 +3632,22 @@ TK_INLINE tk_result_u8 tk_atoi_simd_parse_pos_u8(tk_bytes s, bool skip)
     return tk_whole_pos_u8(skip, s);
 }
 
+/* atoi_fast/src/calls.rt:101 */
+TK_INLINE tk_result_i16 tk_whole_pos_i16(bool skip, tk_bytes s)
+{
+    return tk_whole_with_sign_i16(false, skip, s);
+}
+
 /* atoi_simd/src/parse_pos_trait.rt:61 */
 TK_INLINE tk_result_i16 tk_atoi_simd_parse_pos_i16(tk_bytes s, bool skip)
 {
     return tk_whole_pos_i16(skip, s);
+}
+
+/* atoi_fast/src/calls.rt:101 */
+TK_INLINE tk_result_u16 tk_whole_pos_u16(bool skip, tk_bytes s)
+{
+    return tk_whole_with_sign_u16(false, skip, s);
 }
 
 /* atoi_simd/src/parse_pos_trait.rt:49 */
@@ -3605,10 +3656,22 @@ TK_INLINE tk_result_u16 tk_atoi_simd_parse_pos_u16(tk_bytes s, bool skip)
     return tk_whole_pos_u16(skip, s);
 }
 
+/* atoi_fast/src/calls.rt:101 */
+TK_INLINE tk_result_i32 tk_whole_pos_i32(bool skip, tk_bytes s)
+{
+    return tk_whole_with_sign_i32(false, skip, s);
+}
+
 /* atoi_simd/src/parse_pos_trait.rt:85 */
 TK_INLINE tk_result_i32 tk_atoi_simd_parse_pos_i32(tk_bytes s, bool skip)
 {
     return tk_whole_pos_i32(skip, s);
+}
+
+/* atoi_fast/src/calls.rt:101 */
+TK_INLINE tk_result_u32 tk_whole_pos_u32(bool skip, tk_bytes s)
+{
+    return tk_whole_with_sign_u32(false, skip, s);
 }
 
 /* atoi_simd/src/parse_pos_trait.rt:73 */
@@ -3617,10 +3680,22 @@ TK_INLINE tk_result_u32 tk_atoi_simd_parse_pos_u32(tk_bytes s, bool skip)
     return tk_whole_pos_u32(skip, s);
 }
 
+/* atoi_fast/src/calls.rt:101 */
+TK_INLINE tk_result_i64 tk_whole_pos_i64(bool skip, tk_bytes s)
+{
+    return tk_whole_with_sign_i64(false, skip, s);
+}
+
 /* atoi_simd/src/parse_pos_trait.rt:133 */
 TK_INLINE tk_result_i64 tk_atoi_simd_parse_pos_i64(tk_bytes s, bool skip)
 {
     return tk_whole_pos_i64(skip, s);
+}
+
+/* atoi_fast/src/calls.rt:101 */
+TK_INLINE tk_result_u64 tk_whole_pos_u64(bool skip, tk_bytes s)
+{
+    return tk_whole_with_sign_u64(false, skip, s);
 }
 
 /* atoi_simd/src/parse_pos_trait.rt:121 */
@@ -3629,10 +3704,22 @@ TK_INLINE tk_result_u64 tk_atoi_simd_parse_pos_u64(tk_bytes s, bool skip)
     return tk_whole_pos_u64(skip, s);
 }
 
+/* atoi_fast/src/calls.rt:101 */
+TK_INLINE tk_result_i128 tk_whole_pos_i128(bool skip, tk_bytes s)
+{
+    return tk_whole_with_sign_i128(false, skip, s);
+}
+
 /* atoi_simd/src/parse_pos_trait.rt:157 */
 TK_INLINE tk_result_i128 tk_atoi_simd_parse_pos_i128(tk_bytes s, bool skip)
 {
     return tk_whole_pos_i128(skip, s);
+}
+
+/* atoi_fast/src/calls.rt:101 */
+TK_INLINE tk_result_u128 tk_whole_pos_u128(bool skip, tk_bytes s)
+{
+    return tk_whole_with_sign_u128(false, skip, s);
 }
 
 /* atoi_simd/src/parse_pos_trait.rt:145 */

@@ -18,3 +18,4 @@ pub mod ShortPrefixes
 pub mod FirstBytes
 pub mod ShortSlices
 pub mod ByDigits
+pub mod TwoWordSlices

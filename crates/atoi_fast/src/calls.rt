@@ -11,7 +11,7 @@ ghost use Rattle.atoi_core.specs.Refusal.{answer_of};
 ghost use Rattle.atoi_core.specs.Sign.{sign_of};
 
 use crate::short_prefix::short_prefix;
-use crate::short_slice::short_signed;
+use crate::short_slice::{loaded_digit, short_signed};
 use crate::sign::{sign_by_branch, take_sign};
 use atoi_core::wide_answer::found_or_empty;
 use atoi_core::{
@@ -34,7 +34,7 @@ pub fn parse_text<'a, E: Engine, T: Number>(
 {
     if s.len() <= 1 {
         return match s {
-            [b'0'..=b'9'] => whole_pos::<E, T>(skip, s, steps),
+            [b'0'..=b'9'] => Ok(loaded_digit(s, steps)),
             _ => parse_no_digit::<E, T>(skip, skip_plus, s, steps),
         };
     }

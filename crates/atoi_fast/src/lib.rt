@@ -5,6 +5,7 @@
 
 mod after_16;
 mod by_digits;
+pub mod called;
 mod calls;
 mod digits;
 mod in_range;
@@ -19,6 +20,6 @@ mod vectors;
 
 pub use crate::by_digits::{prefix_by_digits, whole_by_digits};
 pub use crate::calls::{parse_prefix_text, parse_text, whole_neg, whole_pos};
-pub use crate::quick::{one_digit, quick_prefix};
+pub use crate::quick::{long_slice, one_digit, quick_prefix, quick_slice};
 pub use crate::swar::Swar;
 pub use crate::vectors::Vectors;

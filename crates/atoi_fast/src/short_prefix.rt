@@ -27,6 +27,18 @@ pub(crate) fn short_prefix<T: Number>(s: &[u8], steps: &mut Steps) -> Option<(T,
     }
 }
 
+/// `prefix_of_words`, which counts its load.
+#[inline(always)]
+pub(crate) fn loaded_prefix<T: Number>(s: &[u8], steps: &mut Steps) -> Option<(T, usize)>
+    requires { 16 ≤ length s.now }
+    ensures answer { IfSome result (λ found. BeginsWithNumber T.int_type s.now (T.number found.0) found.1) }
+    ensures short { IfSome result (λ found. found.1 ≤ 20) }
+    ensures one_step { steps.new ≡ steps.old + 1 }
+{
+    steps.tick();
+    prefix_of_words(s)
+}
+
 /// Returns the number at the start of `s` and its length, if that is below 16 or, for `i64` and `u64`, at most 19
 /// digits. Others may be `None`, too.
 #[inline(always)]

@@ -1,20 +1,21 @@
 -- Numbers of so few digits that no limit refuses them.
-use Rattle.std.proofs.Common.{◌≡◌, ℕ, ◌<◌, ◌≤◌, ◌+◌, ◌==◌, Bool, true, false, List, [], ◌∷◌, length, take, drop, Option, Some, None, IfSome, ℤ, Ok, refl, sym, ap, ap₂, suc, ◌∙◌, arith, if◌then◌else◌}
+use Rattle.std.proofs.Common.{◌≡◌, ℕ, ◌<◌, ◌≤◌, ◌+◌, ◌==◌, Bool, true, false, List, [], ◌∷◌, length, take, drop, get_or, Option, Some, None, IfSome, ℤ, Ok, refl, sym, ap, ap₂, suc, ◌∙◌, arith, if◌then◌else◌}
 use Rattle.std.proofs.lemmas.Bool.Decides.{nat_tests}
 use Rattle.atoi_core.specs.Digit.{Table, decimal_table, is_digit}
 use Rattle.atoi_core.specs.Run.{run_len, zeros, run, value}
-use Rattle.atoi_core.specs.Loads.{LoadsWithin}
+use Rattle.atoi_core.specs.Loads.{LoadsWithin, most_loads}
 use Rattle.atoi_core.specs.Laws.{looked_for}
-use Rattle.atoi_core.specs.Magnitude.{Extent, whole, prefix, is_above, refusal}
+use Rattle.atoi_core.specs.Magnitude.{Class, Extent, whole, prefix, is_above, refusal}
 use Rattle.atoi_core.specs.IntType.{IntType, IsSized, class_of, bound_of, limit_of}
-use Rattle.atoi_core.specs.Sign.{sign_of, with_sign}
+use Rattle.atoi_core.specs.Sign.{Sign, sign_of, with_sign}
 use Rattle.atoi_core.specs.Answer.{whole_answer, prefix_answer, with_more}
 use Rattle.atoi_core.proofs.lemmas.Refusals.{limit_at, significant_len, refusal-none}
 use Rattle.atoi_core.proofs.lemmas.Bounds.{limit-least}
 use Rattle.atoi_core.proofs.lemmas.Runs.{run_all, zeros-le}
 use Rattle.std.proofs.lemmas.List.{length-drop}
 use Rattle.std.proofs.lemmas.List.Sums.{prefix_len-le-length}
-use Rattle.atoi_core.proofs.lemmas.Calls.{found_prefix, length-taken, sign_of_digits, to_whole}
+use Rattle.atoi_core.proofs.lemmas.Calls.{found_prefix, from_whole, length-taken, sign_of_digits, to_whole, with_more-zero}
+use Rattle.atoi_core.proofs.lemmas.Prefixes.{prefix_is_whole}
 use Rattle.atoi_fast.specs.Short.{IsNumber, BeginsWithNumber, HasMinus, zero_for_minus}
 
 -- No limit refuses so many digits.
@@ -100,6 +101,24 @@ whole_is int true s number has some few all number_is in_range = λ skip plus.
     (whole_of_body int true body (omega (arith, length-drop 1 s)) (omega (arith, length-drop 1 s, sixteen_fit int))
     (omega arith) count skip)
 
+-- A number at the start that ends with the slice.
+pub whole_begins : (int : IntType) (s : List ℕ) (number : ℤ) (len : ℕ) → BeginsWithNumber int s number len → len ≡ length s
+    → IsNumber int s number
+whole_begins int s number len begins all = λ skip plus.
+    sym ((prefix_is_whole int).whole (looked_for plus) skip s number (sym (begins skip plus) ∙ ap (λ n. Ok (number, n)) all))
+
+pub starts_with_digit : (s : List ℕ) → 1 ≤ length s → 48 ≤ get_or s 0 0 → get_or s 0 0 ≤ 57 → 0 < run_len decimal_table s
+starts_with_digit [] some low high = absurd (omega arith)
+starts_with_digit (b ∷ bs) some low high = grind (arith, nat_tests)
+
+-- A number at the start that begins with a digit has no sign.
+pub begins_with_digit : (int : IntType) (skip : Bool) (s : List ℕ) (number : ℤ) (len : ℕ) → 0 < run_len decimal_table s
+    → BeginsWithNumber int s number len → Ok (number, len) ≡ prefix_answer decimal_table int false skip s
+begins_with_digit int skip s number len some begins =
+    begins skip false
+    ∙ ap (λ (g : Sign). with_more g.taken (prefix_answer decimal_table int g.minus skip g.body)) (sign_of_digits int.signed false s some)
+    ∙ with_more-zero (prefix_answer decimal_table int false skip s)
+
 -- A number, if the type has it.
 pub if_in_range : {T : Type 0} (number : T → ℤ) (int : IntType) (s : List ℕ) (minus : Bool) (magnitude : ℕ) (found : Option T)
     → IfSome found (λ n. magnitude ≤ bound_of int minus) → IfSome found (λ n. number n ≡ with_sign minus magnitude)
@@ -136,3 +155,29 @@ one_load table most skip body some few one = record {
   at_least = λ _. omega (arith, one);
   at_least_skipping = λ _. omega (arith, few, one);
 }
+
+pub short_load : (table : Table) (class : Class) (skip : Bool) (body : List ℕ) {before after : ℕ} → length body < 16 → after ≡ before + 1
+    → LoadsWithin (most_loads table class body + 1) table skip body before after
+short_load table class skip body few one =
+    one_load table (most_loads table class body + 1) skip body (omega arith)
+    (omega (arith, few, zeros-le table body, prefix_len-le-length (is_digit table) body)) one
+
+-- ---- Whole slices at the start of a slice, and without a sign
+
+pub prefix_of_whole : (int : IntType) (s : List ℕ) (number : ℤ) → length s ≤ 16 → IsNumber int s number
+    → BeginsWithNumber int s number (length s)
+prefix_of_whole int s number few is = λ skip plus.
+    let g = sign_of int.signed plus s in
+    let found = from_whole int g.minus skip g.body number (sym (is skip plus)) in
+    let within : run_len decimal_table g.body ≤ most_digits int =
+    omega (arith, few, found.all, body-le int.signed plus s, sixteen_fit int) in
+    let len_is : length s ≡ run_len decimal_table g.body + g.taken = omega (arith, found.all, length-taken int (looked_for plus) s) in
+    rw found.number
+    (prefix_of_body int g.minus g.body found.some within found.in_range skip g.taken (length s)
+    (value decimal_table (run decimal_table g.body)) refl len_is)
+
+pub whole_with_digit : (int : IntType) (skip : Bool) (s : List ℕ) (number : ℤ) → 0 < run_len decimal_table s
+    → IsNumber int s number → Ok number ≡ whole_answer decimal_table int false skip s
+whole_with_digit int skip s number some is =
+    is skip false
+    ∙ ap (λ (g : Sign). whole_answer decimal_table int g.minus skip g.body) (sign_of_digits int.signed false s some)

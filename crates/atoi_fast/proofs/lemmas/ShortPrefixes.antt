@@ -19,7 +19,7 @@ use Rattle.atoi_fast.specs.Short.{BeginsWithNumber, HasMinus, zero_for_minus}
 use Rattle.atoi_fast.proofs.lemmas.ShortNumbers.{most_digits, sixteen_fit, prefix_is}
 use Rattle.atoi_fast.proofs.lemmas.SignedWords.{zeroed, marks_after_first, one_digit, first_byte, zeroed_fits, zeroed_word}
 
-rest_after_minus : (minus : Bool) (front : ℕ) (s : List ℕ) → 0 < front → drop front (zero_for_minus minus s) ≡ drop front s
+pub rest_after_minus : (minus : Bool) (front : ℕ) (s : List ℕ) → 0 < front → drop front (zero_for_minus minus s) ≡ drop front s
 rest_after_minus false front s some = refl
 rest_after_minus true zero s some = absurd (omega arith)
 rest_after_minus true (suc front) s some =

@@ -38,7 +38,7 @@ zero_flipped true m s flipped room is_minus flipped_is =
     (xor_assoc word zeros bits ∙ ap (bit_xor word) (xor_comm zeros bits) ∙ sym (xor_assoc word bits zeros)
     ∙ ap (λ x. bit_xor x zeros) (minus_flipped m s (is_minus refl)))
 
-first_only : (s : List ℕ) → 0 < length s → take 1 s ≡ get_or s 0 0 ∷ []
+pub first_only : (s : List ℕ) → 0 < length s → take 1 s ≡ get_or s 0 0 ∷ []
 first_only [] some = absurd (omega arith)
 first_only (b ∷ bs) some = refl
 

@@ -27,7 +27,8 @@ pub(crate) fn load_flipped(s: &[u8]) -> u64
     // requires few { length s.now ≤ 8 }
     // ensures { result ≡ bit_xor (word_of (replicate (8 - length s.now) 48 ++ s.now)) 0x3030_3030_3030_3030 }
 {
-    let fours = if s.len() < 4 { &SHORT[0] } else { s };
+    let short: &[u8] = &SHORT[0];
+    let fours = if s.len() < 4 { short } else { s };
     let front = (u32::from(s[0]) | load_four_from(fours, 0)) ^ FOUR_ZEROS;
     let back = (load_last_four(fours) | (load_last_two(s) << 16)) ^ FOUR_ZEROS;
     // A product takes less time than a shift on many processors.

@@ -3,6 +3,7 @@
 // ghost use Rattle.atoi_fast.specs.Short.{BeginsWithNumber, IsNumber};
 
 use crate::proved::atoi_fast::short_prefix::prefix_of_words;
+use crate::proved::atoi_fast::short_slice::{short_slice, slice_of_two_words};
 use crate::proved::atoi_core::Number;
 
 /// Returns the number of a slice of one digit.
@@ -17,6 +18,30 @@ pub fn one_digit<T: Number>(s: &[u8]) -> Option<T>
         }
         _ => None,
     }
+}
+
+/// Returns the number of a slice of 2 to 15 bytes, if all are digits after at most a minus, which takes no branch.
+#[inline(always)]
+pub fn quick_slice<T: Number>(s: &[u8]) -> Option<T>
+    // ensures { IfSome result (λ number. IsNumber T.int_type s.now (T.number number)) }
+{
+    match s.len() {
+        2..=8 => short_slice(s),
+        9..=15 => slice_of_two_words(s),
+        _ => None,
+    }
+}
+
+/// Returns the number of a slice of at least 16 bytes, if the type has 64 bits and no limit refuses so many digits.
+#[inline(always)]
+pub fn long_slice<T: Number>(s: &[u8]) -> Option<T>
+    // ensures { IfSome result (λ number. IsNumber T.int_type s.now (T.number number)) }
+{
+    if T::BITS != 64 || s.len() < 16 {
+        return None;
+    }
+    let (number, len) = prefix_of_words::<T>(s)?;
+    if len == s.len() { Some(number) } else { None }
 }
 
 /// Returns the number at the start of a slice and its length, if that is one digit or two, or, in a slice of at least
