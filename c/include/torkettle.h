@@ -292,10 +292,14 @@ typedef struct torkettle_error {
 #define TK_CAST(type, value) static_cast<type>(value)
 #define TK_MAKE(type, ...) (type{__VA_ARGS__})
 #define TK_TEXT(text) tk_bytes_of(reinterpret_cast<const uint8_t *>(text), sizeof(text) - 1)
+#define TK_NUMBER(at) reinterpret_cast<uintptr_t>(at)
+#define TK_POINTER(number) reinterpret_cast<const uint8_t *>(number)
 #else
 #define TK_CAST(type, value) ((type)(value))
 #define TK_MAKE(type, ...) ((type){__VA_ARGS__})
 #define TK_TEXT(text) tk_bytes_of((const uint8_t *)(text), sizeof(text) - 1)
+#define TK_NUMBER(at) ((uintptr_t)(at))
+#define TK_POINTER(number) ((const uint8_t *)(number))
 #endif
 
 /* What a compiler has to do with a function, as the attributes of the source say it. */
@@ -338,6 +342,25 @@ typedef struct torkettle_error {
 #ifndef TORKETTLE_CHECK
 #define TORKETTLE_CHECK(condition) ((void)0)
 #endif
+
+/* One of two lengths or places. gcc would make a branch of it, and no processor can guess which one is next. */
+TK_INLINE size_t tk_either(bool is_first, size_t first, size_t second)
+{
+#if defined __GNUC__ && !defined __clang__
+    return second + ((first - second) & (TK_CAST(size_t, 0) - is_first));
+#else
+    return is_first ? first : second;
+#endif
+}
+
+TK_INLINE const uint8_t *tk_either_at(bool is_first, const uint8_t *first, const uint8_t *second)
+{
+#if defined __GNUC__ && !defined __clang__
+    return TK_POINTER(tk_either(is_first, TK_NUMBER(first), TK_NUMBER(second)));
+#else
+    return is_first ? first : second;
+#endif
+}
 
 /* An index of so many elements. */
 TK_CONSTEXPR size_t tk_index(size_t index, size_t len)
@@ -1128,18 +1151,6 @@ TK_CONSTEXPR tk_pair_bool_bytes tk_new_pair_bool_bytes(bool first, tk_bytes seco
 
 #define TK_ZEROS UINT64_C(0x3030303030303030)
 
-/* Indexed by how many digits there are: `sum_of`'s first factor, shifted by eight bytes less the digits. */
-static const uint64_t tk_factors[8] = {
-    0,
-    UINT64_C(2561) << 56,
-    UINT64_C(2561) << 48,
-    UINT64_C(2561) << 40,
-    UINT64_C(2561) << 32,
-    UINT64_C(2561) << 24,
-    UINT64_C(2561) << 16,
-    UINT64_C(2561) << 8,
-};
-
 /* Indexed by the exponent. */
 static const uint64_t tk_powers[17] = {
     1,
@@ -1159,6 +1170,18 @@ static const uint64_t tk_powers[17] = {
     UINT64_C(100000000000000),
     UINT64_C(1000000000000000),
     UINT64_C(10000000000000000),
+};
+
+/* Indexed by how many digits there are: `sum_of`'s first factor, shifted by eight bytes less the digits. */
+static const uint64_t tk_factors[8] = {
+    0,
+    UINT64_C(2561) << 56,
+    UINT64_C(2561) << 48,
+    UINT64_C(2561) << 40,
+    UINT64_C(2561) << 32,
+    UINT64_C(2561) << 24,
+    UINT64_C(2561) << 16,
+    UINT64_C(2561) << 8,
 };
 
 TK_CONSTEXPR tk_bytes tk_bytes_from(tk_bytes s, size_t low)
@@ -1369,23 +1392,6 @@ TK_INLINE tk_option_u128 tk_one_digit_u128(tk_bytes s)
     return tk_none_u128();
 }
 
-/* Returns the word of the first 8 bytes. */
-/* atoi_fast/src/loads.rt:111 */
-TK_HINTED uint64_t tk_load_full(tk_bytes s)
-{
-    if (s.len >= 8) {
-        const uint8_t *first = s.at;
-        return tk_u64_load(first);
-    }
-    return 0;
-}
-
-/* atoi_fast/src/short_prefix.rt:78 */
-TK_HINTED uint8_t tk_lowest_byte(uint64_t word)
-{
-    return TK_CAST(uint8_t, word & 0xFF);
-}
-
 /*
  * What `sum_of` returns, after its first product. The two sums of four digits are joined by one small
  * product, which needs no 64-bit constant.
@@ -1405,36 +1411,6 @@ TK_HINTED uint64_t tk_sum_of(uint64_t digits)
     return tk_sum_of_product(digits * 0xA01);
 }
 
-/* Returns how many digits the word begins with. */
-/* atoi_fast/src/digits.rt:19 */
-TK_HINTED uint32_t tk_leading_digits(uint64_t word)
-{
-    uint64_t above = word + UINT64_C(0x4646464646464646);
-    uint64_t below = word - TK_ZEROS;
-    uint64_t marks = (above | below) & UINT64_C(0x8080808080808080);
-    if (marks == 0) {
-        return 8;
-    }
-    return tk_u64_trailing_zeros(marks) / 8;
-}
-
-/*
- * Returns the number of the lowest `len` bytes of `digits`, which are digits minus 48. One product by
- * a factor from a table takes the place of a shift and a product.
- */
-/* atoi_fast/src/digits.rt:147 */
-TK_HINTED uint64_t tk_value_by_product(uint64_t digits, uint32_t len)
-{
-    return tk_sum_of_product(digits * tk_factors[tk_index(TK_CAST(size_t, len), 8)]);
-}
-
-/* Returns ten to the power of `digits`, which is at most 16. */
-/* atoi_core/src/powers.rt:26 */
-TK_HINTED uint64_t tk_power_of_ten(uint32_t digits)
-{
-    return tk_powers[tk_index(TK_CAST(size_t, digits), 17)];
-}
-
 /*
  * Returns the number of this sign and magnitude, if the type has it. The magnitude is at most `most`, a
  * constant: a type that has all numbers up to it needs no other test.
@@ -1449,7 +1425,269 @@ TK_INLINE tk_option_i8 tk_number_in_range_i8(uint64_t most, bool minus, uint64_t
     return tk_some_i8(tk_from_parts_i8(minus, tk_u128_of(magnitude)));
 }
 
+/* Returns the word of the first 8 bytes. */
+/* atoi_fast/src/loads.rt:111 */
+TK_HINTED uint64_t tk_load_full(tk_bytes s)
+{
+    if (s.len >= 8) {
+        const uint8_t *first = s.at;
+        return tk_u64_load(first);
+    }
+    return 0;
+}
+
+/* Returns how many digits the word begins with. */
+/* atoi_fast/src/digits.rt:19 */
+TK_HINTED uint32_t tk_leading_digits(uint64_t word)
+{
+    uint64_t above = word + UINT64_C(0x4646464646464646);
+    uint64_t below = word - TK_ZEROS;
+    uint64_t marks = (above | below) & UINT64_C(0x8080808080808080);
+    if (marks == 0) {
+        return 8;
+    }
+    return tk_u64_trailing_zeros(marks) / 8;
+}
+
+/* Returns ten to the power of `digits`, which is at most 16. */
+/* atoi_core/src/powers.rt:26 */
+TK_HINTED uint64_t tk_power_of_ten(uint32_t digits)
+{
+    return tk_powers[tk_index(TK_CAST(size_t, digits), 17)];
+}
+
+/* atoi_fast/src/in_range.rt:17 */
+TK_INLINE tk_option_u8 tk_number_in_range_u8(uint64_t most, bool minus, uint64_t magnitude)
+{
+    if (tk_u128_less(tk_u128_of(255), tk_u128_of(most))
+        && magnitude > tk_u128_low(tk_u128_of(255)) + TK_CAST(uint64_t, minus)) {
+        return tk_none_u8();
+    }
+    return tk_some_u8(tk_from_parts_u8(minus, tk_u128_of(magnitude)));
+}
+
+/* atoi_fast/src/in_range.rt:17 */
+TK_INLINE tk_option_i16 tk_number_in_range_i16(uint64_t most, bool minus, uint64_t magnitude)
+{
+    if (tk_u128_less(tk_u128_of(32767), tk_u128_of(most))
+        && magnitude > tk_u128_low(tk_u128_of(32767)) + TK_CAST(uint64_t, minus)) {
+        return tk_none_i16();
+    }
+    return tk_some_i16(tk_from_parts_i16(minus, tk_u128_of(magnitude)));
+}
+
+/* atoi_fast/src/in_range.rt:17 */
+TK_INLINE tk_option_u16 tk_number_in_range_u16(uint64_t most, bool minus, uint64_t magnitude)
+{
+    if (tk_u128_less(tk_u128_of(65535), tk_u128_of(most))
+        && magnitude > tk_u128_low(tk_u128_of(65535)) + TK_CAST(uint64_t, minus)) {
+        return tk_none_u16();
+    }
+    return tk_some_u16(tk_from_parts_u16(minus, tk_u128_of(magnitude)));
+}
+
+/* atoi_fast/src/in_range.rt:17 */
+TK_INLINE tk_option_i32 tk_number_in_range_i32(uint64_t most, bool minus, uint64_t magnitude)
+{
+    if (tk_u128_less(tk_u128_of(2147483647), tk_u128_of(most))
+        && magnitude > tk_u128_low(tk_u128_of(2147483647)) + TK_CAST(uint64_t, minus)) {
+        return tk_none_i32();
+    }
+    return tk_some_i32(tk_from_parts_i32(minus, tk_u128_of(magnitude)));
+}
+
+/* atoi_fast/src/in_range.rt:17 */
+TK_INLINE tk_option_u32 tk_number_in_range_u32(uint64_t most, bool minus, uint64_t magnitude)
+{
+    if (tk_u128_less(tk_u128_of(UINT64_C(4294967295)), tk_u128_of(most))
+        && magnitude > tk_u128_low(tk_u128_of(UINT64_C(4294967295))) + TK_CAST(uint64_t, minus)) {
+        return tk_none_u32();
+    }
+    return tk_some_u32(tk_from_parts_u32(minus, tk_u128_of(magnitude)));
+}
+
+/* atoi_fast/src/in_range.rt:17 */
+TK_INLINE tk_option_i64 tk_number_in_range_i64(uint64_t most, bool minus, uint64_t magnitude)
+{
+    if (tk_u128_less(tk_u128_of(UINT64_C(9223372036854775807)), tk_u128_of(most))
+        && magnitude > tk_u128_low(tk_u128_of(UINT64_C(9223372036854775807))) + TK_CAST(uint64_t, minus)) {
+        return tk_none_i64();
+    }
+    return tk_some_i64(tk_from_parts_i64(minus, tk_u128_of(magnitude)));
+}
+
+/* atoi_fast/src/in_range.rt:17 */
+TK_INLINE tk_option_u64 tk_number_in_range_u64(uint64_t most, bool minus, uint64_t magnitude)
+{
+    if (tk_u128_less(tk_u128_of(UINT64_C(18446744073709551615)), tk_u128_of(most))
+        && magnitude > tk_u128_low(tk_u128_of(UINT64_C(18446744073709551615))) + TK_CAST(uint64_t, minus)) {
+        return tk_none_u64();
+    }
+    return tk_some_u64(tk_from_parts_u64(minus, tk_u128_of(magnitude)));
+}
+
+/* atoi_fast/src/in_range.rt:17 */
+TK_INLINE tk_option_i128 tk_number_in_range_i128(uint64_t most, bool minus, uint64_t magnitude)
+{
+    if (tk_u128_less(tk_u128_make(UINT64_C(9223372036854775807), UINT64_C(18446744073709551615)), tk_u128_of(most))
+        && magnitude > tk_u128_low(tk_u128_make(UINT64_C(9223372036854775807),
+                                                UINT64_C(18446744073709551615))) + TK_CAST(uint64_t, minus)) {
+        return tk_none_i128();
+    }
+    return tk_some_i128(tk_from_parts_i128(minus, tk_u128_of(magnitude)));
+}
+
+/* atoi_fast/src/in_range.rt:17 */
+TK_INLINE tk_option_u128 tk_number_in_range_u128(uint64_t most, bool minus, uint64_t magnitude)
+{
+    if (tk_u128_less(tk_u128_make(UINT64_C(18446744073709551615), UINT64_C(18446744073709551615)), tk_u128_of(most))
+        && magnitude > tk_u128_low(tk_u128_make(UINT64_C(18446744073709551615),
+                                                UINT64_C(18446744073709551615))) + TK_CAST(uint64_t, minus)) {
+        return tk_none_u128();
+    }
+    return tk_some_u128(tk_from_parts_u128(minus, tk_u128_of(magnitude)));
+}
+
+/* atoi_fast/src/short_prefix.rt:78 */
+TK_HINTED uint8_t tk_lowest_byte(uint64_t word)
+{
+    return TK_CAST(uint8_t, word & 0xFF);
+}
+
+/*
+ * Returns the number of the lowest `len` bytes of `digits`, which are digits minus 48. One product by
+ * a factor from a table takes the place of a shift and a product.
+ */
+/* atoi_fast/src/digits.rt:147 */
+TK_HINTED uint64_t tk_value_by_product(uint64_t digits, uint32_t len)
+{
+    return tk_sum_of_product(digits * tk_factors[tk_index(TK_CAST(size_t, len), 8)]);
+}
+
+/* Returns the magnitude of `T::MIN` if `minus` is set, otherwise `T::MAX`. */
+/* atoi_core/src/number.rt:71 */
+TK_CONSTEXPR tk_u128 tk_greatest_magnitude(tk_u128 greatest, bool minus)
+{
+    return tk_u128_add(greatest, tk_u128_of(minus));
+}
+
 /* The number of 8 to 15 bytes, of which the first eight spell `high`, with a zero for a minus. */
+/* atoi_fast/src/short_prefix.rt:86 */
+TK_INLINE tk_option_pair_i64_size tk_prefix_of_two_words_i64(bool minus, uint64_t high, tk_bytes s)
+{
+    uint64_t next = tk_load_full(tk_bytes_from(s, 8));
+    uint32_t more = tk_leading_digits(next);
+    if (more == 8) {
+        uint64_t high_2 = high * 100000000 + tk_sum_of(next - TK_ZEROS);
+        return tk_prefix_of_three_words_i64(minus, high_2, s);
+    }
+    uint64_t low = tk_value_by_product(next - TK_ZEROS, more);
+    uint64_t magnitude = high * tk_power_of_ten(more) + low;
+    tk_option_i64 number_found = tk_number_in_range_i64(TK_MOST_IN_TWO_WORDS, minus, magnitude);
+    if (!number_found.is_some) {
+        return tk_none_pair_i64_size();
+    }
+    int64_t number = number_found.value;
+    return tk_some_pair_i64_size(tk_new_pair_i64_size(number, 8 + TK_CAST(size_t, more)));
+}
+
+/*
+ * Returns the number at the start of `s` and its length, if that is below 16 or, for `i64` and `u64`, at most 19
+ * digits. Others may be `None`, too.
+ */
+/* atoi_fast/src/short_prefix.rt:45 */
+TK_INLINE tk_option_pair_i64_size tk_prefix_of_words_i64(tk_bytes s)
+{
+    uint64_t word = tk_load_full(s);
+    /* A `-` borrows from the next byte, so that a `0` there looks like no digit. */
+    uint64_t above = word + UINT64_C(0x4646464646464646);
+    uint64_t below = word - TK_ZEROS;
+    uint64_t marks = (above | below) & UINT64_C(0x8080808080808000);
+    if ((marks & 0x8000) != 0) {
+        /*
+         * Most numbers of many texts have one digit: the processor guesses that, and the next load waits
+         * for nothing.
+         */
+        uint8_t digit = tk_lowest_byte(below);
+        if (digit > 9) {
+            return tk_none_pair_i64_size();
+        }
+        return tk_some_pair_i64_size(tk_new_pair_i64_size(tk_from_parts_i64(false, tk_u128_of(digit)), 1));
+    }
+    bool minus = true & (tk_lowest_byte(word) == '-');
+    /* The digit of a `-` is 0, and takes the borrow back. */
+    uint64_t digits = below + 3 * TK_CAST(uint64_t, minus);
+    if (tk_lowest_byte(digits) > 9) {
+        return tk_none_pair_i64_size();
+    }
+    if (marks == 0) {
+        return tk_prefix_of_two_words_i64(minus, tk_sum_of(digits), s);
+    }
+    uint32_t len = tk_u64_trailing_zeros(marks) / 8;
+    tk_option_i64 number_found = tk_number_in_range_i64(TK_MOST_IN_WORD, minus, tk_value_by_product(digits, len));
+    if (!number_found.is_some) {
+        return tk_none_pair_i64_size();
+    }
+    int64_t number = number_found.value;
+    return tk_some_pair_i64_size(tk_new_pair_i64_size(number, TK_CAST(size_t, len)));
+}
+
+/* atoi_fast/src/short_prefix.rt:86 */
+TK_INLINE tk_option_pair_u64_size tk_prefix_of_two_words_u64(bool minus, uint64_t high, tk_bytes s)
+{
+    uint64_t next = tk_load_full(tk_bytes_from(s, 8));
+    uint32_t more = tk_leading_digits(next);
+    if (more == 8) {
+        uint64_t high_2 = high * 100000000 + tk_sum_of(next - TK_ZEROS);
+        return tk_prefix_of_three_words_u64(minus, high_2, s);
+    }
+    uint64_t low = tk_value_by_product(next - TK_ZEROS, more);
+    uint64_t magnitude = high * tk_power_of_ten(more) + low;
+    tk_option_u64 number_found = tk_number_in_range_u64(TK_MOST_IN_TWO_WORDS, minus, magnitude);
+    if (!number_found.is_some) {
+        return tk_none_pair_u64_size();
+    }
+    uint64_t number = number_found.value;
+    return tk_some_pair_u64_size(tk_new_pair_u64_size(number, 8 + TK_CAST(size_t, more)));
+}
+
+/* atoi_fast/src/short_prefix.rt:45 */
+TK_INLINE tk_option_pair_u64_size tk_prefix_of_words_u64(tk_bytes s)
+{
+    uint64_t word = tk_load_full(s);
+    /* A `-` borrows from the next byte, so that a `0` there looks like no digit. */
+    uint64_t above = word + UINT64_C(0x4646464646464646);
+    uint64_t below = word - TK_ZEROS;
+    uint64_t marks = (above | below) & UINT64_C(0x8080808080808000);
+    if ((marks & 0x8000) != 0) {
+        /*
+         * Most numbers of many texts have one digit: the processor guesses that, and the next load waits
+         * for nothing.
+         */
+        uint8_t digit = tk_lowest_byte(below);
+        if (digit > 9) {
+            return tk_none_pair_u64_size();
+        }
+        return tk_some_pair_u64_size(tk_new_pair_u64_size(tk_from_parts_u64(false, tk_u128_of(digit)), 1));
+    }
+    bool minus = false & (tk_lowest_byte(word) == '-');
+    /* The digit of a `-` is 0, and takes the borrow back. */
+    uint64_t digits = below + 3 * TK_CAST(uint64_t, minus);
+    if (tk_lowest_byte(digits) > 9) {
+        return tk_none_pair_u64_size();
+    }
+    if (marks == 0) {
+        return tk_prefix_of_two_words_u64(minus, tk_sum_of(digits), s);
+    }
+    uint32_t len = tk_u64_trailing_zeros(marks) / 8;
+    tk_option_u64 number_found = tk_number_in_range_u64(TK_MOST_IN_WORD, minus, tk_value_by_product(digits, len));
+    if (!number_found.is_some) {
+        return tk_none_pair_u64_size();
+    }
+    uint64_t number = number_found.value;
+    return tk_some_pair_u64_size(tk_new_pair_u64_size(number, TK_CAST(size_t, len)));
+}
+
 /* atoi_fast/src/short_prefix.rt:86 */
 TK_INLINE tk_option_pair_i8_size tk_prefix_of_two_words_i8(bool minus, uint64_t high, tk_bytes s)
 {
@@ -1468,10 +1706,6 @@ TK_INLINE tk_option_pair_i8_size tk_prefix_of_two_words_i8(bool minus, uint64_t 
     return tk_some_pair_i8_size(tk_new_pair_i8_size(number, 8 + TK_CAST(size_t, more)));
 }
 
-/*
- * Returns the number at the start of `s` and its length, if that is below 16 or, for `i64` and `u64`, at most 19
- * digits. Others may be `None`, too.
- */
 /* atoi_fast/src/short_prefix.rt:45 */
 TK_INLINE tk_option_pair_i8_size tk_prefix_of_words_i8(tk_bytes s)
 {
@@ -1543,16 +1777,6 @@ TK_INLINE tk_option_pair_i8_size tk_quick_prefix_i8(tk_bytes s)
         return tk_some_pair_i8_size(tk_new_pair_i8_size(tk_from_parts_i8(false, tk_u128_of(number)), 2));
     }
     return tk_digit_prefix_i8(s);
-}
-
-/* atoi_fast/src/in_range.rt:17 */
-TK_INLINE tk_option_u8 tk_number_in_range_u8(uint64_t most, bool minus, uint64_t magnitude)
-{
-    if (tk_u128_less(tk_u128_of(255), tk_u128_of(most))
-        && magnitude > tk_u128_low(tk_u128_of(255)) + TK_CAST(uint64_t, minus)) {
-        return tk_none_u8();
-    }
-    return tk_some_u8(tk_from_parts_u8(minus, tk_u128_of(magnitude)));
 }
 
 /* atoi_fast/src/short_prefix.rt:86 */
@@ -1641,16 +1865,6 @@ TK_INLINE tk_option_pair_u8_size tk_quick_prefix_u8(tk_bytes s)
     return tk_digit_prefix_u8(s);
 }
 
-/* atoi_fast/src/in_range.rt:17 */
-TK_INLINE tk_option_i16 tk_number_in_range_i16(uint64_t most, bool minus, uint64_t magnitude)
-{
-    if (tk_u128_less(tk_u128_of(32767), tk_u128_of(most))
-        && magnitude > tk_u128_low(tk_u128_of(32767)) + TK_CAST(uint64_t, minus)) {
-        return tk_none_i16();
-    }
-    return tk_some_i16(tk_from_parts_i16(minus, tk_u128_of(magnitude)));
-}
-
 /* atoi_fast/src/short_prefix.rt:86 */
 TK_INLINE tk_option_pair_i16_size tk_prefix_of_two_words_i16(bool minus, uint64_t high, tk_bytes s)
 {
@@ -1735,16 +1949,6 @@ TK_INLINE tk_option_pair_i16_size tk_quick_prefix_i16(tk_bytes s)
         return tk_some_pair_i16_size(tk_new_pair_i16_size(tk_from_parts_i16(false, tk_u128_of(number)), 2));
     }
     return tk_digit_prefix_i16(s);
-}
-
-/* atoi_fast/src/in_range.rt:17 */
-TK_INLINE tk_option_u16 tk_number_in_range_u16(uint64_t most, bool minus, uint64_t magnitude)
-{
-    if (tk_u128_less(tk_u128_of(65535), tk_u128_of(most))
-        && magnitude > tk_u128_low(tk_u128_of(65535)) + TK_CAST(uint64_t, minus)) {
-        return tk_none_u16();
-    }
-    return tk_some_u16(tk_from_parts_u16(minus, tk_u128_of(magnitude)));
 }
 
 /* atoi_fast/src/short_prefix.rt:86 */
@@ -1833,16 +2037,6 @@ TK_INLINE tk_option_pair_u16_size tk_quick_prefix_u16(tk_bytes s)
     return tk_digit_prefix_u16(s);
 }
 
-/* atoi_fast/src/in_range.rt:17 */
-TK_INLINE tk_option_i32 tk_number_in_range_i32(uint64_t most, bool minus, uint64_t magnitude)
-{
-    if (tk_u128_less(tk_u128_of(2147483647), tk_u128_of(most))
-        && magnitude > tk_u128_low(tk_u128_of(2147483647)) + TK_CAST(uint64_t, minus)) {
-        return tk_none_i32();
-    }
-    return tk_some_i32(tk_from_parts_i32(minus, tk_u128_of(magnitude)));
-}
-
 /* atoi_fast/src/short_prefix.rt:86 */
 TK_INLINE tk_option_pair_i32_size tk_prefix_of_two_words_i32(bool minus, uint64_t high, tk_bytes s)
 {
@@ -1927,16 +2121,6 @@ TK_INLINE tk_option_pair_i32_size tk_quick_prefix_i32(tk_bytes s)
         return tk_some_pair_i32_size(tk_new_pair_i32_size(tk_from_parts_i32(false, tk_u128_of(number)), 2));
     }
     return tk_digit_prefix_i32(s);
-}
-
-/* atoi_fast/src/in_range.rt:17 */
-TK_INLINE tk_option_u32 tk_number_in_range_u32(uint64_t most, bool minus, uint64_t magnitude)
-{
-    if (tk_u128_less(tk_u128_of(UINT64_C(4294967295)), tk_u128_of(most))
-        && magnitude > tk_u128_low(tk_u128_of(UINT64_C(4294967295))) + TK_CAST(uint64_t, minus)) {
-        return tk_none_u32();
-    }
-    return tk_some_u32(tk_from_parts_u32(minus, tk_u128_of(magnitude)));
 }
 
 /* atoi_fast/src/short_prefix.rt:86 */
@@ -2025,79 +2209,6 @@ TK_INLINE tk_option_pair_u32_size tk_quick_prefix_u32(tk_bytes s)
     return tk_digit_prefix_u32(s);
 }
 
-/* Returns the magnitude of `T::MIN` if `minus` is set, otherwise `T::MAX`. */
-/* atoi_core/src/number.rt:71 */
-TK_CONSTEXPR tk_u128 tk_greatest_magnitude(tk_u128 greatest, bool minus)
-{
-    return tk_u128_add(greatest, tk_u128_of(minus));
-}
-
-/* atoi_fast/src/in_range.rt:17 */
-TK_INLINE tk_option_i64 tk_number_in_range_i64(uint64_t most, bool minus, uint64_t magnitude)
-{
-    if (tk_u128_less(tk_u128_of(UINT64_C(9223372036854775807)), tk_u128_of(most))
-        && magnitude > tk_u128_low(tk_u128_of(UINT64_C(9223372036854775807))) + TK_CAST(uint64_t, minus)) {
-        return tk_none_i64();
-    }
-    return tk_some_i64(tk_from_parts_i64(minus, tk_u128_of(magnitude)));
-}
-
-/* atoi_fast/src/short_prefix.rt:86 */
-TK_INLINE tk_option_pair_i64_size tk_prefix_of_two_words_i64(bool minus, uint64_t high, tk_bytes s)
-{
-    uint64_t next = tk_load_full(tk_bytes_from(s, 8));
-    uint32_t more = tk_leading_digits(next);
-    if (more == 8) {
-        uint64_t high_2 = high * 100000000 + tk_sum_of(next - TK_ZEROS);
-        return tk_prefix_of_three_words_i64(minus, high_2, s);
-    }
-    uint64_t low = tk_value_by_product(next - TK_ZEROS, more);
-    uint64_t magnitude = high * tk_power_of_ten(more) + low;
-    tk_option_i64 number_found = tk_number_in_range_i64(TK_MOST_IN_TWO_WORDS, minus, magnitude);
-    if (!number_found.is_some) {
-        return tk_none_pair_i64_size();
-    }
-    int64_t number = number_found.value;
-    return tk_some_pair_i64_size(tk_new_pair_i64_size(number, 8 + TK_CAST(size_t, more)));
-}
-
-/* atoi_fast/src/short_prefix.rt:45 */
-TK_INLINE tk_option_pair_i64_size tk_prefix_of_words_i64(tk_bytes s)
-{
-    uint64_t word = tk_load_full(s);
-    /* A `-` borrows from the next byte, so that a `0` there looks like no digit. */
-    uint64_t above = word + UINT64_C(0x4646464646464646);
-    uint64_t below = word - TK_ZEROS;
-    uint64_t marks = (above | below) & UINT64_C(0x8080808080808000);
-    if ((marks & 0x8000) != 0) {
-        /*
-         * Most numbers of many texts have one digit: the processor guesses that, and the next load waits
-         * for nothing.
-         */
-        uint8_t digit = tk_lowest_byte(below);
-        if (digit > 9) {
-            return tk_none_pair_i64_size();
-        }
-        return tk_some_pair_i64_size(tk_new_pair_i64_size(tk_from_parts_i64(false, tk_u128_of(digit)), 1));
-    }
-    bool minus = true & (tk_lowest_byte(word) == '-');
-    /* The digit of a `-` is 0, and takes the borrow back. */
-    uint64_t digits = below + 3 * TK_CAST(uint64_t, minus);
-    if (tk_lowest_byte(digits) > 9) {
-        return tk_none_pair_i64_size();
-    }
-    if (marks == 0) {
-        return tk_prefix_of_two_words_i64(minus, tk_sum_of(digits), s);
-    }
-    uint32_t len = tk_u64_trailing_zeros(marks) / 8;
-    tk_option_i64 number_found = tk_number_in_range_i64(TK_MOST_IN_WORD, minus, tk_value_by_product(digits, len));
-    if (!number_found.is_some) {
-        return tk_none_pair_i64_size();
-    }
-    int64_t number = number_found.value;
-    return tk_some_pair_i64_size(tk_new_pair_i64_size(number, TK_CAST(size_t, len)));
-}
-
 /* atoi_fast/src/quick.rt:66 */
 TK_INLINE tk_option_pair_i64_size tk_digit_prefix_i64(tk_bytes s)
 {
@@ -2129,72 +2240,6 @@ TK_INLINE tk_option_pair_i64_size tk_quick_prefix_i64(tk_bytes s)
     return tk_digit_prefix_i64(s);
 }
 
-/* atoi_fast/src/in_range.rt:17 */
-TK_INLINE tk_option_u64 tk_number_in_range_u64(uint64_t most, bool minus, uint64_t magnitude)
-{
-    if (tk_u128_less(tk_u128_of(UINT64_C(18446744073709551615)), tk_u128_of(most))
-        && magnitude > tk_u128_low(tk_u128_of(UINT64_C(18446744073709551615))) + TK_CAST(uint64_t, minus)) {
-        return tk_none_u64();
-    }
-    return tk_some_u64(tk_from_parts_u64(minus, tk_u128_of(magnitude)));
-}
-
-/* atoi_fast/src/short_prefix.rt:86 */
-TK_INLINE tk_option_pair_u64_size tk_prefix_of_two_words_u64(bool minus, uint64_t high, tk_bytes s)
-{
-    uint64_t next = tk_load_full(tk_bytes_from(s, 8));
-    uint32_t more = tk_leading_digits(next);
-    if (more == 8) {
-        uint64_t high_2 = high * 100000000 + tk_sum_of(next - TK_ZEROS);
-        return tk_prefix_of_three_words_u64(minus, high_2, s);
-    }
-    uint64_t low = tk_value_by_product(next - TK_ZEROS, more);
-    uint64_t magnitude = high * tk_power_of_ten(more) + low;
-    tk_option_u64 number_found = tk_number_in_range_u64(TK_MOST_IN_TWO_WORDS, minus, magnitude);
-    if (!number_found.is_some) {
-        return tk_none_pair_u64_size();
-    }
-    uint64_t number = number_found.value;
-    return tk_some_pair_u64_size(tk_new_pair_u64_size(number, 8 + TK_CAST(size_t, more)));
-}
-
-/* atoi_fast/src/short_prefix.rt:45 */
-TK_INLINE tk_option_pair_u64_size tk_prefix_of_words_u64(tk_bytes s)
-{
-    uint64_t word = tk_load_full(s);
-    /* A `-` borrows from the next byte, so that a `0` there looks like no digit. */
-    uint64_t above = word + UINT64_C(0x4646464646464646);
-    uint64_t below = word - TK_ZEROS;
-    uint64_t marks = (above | below) & UINT64_C(0x8080808080808000);
-    if ((marks & 0x8000) != 0) {
-        /*
-         * Most numbers of many texts have one digit: the processor guesses that, and the next load waits
-         * for nothing.
-         */
-        uint8_t digit = tk_lowest_byte(below);
-        if (digit > 9) {
-            return tk_none_pair_u64_size();
-        }
-        return tk_some_pair_u64_size(tk_new_pair_u64_size(tk_from_parts_u64(false, tk_u128_of(digit)), 1));
-    }
-    bool minus = false & (tk_lowest_byte(word) == '-');
-    /* The digit of a `-` is 0, and takes the borrow back. */
-    uint64_t digits = below + 3 * TK_CAST(uint64_t, minus);
-    if (tk_lowest_byte(digits) > 9) {
-        return tk_none_pair_u64_size();
-    }
-    if (marks == 0) {
-        return tk_prefix_of_two_words_u64(minus, tk_sum_of(digits), s);
-    }
-    uint32_t len = tk_u64_trailing_zeros(marks) / 8;
-    tk_option_u64 number_found = tk_number_in_range_u64(TK_MOST_IN_WORD, minus, tk_value_by_product(digits, len));
-    if (!number_found.is_some) {
-        return tk_none_pair_u64_size();
-    }
-    uint64_t number = number_found.value;
-    return tk_some_pair_u64_size(tk_new_pair_u64_size(number, TK_CAST(size_t, len)));
-}
-
 /* atoi_fast/src/quick.rt:66 */
 TK_INLINE tk_option_pair_u64_size tk_digit_prefix_u64(tk_bytes s)
 {
@@ -2224,17 +2269,6 @@ TK_INLINE tk_option_pair_u64_size tk_quick_prefix_u64(tk_bytes s)
         return tk_some_pair_u64_size(tk_new_pair_u64_size(tk_from_parts_u64(false, tk_u128_of(number)), 2));
     }
     return tk_digit_prefix_u64(s);
-}
-
-/* atoi_fast/src/in_range.rt:17 */
-TK_INLINE tk_option_i128 tk_number_in_range_i128(uint64_t most, bool minus, uint64_t magnitude)
-{
-    if (tk_u128_less(tk_u128_make(UINT64_C(9223372036854775807), UINT64_C(18446744073709551615)), tk_u128_of(most))
-        && magnitude > tk_u128_low(tk_u128_make(UINT64_C(9223372036854775807),
-                                                UINT64_C(18446744073709551615))) + TK_CAST(uint64_t, minus)) {
-        return tk_none_i128();
-    }
-    return tk_some_i128(tk_from_parts_i128(minus, tk_u128_of(magnitude)));
 }
 
 /* atoi_fast/src/short_prefix.rt:86 */
@@ -2321,17 +2355,6 @@ TK_INLINE tk_option_pair_i128_size tk_quick_prefix_i128(tk_bytes s)
         return tk_some_pair_i128_size(tk_new_pair_i128_size(tk_from_parts_i128(false, tk_u128_of(number)), 2));
     }
     return tk_digit_prefix_i128(s);
-}
-
-/* atoi_fast/src/in_range.rt:17 */
-TK_INLINE tk_option_u128 tk_number_in_range_u128(uint64_t most, bool minus, uint64_t magnitude)
-{
-    if (tk_u128_less(tk_u128_make(UINT64_C(18446744073709551615), UINT64_C(18446744073709551615)), tk_u128_of(most))
-        && magnitude > tk_u128_low(tk_u128_make(UINT64_C(18446744073709551615),
-                                                UINT64_C(18446744073709551615))) + TK_CAST(uint64_t, minus)) {
-        return tk_none_u128();
-    }
-    return tk_some_u128(tk_from_parts_u128(minus, tk_u128_of(magnitude)));
 }
 
 /* atoi_fast/src/short_prefix.rt:86 */
@@ -2425,7 +2448,7 @@ TK_INLINE tk_option_pair_u128_size tk_quick_prefix_u128(tk_bytes s)
  * after it.
  */
 /* atoi_core/src/calls.rt:59 */
-TK_CONSTEXPR tk_pair_bool_bytes tk_atoi_core_take_sign(bool signed_, bool skip_plus, tk_bytes s)
+TK_CONSTEXPR tk_pair_bool_bytes tk_take_sign(bool signed_, bool skip_plus, tk_bytes s)
 {
     if (s.len >= 1 && s.at[0] == '+' && skip_plus) {
         tk_bytes body = tk_bytes_from(s, 1);
@@ -2487,7 +2510,7 @@ TK_CONSTEXPR tk_option_pair_u128_size tk_magnitude_by_digits(tk_u128 bound, tk_b
 /* atoi_fast/src/by_digits.rt:13 */
 TK_CONSTEXPR tk_option_pair_i8_size tk_prefix_by_digits_i8(tk_bytes s)
 {
-    tk_pair_bool_bytes found = tk_atoi_core_take_sign(true, false, s);
+    tk_pair_bool_bytes found = tk_take_sign(true, false, s);
     bool minus = found.first;
     tk_bytes body = found.second;
     tk_option_pair_u128_size found_2 = tk_magnitude_by_digits(tk_greatest_magnitude(tk_u128_of(127), minus), body);
@@ -2502,7 +2525,7 @@ TK_CONSTEXPR tk_option_pair_i8_size tk_prefix_by_digits_i8(tk_bytes s)
 /* atoi_fast/src/by_digits.rt:13 */
 TK_CONSTEXPR tk_option_pair_u8_size tk_prefix_by_digits_u8(tk_bytes s)
 {
-    tk_pair_bool_bytes found = tk_atoi_core_take_sign(false, false, s);
+    tk_pair_bool_bytes found = tk_take_sign(false, false, s);
     bool minus = found.first;
     tk_bytes body = found.second;
     tk_option_pair_u128_size found_2 = tk_magnitude_by_digits(tk_greatest_magnitude(tk_u128_of(255), minus), body);
@@ -2517,7 +2540,7 @@ TK_CONSTEXPR tk_option_pair_u8_size tk_prefix_by_digits_u8(tk_bytes s)
 /* atoi_fast/src/by_digits.rt:13 */
 TK_CONSTEXPR tk_option_pair_i16_size tk_prefix_by_digits_i16(tk_bytes s)
 {
-    tk_pair_bool_bytes found = tk_atoi_core_take_sign(true, false, s);
+    tk_pair_bool_bytes found = tk_take_sign(true, false, s);
     bool minus = found.first;
     tk_bytes body = found.second;
     tk_option_pair_u128_size found_2 = tk_magnitude_by_digits(tk_greatest_magnitude(tk_u128_of(32767), minus), body);
@@ -2532,7 +2555,7 @@ TK_CONSTEXPR tk_option_pair_i16_size tk_prefix_by_digits_i16(tk_bytes s)
 /* atoi_fast/src/by_digits.rt:13 */
 TK_CONSTEXPR tk_option_pair_u16_size tk_prefix_by_digits_u16(tk_bytes s)
 {
-    tk_pair_bool_bytes found = tk_atoi_core_take_sign(false, false, s);
+    tk_pair_bool_bytes found = tk_take_sign(false, false, s);
     bool minus = found.first;
     tk_bytes body = found.second;
     tk_option_pair_u128_size found_2 = tk_magnitude_by_digits(tk_greatest_magnitude(tk_u128_of(65535), minus), body);
@@ -2547,7 +2570,7 @@ TK_CONSTEXPR tk_option_pair_u16_size tk_prefix_by_digits_u16(tk_bytes s)
 /* atoi_fast/src/by_digits.rt:13 */
 TK_CONSTEXPR tk_option_pair_i32_size tk_prefix_by_digits_i32(tk_bytes s)
 {
-    tk_pair_bool_bytes found = tk_atoi_core_take_sign(true, false, s);
+    tk_pair_bool_bytes found = tk_take_sign(true, false, s);
     bool minus = found.first;
     tk_bytes body = found.second;
     tk_option_pair_u128_size found_2 = tk_magnitude_by_digits(tk_greatest_magnitude(tk_u128_of(2147483647), minus),
@@ -2563,7 +2586,7 @@ TK_CONSTEXPR tk_option_pair_i32_size tk_prefix_by_digits_i32(tk_bytes s)
 /* atoi_fast/src/by_digits.rt:13 */
 TK_CONSTEXPR tk_option_pair_u32_size tk_prefix_by_digits_u32(tk_bytes s)
 {
-    tk_pair_bool_bytes found = tk_atoi_core_take_sign(false, false, s);
+    tk_pair_bool_bytes found = tk_take_sign(false, false, s);
     bool minus = found.first;
     tk_bytes body = found.second;
     tk_option_pair_u128_size found_2 = tk_magnitude_by_digits(tk_greatest_magnitude(tk_u128_of(UINT64_C(4294967295)),
@@ -2579,7 +2602,7 @@ TK_CONSTEXPR tk_option_pair_u32_size tk_prefix_by_digits_u32(tk_bytes s)
 /* atoi_fast/src/by_digits.rt:13 */
 TK_CONSTEXPR tk_option_pair_i64_size tk_prefix_by_digits_i64(tk_bytes s)
 {
-    tk_pair_bool_bytes found = tk_atoi_core_take_sign(true, false, s);
+    tk_pair_bool_bytes found = tk_take_sign(true, false, s);
     bool minus = found.first;
     tk_bytes body = found.second;
     tk_option_pair_u128_size found_2 = tk_magnitude_by_digits(
@@ -2595,7 +2618,7 @@ TK_CONSTEXPR tk_option_pair_i64_size tk_prefix_by_digits_i64(tk_bytes s)
 /* atoi_fast/src/by_digits.rt:13 */
 TK_CONSTEXPR tk_option_pair_u64_size tk_prefix_by_digits_u64(tk_bytes s)
 {
-    tk_pair_bool_bytes found = tk_atoi_core_take_sign(false, false, s);
+    tk_pair_bool_bytes found = tk_take_sign(false, false, s);
     bool minus = found.first;
     tk_bytes body = found.second;
     tk_option_pair_u128_size found_2 = tk_magnitude_by_digits(
@@ -2611,7 +2634,7 @@ TK_CONSTEXPR tk_option_pair_u64_size tk_prefix_by_digits_u64(tk_bytes s)
 /* atoi_fast/src/by_digits.rt:13 */
 TK_CONSTEXPR tk_option_pair_i128_size tk_prefix_by_digits_i128(tk_bytes s)
 {
-    tk_pair_bool_bytes found = tk_atoi_core_take_sign(true, false, s);
+    tk_pair_bool_bytes found = tk_take_sign(true, false, s);
     bool minus = found.first;
     tk_bytes body = found.second;
     tk_option_pair_u128_size found_2 = tk_magnitude_by_digits(
@@ -2629,7 +2652,7 @@ TK_CONSTEXPR tk_option_pair_i128_size tk_prefix_by_digits_i128(tk_bytes s)
 /* atoi_fast/src/by_digits.rt:13 */
 TK_CONSTEXPR tk_option_pair_u128_size tk_prefix_by_digits_u128(tk_bytes s)
 {
-    tk_pair_bool_bytes found = tk_atoi_core_take_sign(false, false, s);
+    tk_pair_bool_bytes found = tk_take_sign(false, false, s);
     bool minus = found.first;
     tk_bytes body = found.second;
     tk_option_pair_u128_size found_2 = tk_magnitude_by_digits(
@@ -2656,7 +2679,7 @@ TK_CONSTEXPR bool tk_is_above_limit(uint32_t bits, bool is_signed, size_t len)
 /* atoi_fast/src/by_digits.rt:28 */
 TK_CONSTEXPR tk_option_i8 tk_whole_by_digits_i8(bool skip, bool skip_plus, tk_bytes s)
 {
-    tk_pair_bool_bytes found = tk_atoi_core_take_sign(true, skip_plus, s);
+    tk_pair_bool_bytes found = tk_take_sign(true, skip_plus, s);
     bool minus = found.first;
     tk_bytes body = found.second;
     tk_option_pair_u128_size found_2 = tk_magnitude_by_digits(tk_greatest_magnitude(tk_u128_of(127), minus), body);
@@ -2677,7 +2700,7 @@ TK_CONSTEXPR tk_option_i8 tk_whole_by_digits_i8(bool skip, bool skip_plus, tk_by
 /* atoi_fast/src/by_digits.rt:28 */
 TK_CONSTEXPR tk_option_u8 tk_whole_by_digits_u8(bool skip, bool skip_plus, tk_bytes s)
 {
-    tk_pair_bool_bytes found = tk_atoi_core_take_sign(false, skip_plus, s);
+    tk_pair_bool_bytes found = tk_take_sign(false, skip_plus, s);
     bool minus = found.first;
     tk_bytes body = found.second;
     tk_option_pair_u128_size found_2 = tk_magnitude_by_digits(tk_greatest_magnitude(tk_u128_of(255), minus), body);
@@ -2698,7 +2721,7 @@ TK_CONSTEXPR tk_option_u8 tk_whole_by_digits_u8(bool skip, bool skip_plus, tk_by
 /* atoi_fast/src/by_digits.rt:28 */
 TK_CONSTEXPR tk_option_i16 tk_whole_by_digits_i16(bool skip, bool skip_plus, tk_bytes s)
 {
-    tk_pair_bool_bytes found = tk_atoi_core_take_sign(true, skip_plus, s);
+    tk_pair_bool_bytes found = tk_take_sign(true, skip_plus, s);
     bool minus = found.first;
     tk_bytes body = found.second;
     tk_option_pair_u128_size found_2 = tk_magnitude_by_digits(tk_greatest_magnitude(tk_u128_of(32767), minus), body);
@@ -2719,7 +2742,7 @@ TK_CONSTEXPR tk_option_i16 tk_whole_by_digits_i16(bool skip, bool skip_plus, tk_
 /* atoi_fast/src/by_digits.rt:28 */
 TK_CONSTEXPR tk_option_u16 tk_whole_by_digits_u16(bool skip, bool skip_plus, tk_bytes s)
 {
-    tk_pair_bool_bytes found = tk_atoi_core_take_sign(false, skip_plus, s);
+    tk_pair_bool_bytes found = tk_take_sign(false, skip_plus, s);
     bool minus = found.first;
     tk_bytes body = found.second;
     tk_option_pair_u128_size found_2 = tk_magnitude_by_digits(tk_greatest_magnitude(tk_u128_of(65535), minus), body);
@@ -2740,7 +2763,7 @@ TK_CONSTEXPR tk_option_u16 tk_whole_by_digits_u16(bool skip, bool skip_plus, tk_
 /* atoi_fast/src/by_digits.rt:28 */
 TK_CONSTEXPR tk_option_i32 tk_whole_by_digits_i32(bool skip, bool skip_plus, tk_bytes s)
 {
-    tk_pair_bool_bytes found = tk_atoi_core_take_sign(true, skip_plus, s);
+    tk_pair_bool_bytes found = tk_take_sign(true, skip_plus, s);
     bool minus = found.first;
     tk_bytes body = found.second;
     tk_option_pair_u128_size found_2 = tk_magnitude_by_digits(tk_greatest_magnitude(tk_u128_of(2147483647), minus),
@@ -2762,7 +2785,7 @@ TK_CONSTEXPR tk_option_i32 tk_whole_by_digits_i32(bool skip, bool skip_plus, tk_
 /* atoi_fast/src/by_digits.rt:28 */
 TK_CONSTEXPR tk_option_u32 tk_whole_by_digits_u32(bool skip, bool skip_plus, tk_bytes s)
 {
-    tk_pair_bool_bytes found = tk_atoi_core_take_sign(false, skip_plus, s);
+    tk_pair_bool_bytes found = tk_take_sign(false, skip_plus, s);
     bool minus = found.first;
     tk_bytes body = found.second;
     tk_option_pair_u128_size found_2 = tk_magnitude_by_digits(tk_greatest_magnitude(tk_u128_of(UINT64_C(4294967295)),
@@ -2784,7 +2807,7 @@ TK_CONSTEXPR tk_option_u32 tk_whole_by_digits_u32(bool skip, bool skip_plus, tk_
 /* atoi_fast/src/by_digits.rt:28 */
 TK_CONSTEXPR tk_option_i64 tk_whole_by_digits_i64(bool skip, bool skip_plus, tk_bytes s)
 {
-    tk_pair_bool_bytes found = tk_atoi_core_take_sign(true, skip_plus, s);
+    tk_pair_bool_bytes found = tk_take_sign(true, skip_plus, s);
     bool minus = found.first;
     tk_bytes body = found.second;
     tk_option_pair_u128_size found_2 = tk_magnitude_by_digits(
@@ -2806,7 +2829,7 @@ TK_CONSTEXPR tk_option_i64 tk_whole_by_digits_i64(bool skip, bool skip_plus, tk_
 /* atoi_fast/src/by_digits.rt:28 */
 TK_CONSTEXPR tk_option_u64 tk_whole_by_digits_u64(bool skip, bool skip_plus, tk_bytes s)
 {
-    tk_pair_bool_bytes found = tk_atoi_core_take_sign(false, skip_plus, s);
+    tk_pair_bool_bytes found = tk_take_sign(false, skip_plus, s);
     bool minus = found.first;
     tk_bytes body = found.second;
     tk_option_pair_u128_size found_2 = tk_magnitude_by_digits(
@@ -2828,7 +2851,7 @@ TK_CONSTEXPR tk_option_u64 tk_whole_by_digits_u64(bool skip, bool skip_plus, tk_
 /* atoi_fast/src/by_digits.rt:28 */
 TK_CONSTEXPR tk_option_i128 tk_whole_by_digits_i128(bool skip, bool skip_plus, tk_bytes s)
 {
-    tk_pair_bool_bytes found = tk_atoi_core_take_sign(true, skip_plus, s);
+    tk_pair_bool_bytes found = tk_take_sign(true, skip_plus, s);
     bool minus = found.first;
     tk_bytes body = found.second;
     tk_option_pair_u128_size found_2 = tk_magnitude_by_digits(
@@ -2851,7 +2874,7 @@ TK_CONSTEXPR tk_option_i128 tk_whole_by_digits_i128(bool skip, bool skip_plus, t
 /* atoi_fast/src/by_digits.rt:28 */
 TK_CONSTEXPR tk_option_u128 tk_whole_by_digits_u128(bool skip, bool skip_plus, tk_bytes s)
 {
-    tk_pair_bool_bytes found = tk_atoi_core_take_sign(false, skip_plus, s);
+    tk_pair_bool_bytes found = tk_take_sign(false, skip_plus, s);
     bool minus = found.first;
     tk_bytes body = found.second;
     tk_option_pair_u128_size found_2 = tk_magnitude_by_digits(
@@ -3191,6 +3214,8 @@ const char *torkettle_version(void) TORKETTLE_SYMBOL_(version);
 #undef TK_MOST_IN_TWO_WORDS
 #undef TK_MOST_IN_WORD
 #undef TK_NOINLINE
+#undef TK_NUMBER
+#undef TK_POINTER
 #undef TK_TEXT
 #undef TK_ZEROS
 #undef TK_SYMBOL

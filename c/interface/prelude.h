@@ -3,10 +3,14 @@
 #define TK_CAST(type, value) static_cast<type>(value)
 #define TK_MAKE(type, ...) (type{__VA_ARGS__})
 #define TK_TEXT(text) tk_bytes_of(reinterpret_cast<const uint8_t *>(text), sizeof(text) - 1)
+#define TK_NUMBER(at) reinterpret_cast<uintptr_t>(at)
+#define TK_POINTER(number) reinterpret_cast<const uint8_t *>(number)
 #else
 #define TK_CAST(type, value) ((type)(value))
 #define TK_MAKE(type, ...) ((type){__VA_ARGS__})
 #define TK_TEXT(text) tk_bytes_of((const uint8_t *)(text), sizeof(text) - 1)
+#define TK_NUMBER(at) ((uintptr_t)(at))
+#define TK_POINTER(number) ((const uint8_t *)(number))
 #endif
 
 /* What a compiler has to do with a function, as the attributes of the source say it. */
@@ -49,6 +53,25 @@
 #ifndef TORKETTLE_CHECK
 #define TORKETTLE_CHECK(condition) ((void)0)
 #endif
+
+/* One of two lengths or places. gcc would make a branch of it, and no processor can guess which one is next. */
+TK_INLINE size_t tk_either(bool is_first, size_t first, size_t second)
+{
+#if defined __GNUC__ && !defined __clang__
+    return second + ((first - second) & (TK_CAST(size_t, 0) - is_first));
+#else
+    return is_first ? first : second;
+#endif
+}
+
+TK_INLINE const uint8_t *tk_either_at(bool is_first, const uint8_t *first, const uint8_t *second)
+{
+#if defined __GNUC__ && !defined __clang__
+    return TK_POINTER(tk_either(is_first, TK_NUMBER(first), TK_NUMBER(second)));
+#else
+    return is_first ? first : second;
+#endif
+}
 
 /* An index of so many elements. */
 TK_CONSTEXPR size_t tk_index(size_t index, size_t len)

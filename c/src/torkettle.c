@@ -1376,12 +1376,6 @@ static const uint8_t tk_short[9][8] = {
 
 #define TK_FOUR_ZEROS 0x30303030
 
-TK_CONSTEXPR tk_bytes tk_bytes_to(tk_bytes s, size_t high)
-{
-    TORKETTLE_CHECK(high <= s.len);
-    return tk_bytes_of(s.at, high);
-}
-
 TK_CONSTEXPR tk_room_u8 tk_room_u8_between(tk_room_u8 s, size_t low, size_t high)
 {
     TORKETTLE_CHECK(low <= high && high <= s.len);
@@ -1389,6 +1383,12 @@ TK_CONSTEXPR tk_room_u8 tk_room_u8_between(tk_room_u8 s, size_t low, size_t high
 }
 
 #define TK_SHOWN_BYTES 48
+
+TK_CONSTEXPR tk_bytes tk_bytes_to(tk_bytes s, size_t high)
+{
+    TORKETTLE_CHECK(high <= s.len);
+    return tk_bytes_of(s.at, high);
+}
 
 /* What is guessed of the first field. */
 static const tk_guess tk_no_guess = {0, false, true, false};
@@ -1507,6 +1507,538 @@ TK_CONSTEXPR tk_slice_u128 tk_slice_u128_shared(tk_room_u128 s)
     return tk_slice_u128_of(s.at, s.len);
 }
 
+/* atoi_fast/src/loads.rt:88 */
+TK_HINTED uint32_t tk_load_last_four(tk_bytes s)
+{
+    if (s.len >= 4) {
+        const uint8_t *last = s.at + (s.len - 4);
+        return tk_u32_load(last);
+    }
+    return 0;
+}
+
+/* `load_from` for four bytes, of which the first is there. */
+/* atoi_fast/src/loads.rt:72 */
+TK_INLINE uint32_t tk_load_four_from(tk_bytes s, size_t at)
+{
+    if (s.len < at + 4) {
+        return tk_load_last_four(s) >> (8 * (at + 4 - s.len));
+    }
+    tk_bytes all = tk_bytes_from(s, at);
+    if (all.len >= 4) {
+        const uint8_t *first = all.at;
+        return tk_u32_load(first);
+    }
+    return 0;
+}
+
+/* atoi_fast/src/loads.rt:99 */
+TK_HINTED uint32_t tk_load_last_two(tk_bytes s)
+{
+    if (s.len >= 2) {
+        const uint8_t *last = s.at + (s.len - 2);
+        return TK_CAST(uint32_t, tk_u16_load(last));
+    }
+    return 0;
+}
+
+/* Returns the factor that moves the lowest of `len` bytes to where `load_flipped` has the first byte. */
+/* atoi_fast/src/loads.rt:41 */
+TK_INLINE uint64_t tk_factor_of(size_t len)
+{
+    return tk_u64_load(tk_short[tk_index(len, 9)]);
+}
+
+/* Returns the word of `s` filled with zeros at the front, xor `ZEROS`, without a branch on the length. */
+/* atoi_fast/src/loads.rt:25 */
+TK_INLINE uint64_t tk_load_flipped(tk_bytes s)
+{
+    tk_bytes short_ = tk_bytes_of(tk_short[tk_index(0, 9)], 8);
+    tk_bytes fours = tk_bytes_of(tk_either_at(s.len < 4, short_.at, s.at), tk_either(s.len < 4, short_.len, s.len));
+    uint32_t front = (TK_CAST(uint32_t, s.at[tk_index(0, s.len)]) | tk_load_four_from(fours, 0)) ^ TK_FOUR_ZEROS;
+    uint32_t back = (tk_load_last_four(fours) | (tk_load_last_two(s) << 16)) ^ TK_FOUR_ZEROS;
+    /* A product takes less time than a shift on many processors. */
+    uint64_t shifted = TK_CAST(uint64_t, front) * tk_factor_of(s.len);
+    return shifted | (TK_CAST(uint64_t, back) << 32);
+}
+
+/* `leading_digits` for a word xor `ZEROS`. Here, a byte is no digit if adding 118 sets its top bit. */
+/* atoi_fast/src/digits.rt:35 */
+TK_HINTED uint32_t tk_leading_digits_flipped(uint64_t flipped)
+{
+    uint64_t marks = ((flipped + UINT64_C(0x7676767676767676)) | flipped) & UINT64_C(0x8080808080808080);
+    if (marks == 0) {
+        return 8;
+    }
+    return tk_u64_trailing_zeros(marks) / 8;
+}
+
+/* Returns the number of a slice of 2 to 8 bytes, if all are digits after at most a minus. */
+/* atoi_fast/src/short_slice.rt:38 */
+TK_INLINE tk_option_i8 tk_short_slice_i8(tk_bytes s)
+{
+    bool minus = true & (s.at[tk_index(0, s.len)] == '-');
+    /* A `-` that is flipped once more is the digit 0, without a branch. */
+    uint64_t flipped = tk_load_flipped(s) ^ (tk_factor_of(s.len) * (0x1D * TK_CAST(uint64_t, minus)));
+    if (tk_leading_digits_flipped(flipped) != 8) {
+        return tk_none_i8();
+    }
+    return tk_number_in_range_i8(TK_MOST_IN_WORD, minus, tk_sum_of(flipped));
+}
+
+/* atoi_fast/src/loads.rt:122 */
+TK_HINTED uint64_t tk_load_last(tk_bytes s)
+{
+    if (s.len >= 8) {
+        const uint8_t *last = s.at + (s.len - 8);
+        return tk_u64_load(last);
+    }
+    return 0;
+}
+
+/* The number that the first `len` bytes of the word spell. They are digits, at least one. */
+/* atoi_fast/src/digits.rt:81 */
+TK_HINTED uint64_t tk_value_of(uint64_t word, uint32_t len)
+{
+    return tk_sum_of((word - TK_ZEROS) << (64 - 8 * len));
+}
+
+/*
+ * Returns the number of a slice of 9 to 15 bytes, if all are digits after at most a minus. The last eight overlap
+ * the first eight.
+ */
+/* atoi_fast/src/short_slice.rt:71 */
+TK_INLINE tk_option_i8 tk_slice_of_two_words_i8(tk_bytes s)
+{
+    uint64_t word = tk_load_full(s);
+    bool minus = true & (s.at[tk_index(0, s.len)] == '-');
+    /* A `-` plus 3 is a `0`. */
+    uint64_t first = word + 3 * TK_CAST(uint64_t, minus);
+    uint64_t last = tk_load_last(s);
+    if (tk_leading_digits(first) != 8 || tk_leading_digits(last) != 8) {
+        return tk_none_i8();
+    }
+    uint64_t high = tk_value_of(first, TK_CAST(uint32_t, s.len) - 8);
+    uint64_t magnitude = high * tk_power_of_ten(8) + tk_value_of(last, 8);
+    return tk_number_in_range_i8(TK_MOST_IN_TWO_WORDS, minus, magnitude);
+}
+
+/* Returns the number of a slice of 2 to 15 bytes, if all are digits after at most a minus, which takes no branch. */
+/* atoi_fast/src/quick.rt:25 */
+TK_INLINE tk_option_i8 tk_quick_slice_i8(tk_bytes s)
+{
+    if (2 <= s.len && s.len <= 8) {
+        return tk_short_slice_i8(s);
+    }
+    if (9 <= s.len && s.len <= 15) {
+        return tk_slice_of_two_words_i8(s);
+    }
+    return tk_none_i8();
+}
+
+/* atoi_fast/src/short_slice.rt:38 */
+TK_INLINE tk_option_u8 tk_short_slice_u8(tk_bytes s)
+{
+    bool minus = false & (s.at[tk_index(0, s.len)] == '-');
+    /* A `-` that is flipped once more is the digit 0, without a branch. */
+    uint64_t flipped = tk_load_flipped(s) ^ (tk_factor_of(s.len) * (0x1D * TK_CAST(uint64_t, minus)));
+    if (tk_leading_digits_flipped(flipped) != 8) {
+        return tk_none_u8();
+    }
+    return tk_number_in_range_u8(TK_MOST_IN_WORD, minus, tk_sum_of(flipped));
+}
+
+/* atoi_fast/src/short_slice.rt:71 */
+TK_INLINE tk_option_u8 tk_slice_of_two_words_u8(tk_bytes s)
+{
+    uint64_t word = tk_load_full(s);
+    bool minus = false & (s.at[tk_index(0, s.len)] == '-');
+    /* A `-` plus 3 is a `0`. */
+    uint64_t first = word + 3 * TK_CAST(uint64_t, minus);
+    uint64_t last = tk_load_last(s);
+    if (tk_leading_digits(first) != 8 || tk_leading_digits(last) != 8) {
+        return tk_none_u8();
+    }
+    uint64_t high = tk_value_of(first, TK_CAST(uint32_t, s.len) - 8);
+    uint64_t magnitude = high * tk_power_of_ten(8) + tk_value_of(last, 8);
+    return tk_number_in_range_u8(TK_MOST_IN_TWO_WORDS, minus, magnitude);
+}
+
+/* atoi_fast/src/quick.rt:25 */
+TK_INLINE tk_option_u8 tk_quick_slice_u8(tk_bytes s)
+{
+    if (2 <= s.len && s.len <= 8) {
+        return tk_short_slice_u8(s);
+    }
+    if (9 <= s.len && s.len <= 15) {
+        return tk_slice_of_two_words_u8(s);
+    }
+    return tk_none_u8();
+}
+
+/* atoi_fast/src/short_slice.rt:38 */
+TK_INLINE tk_option_i16 tk_short_slice_i16(tk_bytes s)
+{
+    bool minus = true & (s.at[tk_index(0, s.len)] == '-');
+    /* A `-` that is flipped once more is the digit 0, without a branch. */
+    uint64_t flipped = tk_load_flipped(s) ^ (tk_factor_of(s.len) * (0x1D * TK_CAST(uint64_t, minus)));
+    if (tk_leading_digits_flipped(flipped) != 8) {
+        return tk_none_i16();
+    }
+    return tk_number_in_range_i16(TK_MOST_IN_WORD, minus, tk_sum_of(flipped));
+}
+
+/* atoi_fast/src/short_slice.rt:71 */
+TK_INLINE tk_option_i16 tk_slice_of_two_words_i16(tk_bytes s)
+{
+    uint64_t word = tk_load_full(s);
+    bool minus = true & (s.at[tk_index(0, s.len)] == '-');
+    /* A `-` plus 3 is a `0`. */
+    uint64_t first = word + 3 * TK_CAST(uint64_t, minus);
+    uint64_t last = tk_load_last(s);
+    if (tk_leading_digits(first) != 8 || tk_leading_digits(last) != 8) {
+        return tk_none_i16();
+    }
+    uint64_t high = tk_value_of(first, TK_CAST(uint32_t, s.len) - 8);
+    uint64_t magnitude = high * tk_power_of_ten(8) + tk_value_of(last, 8);
+    return tk_number_in_range_i16(TK_MOST_IN_TWO_WORDS, minus, magnitude);
+}
+
+/* atoi_fast/src/quick.rt:25 */
+TK_INLINE tk_option_i16 tk_quick_slice_i16(tk_bytes s)
+{
+    if (2 <= s.len && s.len <= 8) {
+        return tk_short_slice_i16(s);
+    }
+    if (9 <= s.len && s.len <= 15) {
+        return tk_slice_of_two_words_i16(s);
+    }
+    return tk_none_i16();
+}
+
+/* atoi_fast/src/short_slice.rt:38 */
+TK_INLINE tk_option_u16 tk_short_slice_u16(tk_bytes s)
+{
+    bool minus = false & (s.at[tk_index(0, s.len)] == '-');
+    /* A `-` that is flipped once more is the digit 0, without a branch. */
+    uint64_t flipped = tk_load_flipped(s) ^ (tk_factor_of(s.len) * (0x1D * TK_CAST(uint64_t, minus)));
+    if (tk_leading_digits_flipped(flipped) != 8) {
+        return tk_none_u16();
+    }
+    return tk_number_in_range_u16(TK_MOST_IN_WORD, minus, tk_sum_of(flipped));
+}
+
+/* atoi_fast/src/short_slice.rt:71 */
+TK_INLINE tk_option_u16 tk_slice_of_two_words_u16(tk_bytes s)
+{
+    uint64_t word = tk_load_full(s);
+    bool minus = false & (s.at[tk_index(0, s.len)] == '-');
+    /* A `-` plus 3 is a `0`. */
+    uint64_t first = word + 3 * TK_CAST(uint64_t, minus);
+    uint64_t last = tk_load_last(s);
+    if (tk_leading_digits(first) != 8 || tk_leading_digits(last) != 8) {
+        return tk_none_u16();
+    }
+    uint64_t high = tk_value_of(first, TK_CAST(uint32_t, s.len) - 8);
+    uint64_t magnitude = high * tk_power_of_ten(8) + tk_value_of(last, 8);
+    return tk_number_in_range_u16(TK_MOST_IN_TWO_WORDS, minus, magnitude);
+}
+
+/* atoi_fast/src/quick.rt:25 */
+TK_INLINE tk_option_u16 tk_quick_slice_u16(tk_bytes s)
+{
+    if (2 <= s.len && s.len <= 8) {
+        return tk_short_slice_u16(s);
+    }
+    if (9 <= s.len && s.len <= 15) {
+        return tk_slice_of_two_words_u16(s);
+    }
+    return tk_none_u16();
+}
+
+/* atoi_fast/src/short_slice.rt:38 */
+TK_INLINE tk_option_i32 tk_short_slice_i32(tk_bytes s)
+{
+    bool minus = true & (s.at[tk_index(0, s.len)] == '-');
+    /* A `-` that is flipped once more is the digit 0, without a branch. */
+    uint64_t flipped = tk_load_flipped(s) ^ (tk_factor_of(s.len) * (0x1D * TK_CAST(uint64_t, minus)));
+    if (tk_leading_digits_flipped(flipped) != 8) {
+        return tk_none_i32();
+    }
+    return tk_number_in_range_i32(TK_MOST_IN_WORD, minus, tk_sum_of(flipped));
+}
+
+/* atoi_fast/src/short_slice.rt:71 */
+TK_INLINE tk_option_i32 tk_slice_of_two_words_i32(tk_bytes s)
+{
+    uint64_t word = tk_load_full(s);
+    bool minus = true & (s.at[tk_index(0, s.len)] == '-');
+    /* A `-` plus 3 is a `0`. */
+    uint64_t first = word + 3 * TK_CAST(uint64_t, minus);
+    uint64_t last = tk_load_last(s);
+    if (tk_leading_digits(first) != 8 || tk_leading_digits(last) != 8) {
+        return tk_none_i32();
+    }
+    uint64_t high = tk_value_of(first, TK_CAST(uint32_t, s.len) - 8);
+    uint64_t magnitude = high * tk_power_of_ten(8) + tk_value_of(last, 8);
+    return tk_number_in_range_i32(TK_MOST_IN_TWO_WORDS, minus, magnitude);
+}
+
+/* atoi_fast/src/quick.rt:25 */
+TK_INLINE tk_option_i32 tk_quick_slice_i32(tk_bytes s)
+{
+    if (2 <= s.len && s.len <= 8) {
+        return tk_short_slice_i32(s);
+    }
+    if (9 <= s.len && s.len <= 15) {
+        return tk_slice_of_two_words_i32(s);
+    }
+    return tk_none_i32();
+}
+
+/* atoi_fast/src/short_slice.rt:38 */
+TK_INLINE tk_option_u32 tk_short_slice_u32(tk_bytes s)
+{
+    bool minus = false & (s.at[tk_index(0, s.len)] == '-');
+    /* A `-` that is flipped once more is the digit 0, without a branch. */
+    uint64_t flipped = tk_load_flipped(s) ^ (tk_factor_of(s.len) * (0x1D * TK_CAST(uint64_t, minus)));
+    if (tk_leading_digits_flipped(flipped) != 8) {
+        return tk_none_u32();
+    }
+    return tk_number_in_range_u32(TK_MOST_IN_WORD, minus, tk_sum_of(flipped));
+}
+
+/* atoi_fast/src/short_slice.rt:71 */
+TK_INLINE tk_option_u32 tk_slice_of_two_words_u32(tk_bytes s)
+{
+    uint64_t word = tk_load_full(s);
+    bool minus = false & (s.at[tk_index(0, s.len)] == '-');
+    /* A `-` plus 3 is a `0`. */
+    uint64_t first = word + 3 * TK_CAST(uint64_t, minus);
+    uint64_t last = tk_load_last(s);
+    if (tk_leading_digits(first) != 8 || tk_leading_digits(last) != 8) {
+        return tk_none_u32();
+    }
+    uint64_t high = tk_value_of(first, TK_CAST(uint32_t, s.len) - 8);
+    uint64_t magnitude = high * tk_power_of_ten(8) + tk_value_of(last, 8);
+    return tk_number_in_range_u32(TK_MOST_IN_TWO_WORDS, minus, magnitude);
+}
+
+/* atoi_fast/src/quick.rt:25 */
+TK_INLINE tk_option_u32 tk_quick_slice_u32(tk_bytes s)
+{
+    if (2 <= s.len && s.len <= 8) {
+        return tk_short_slice_u32(s);
+    }
+    if (9 <= s.len && s.len <= 15) {
+        return tk_slice_of_two_words_u32(s);
+    }
+    return tk_none_u32();
+}
+
+/* atoi_fast/src/short_slice.rt:38 */
+TK_INLINE tk_option_i64 tk_short_slice_i64(tk_bytes s)
+{
+    bool minus = true & (s.at[tk_index(0, s.len)] == '-');
+    /* A `-` that is flipped once more is the digit 0, without a branch. */
+    uint64_t flipped = tk_load_flipped(s) ^ (tk_factor_of(s.len) * (0x1D * TK_CAST(uint64_t, minus)));
+    if (tk_leading_digits_flipped(flipped) != 8) {
+        return tk_none_i64();
+    }
+    return tk_number_in_range_i64(TK_MOST_IN_WORD, minus, tk_sum_of(flipped));
+}
+
+/* atoi_fast/src/short_slice.rt:71 */
+TK_INLINE tk_option_i64 tk_slice_of_two_words_i64(tk_bytes s)
+{
+    uint64_t word = tk_load_full(s);
+    bool minus = true & (s.at[tk_index(0, s.len)] == '-');
+    /* A `-` plus 3 is a `0`. */
+    uint64_t first = word + 3 * TK_CAST(uint64_t, minus);
+    uint64_t last = tk_load_last(s);
+    if (tk_leading_digits(first) != 8 || tk_leading_digits(last) != 8) {
+        return tk_none_i64();
+    }
+    uint64_t high = tk_value_of(first, TK_CAST(uint32_t, s.len) - 8);
+    uint64_t magnitude = high * tk_power_of_ten(8) + tk_value_of(last, 8);
+    return tk_number_in_range_i64(TK_MOST_IN_TWO_WORDS, minus, magnitude);
+}
+
+/* atoi_fast/src/quick.rt:25 */
+TK_INLINE tk_option_i64 tk_quick_slice_i64(tk_bytes s)
+{
+    if (2 <= s.len && s.len <= 8) {
+        return tk_short_slice_i64(s);
+    }
+    if (9 <= s.len && s.len <= 15) {
+        return tk_slice_of_two_words_i64(s);
+    }
+    return tk_none_i64();
+}
+
+/* atoi_fast/src/short_slice.rt:38 */
+TK_INLINE tk_option_u64 tk_short_slice_u64(tk_bytes s)
+{
+    bool minus = false & (s.at[tk_index(0, s.len)] == '-');
+    /* A `-` that is flipped once more is the digit 0, without a branch. */
+    uint64_t flipped = tk_load_flipped(s) ^ (tk_factor_of(s.len) * (0x1D * TK_CAST(uint64_t, minus)));
+    if (tk_leading_digits_flipped(flipped) != 8) {
+        return tk_none_u64();
+    }
+    return tk_number_in_range_u64(TK_MOST_IN_WORD, minus, tk_sum_of(flipped));
+}
+
+/* atoi_fast/src/short_slice.rt:71 */
+TK_INLINE tk_option_u64 tk_slice_of_two_words_u64(tk_bytes s)
+{
+    uint64_t word = tk_load_full(s);
+    bool minus = false & (s.at[tk_index(0, s.len)] == '-');
+    /* A `-` plus 3 is a `0`. */
+    uint64_t first = word + 3 * TK_CAST(uint64_t, minus);
+    uint64_t last = tk_load_last(s);
+    if (tk_leading_digits(first) != 8 || tk_leading_digits(last) != 8) {
+        return tk_none_u64();
+    }
+    uint64_t high = tk_value_of(first, TK_CAST(uint32_t, s.len) - 8);
+    uint64_t magnitude = high * tk_power_of_ten(8) + tk_value_of(last, 8);
+    return tk_number_in_range_u64(TK_MOST_IN_TWO_WORDS, minus, magnitude);
+}
+
+/* atoi_fast/src/quick.rt:25 */
+TK_INLINE tk_option_u64 tk_quick_slice_u64(tk_bytes s)
+{
+    if (2 <= s.len && s.len <= 8) {
+        return tk_short_slice_u64(s);
+    }
+    if (9 <= s.len && s.len <= 15) {
+        return tk_slice_of_two_words_u64(s);
+    }
+    return tk_none_u64();
+}
+
+/* atoi_fast/src/short_slice.rt:38 */
+TK_INLINE tk_option_i128 tk_short_slice_i128(tk_bytes s)
+{
+    bool minus = true & (s.at[tk_index(0, s.len)] == '-');
+    /* A `-` that is flipped once more is the digit 0, without a branch. */
+    uint64_t flipped = tk_load_flipped(s) ^ (tk_factor_of(s.len) * (0x1D * TK_CAST(uint64_t, minus)));
+    if (tk_leading_digits_flipped(flipped) != 8) {
+        return tk_none_i128();
+    }
+    return tk_number_in_range_i128(TK_MOST_IN_WORD, minus, tk_sum_of(flipped));
+}
+
+/* atoi_fast/src/short_slice.rt:71 */
+TK_INLINE tk_option_i128 tk_slice_of_two_words_i128(tk_bytes s)
+{
+    uint64_t word = tk_load_full(s);
+    bool minus = true & (s.at[tk_index(0, s.len)] == '-');
+    /* A `-` plus 3 is a `0`. */
+    uint64_t first = word + 3 * TK_CAST(uint64_t, minus);
+    uint64_t last = tk_load_last(s);
+    if (tk_leading_digits(first) != 8 || tk_leading_digits(last) != 8) {
+        return tk_none_i128();
+    }
+    uint64_t high = tk_value_of(first, TK_CAST(uint32_t, s.len) - 8);
+    uint64_t magnitude = high * tk_power_of_ten(8) + tk_value_of(last, 8);
+    return tk_number_in_range_i128(TK_MOST_IN_TWO_WORDS, minus, magnitude);
+}
+
+/* atoi_fast/src/quick.rt:25 */
+TK_INLINE tk_option_i128 tk_quick_slice_i128(tk_bytes s)
+{
+    if (2 <= s.len && s.len <= 8) {
+        return tk_short_slice_i128(s);
+    }
+    if (9 <= s.len && s.len <= 15) {
+        return tk_slice_of_two_words_i128(s);
+    }
+    return tk_none_i128();
+}
+
+/* atoi_fast/src/short_slice.rt:38 */
+TK_INLINE tk_option_u128 tk_short_slice_u128(tk_bytes s)
+{
+    bool minus = false & (s.at[tk_index(0, s.len)] == '-');
+    /* A `-` that is flipped once more is the digit 0, without a branch. */
+    uint64_t flipped = tk_load_flipped(s) ^ (tk_factor_of(s.len) * (0x1D * TK_CAST(uint64_t, minus)));
+    if (tk_leading_digits_flipped(flipped) != 8) {
+        return tk_none_u128();
+    }
+    return tk_number_in_range_u128(TK_MOST_IN_WORD, minus, tk_sum_of(flipped));
+}
+
+/* atoi_fast/src/short_slice.rt:71 */
+TK_INLINE tk_option_u128 tk_slice_of_two_words_u128(tk_bytes s)
+{
+    uint64_t word = tk_load_full(s);
+    bool minus = false & (s.at[tk_index(0, s.len)] == '-');
+    /* A `-` plus 3 is a `0`. */
+    uint64_t first = word + 3 * TK_CAST(uint64_t, minus);
+    uint64_t last = tk_load_last(s);
+    if (tk_leading_digits(first) != 8 || tk_leading_digits(last) != 8) {
+        return tk_none_u128();
+    }
+    uint64_t high = tk_value_of(first, TK_CAST(uint32_t, s.len) - 8);
+    uint64_t magnitude = high * tk_power_of_ten(8) + tk_value_of(last, 8);
+    return tk_number_in_range_u128(TK_MOST_IN_TWO_WORDS, minus, magnitude);
+}
+
+/* atoi_fast/src/quick.rt:25 */
+TK_INLINE tk_option_u128 tk_quick_slice_u128(tk_bytes s)
+{
+    if (2 <= s.len && s.len <= 8) {
+        return tk_short_slice_u128(s);
+    }
+    if (9 <= s.len && s.len <= 15) {
+        return tk_slice_of_two_words_u128(s);
+    }
+    return tk_none_u128();
+}
+
+/* Returns the number of a slice of at least 16 bytes, if the type has 64 bits and no limit refuses so many digits. */
+/* atoi_fast/src/quick.rt:37 */
+TK_INLINE tk_option_i8 tk_long_slice_i8(tk_bytes s)
+{
+    (void)s;
+    return tk_none_i8();
+}
+
+/* atoi_fast/src/quick.rt:37 */
+TK_INLINE tk_option_u8 tk_long_slice_u8(tk_bytes s)
+{
+    (void)s;
+    return tk_none_u8();
+}
+
+/* atoi_fast/src/quick.rt:37 */
+TK_INLINE tk_option_i16 tk_long_slice_i16(tk_bytes s)
+{
+    (void)s;
+    return tk_none_i16();
+}
+
+/* atoi_fast/src/quick.rt:37 */
+TK_INLINE tk_option_u16 tk_long_slice_u16(tk_bytes s)
+{
+    (void)s;
+    return tk_none_u16();
+}
+
+/* atoi_fast/src/quick.rt:37 */
+TK_INLINE tk_option_i32 tk_long_slice_i32(tk_bytes s)
+{
+    (void)s;
+    return tk_none_i32();
+}
+
+/* atoi_fast/src/quick.rt:37 */
+TK_INLINE tk_option_u32 tk_long_slice_u32(tk_bytes s)
+{
+    (void)s;
+    return tk_none_u32();
+}
+
 /*
  * Returns the word of the first 8 bytes from `at` on. If fewer follow, shifts the last 8 bytes of `s`
  * down.
@@ -1555,6 +2087,24 @@ TK_FAR tk_option_pair_i64_size tk_prefix_of_three_words_i64(bool minus, uint64_t
     return tk_some_pair_i64_size(tk_new_pair_i64_size(tk_from_parts_i64(minus, magnitude), 16 + TK_CAST(size_t, more)));
 }
 
+/* atoi_fast/src/quick.rt:37 */
+TK_INLINE tk_option_i64 tk_long_slice_i64(tk_bytes s)
+{
+    if (s.len < 16) {
+        return tk_none_i64();
+    }
+    tk_option_pair_i64_size found = tk_prefix_of_words_i64(s);
+    if (!found.is_some) {
+        return tk_none_i64();
+    }
+    int64_t number = found.value.first;
+    size_t len = found.value.second;
+    if (len == s.len) {
+        return tk_some_i64(number);
+    }
+    return tk_none_i64();
+}
+
 /* atoi_fast/src/short_prefix.rt:112 */
 TK_FAR tk_option_pair_u64_size tk_prefix_of_three_words_u64(bool minus, uint64_t high, tk_bytes s)
 {
@@ -1572,6 +2122,38 @@ TK_FAR tk_option_pair_u64_size tk_prefix_of_three_words_u64(bool minus, uint64_t
     return tk_some_pair_u64_size(tk_new_pair_u64_size(tk_from_parts_u64(minus, magnitude), 16 + TK_CAST(size_t, more)));
 }
 
+/* atoi_fast/src/quick.rt:37 */
+TK_INLINE tk_option_u64 tk_long_slice_u64(tk_bytes s)
+{
+    if (s.len < 16) {
+        return tk_none_u64();
+    }
+    tk_option_pair_u64_size found = tk_prefix_of_words_u64(s);
+    if (!found.is_some) {
+        return tk_none_u64();
+    }
+    uint64_t number = found.value.first;
+    size_t len = found.value.second;
+    if (len == s.len) {
+        return tk_some_u64(number);
+    }
+    return tk_none_u64();
+}
+
+/* atoi_fast/src/quick.rt:37 */
+TK_INLINE tk_option_i128 tk_long_slice_i128(tk_bytes s)
+{
+    (void)s;
+    return tk_none_i128();
+}
+
+/* atoi_fast/src/quick.rt:37 */
+TK_INLINE tk_option_u128 tk_long_slice_u128(tk_bytes s)
+{
+    (void)s;
+    return tk_none_u128();
+}
+
 /* Returns the number of one digit. */
 /* atoi_fast/src/short_slice.rt:13 */
 TK_INLINE int8_t tk_loaded_digit_i8(tk_bytes s)
@@ -1579,34 +2161,14 @@ TK_INLINE int8_t tk_loaded_digit_i8(tk_bytes s)
     return tk_from_parts_i8(false, tk_u128_of(TK_CAST(uint8_t, s.at[tk_index(0, s.len)] - '0')));
 }
 
-/*
- * Never inlined, so that a `+` is a branch: with a select, the digits' address would wait for the
- * first byte.
- */
-/* atoi_fast/src/sign.rt:46 */
-TK_NOINLINE tk_bytes tk_without_first(tk_bytes s)
+/* Returns the number of a slice of 2 to 15 bytes, if all are digits after at most a minus. */
+/* atoi_fast/src/short_slice.rt:54 */
+TK_NOINLINE tk_option_i8 tk_loaded_slice_i8(tk_bytes s)
 {
-    return tk_bytes_from(s, 1);
-}
-
-/* `atoi_core::take_sign`, with the same contract. It branches on a `+` alone. */
-/* atoi_fast/src/sign.rt:7 */
-TK_INLINE tk_pair_bool_bytes tk_sign_take_sign(bool signed_, bool skip_plus, tk_bytes s)
-{
-    if (!signed_ && !skip_plus) {
-        return tk_new_pair_bool_bytes(false, s);
+    if (s.len <= 8) {
+        return tk_short_slice_i8(s);
     }
-    if (s.len < 1) {
-        return tk_new_pair_bool_bytes(false, s);
-    }
-    uint8_t first = s.at[0];
-    /* Before the `+`: with the sign set on two paths, rustc 1.95 branches on it for `i128`. */
-    bool minus = signed_ & (first == '-');
-    if (skip_plus && first == '+') {
-        return tk_new_pair_bool_bytes(minus, tk_without_first(s));
-    }
-    /* Sliced by 0 or 1: with mixed signs, a branch would be mispredicted. */
-    return tk_new_pair_bool_bytes(minus, tk_bytes_from(s, TK_CAST(size_t, minus)));
+    return tk_slice_of_two_words_i8(s);
 }
 
 /* A window that is not full, and so reports no zeros. */
@@ -1621,13 +2183,6 @@ TK_HINTED tk_window tk_window_not_full(uint32_t len, uint64_t number)
 TK_HINTED uint64_t tk_value_below_8(uint64_t word, uint32_t len)
 {
     return tk_sum_of(((word - TK_ZEROS) << (56 - 8 * len)) << 8);
-}
-
-/* The number that the first `len` bytes of the word spell. They are digits, at least one. */
-/* atoi_fast/src/digits.rt:81 */
-TK_HINTED uint64_t tk_value_of(uint64_t word, uint32_t len)
-{
-    return tk_sum_of((word - TK_ZEROS) << (64 - 8 * len));
 }
 
 /* `len_zeroes`, from the difference that `leading_digits` and `value_of` compute, too. */
@@ -1681,72 +2236,6 @@ TK_INLINE tk_window tk_window_of_one(tk_bytes s)
     return tk_window_not_full(0, 0);
 }
 
-/* atoi_fast/src/loads.rt:88 */
-TK_HINTED uint32_t tk_load_last_four(tk_bytes s)
-{
-    if (s.len >= 4) {
-        const uint8_t *last = s.at + (s.len - 4);
-        return tk_u32_load(last);
-    }
-    return 0;
-}
-
-/* `load_from` for four bytes, of which the first is there. */
-/* atoi_fast/src/loads.rt:72 */
-TK_INLINE uint32_t tk_load_four_from(tk_bytes s, size_t at)
-{
-    if (s.len < at + 4) {
-        return tk_load_last_four(s) >> (8 * (at + 4 - s.len));
-    }
-    tk_bytes all = tk_bytes_from(s, at);
-    if (all.len >= 4) {
-        const uint8_t *first = all.at;
-        return tk_u32_load(first);
-    }
-    return 0;
-}
-
-/* atoi_fast/src/loads.rt:99 */
-TK_HINTED uint32_t tk_load_last_two(tk_bytes s)
-{
-    if (s.len >= 2) {
-        const uint8_t *last = s.at + (s.len - 2);
-        return TK_CAST(uint32_t, tk_u16_load(last));
-    }
-    return 0;
-}
-
-/* Returns the factor that moves the lowest of `len` bytes to where `load_flipped` has the first byte. */
-/* atoi_fast/src/loads.rt:41 */
-TK_INLINE uint64_t tk_factor_of(size_t len)
-{
-    return tk_u64_load(tk_short[tk_index(len, 9)]);
-}
-
-/* Returns the word of `s` filled with zeros at the front, xor `ZEROS`, without a branch on the length. */
-/* atoi_fast/src/loads.rt:25 */
-TK_INLINE uint64_t tk_load_flipped(tk_bytes s)
-{
-    tk_bytes short_ = tk_bytes_of(tk_short[tk_index(0, 9)], 8);
-    tk_bytes fours = s.len < 4 ? short_ : s;
-    uint32_t front = (TK_CAST(uint32_t, s.at[tk_index(0, s.len)]) | tk_load_four_from(fours, 0)) ^ TK_FOUR_ZEROS;
-    uint32_t back = (tk_load_last_four(fours) | (tk_load_last_two(s) << 16)) ^ TK_FOUR_ZEROS;
-    /* A product takes less time than a shift on many processors. */
-    uint64_t shifted = TK_CAST(uint64_t, front) * tk_factor_of(s.len);
-    return shifted | (TK_CAST(uint64_t, back) << 32);
-}
-
-/* `leading_digits` for a word xor `ZEROS`. Here, a byte is no digit if adding 118 sets its top bit. */
-/* atoi_fast/src/digits.rt:35 */
-TK_HINTED uint32_t tk_leading_digits_flipped(uint64_t flipped)
-{
-    uint64_t marks = ((flipped + UINT64_C(0x7676767676767676)) | flipped) & UINT64_C(0x8080808080808080);
-    if (marks == 0) {
-        return 8;
-    }
-    return tk_u64_trailing_zeros(marks) / 8;
-}
-
 /* Returns the number that the leading digits of the word spell; there may be none. */
 /* atoi_fast/src/digits.rt:70 */
 TK_HINTED uint64_t tk_value_in_word(uint64_t word, uint32_t len)
@@ -1773,16 +2262,6 @@ TK_INLINE tk_window tk_window_up_to_8(tk_bytes s)
         return tk_new_window(TK_CAST(uint32_t, s.len), 0, tk_sum_of(flipped));
     }
     return tk_new_window(digits - (8 - TK_CAST(uint32_t, s.len)), 0, tk_value_in_word(flipped ^ TK_ZEROS, digits));
-}
-
-/* atoi_fast/src/loads.rt:122 */
-TK_HINTED uint64_t tk_load_last(tk_bytes s)
-{
-    if (s.len >= 8) {
-        const uint8_t *last = s.at + (s.len - 8);
-        return tk_u64_load(last);
-    }
-    return 0;
 }
 
 /* The window of 9 to 15 bytes. The last eight overlap the first eight. */
@@ -2105,7 +2584,7 @@ TK_INLINE tk_result_pair_u64_size tk_answer_after_16(uint64_t bound, uint32_t li
 
 /* Enters a loop only if there are zeros to skip. */
 /* atoi_fast/src/swar.rt:61 */
-TK_INLINE tk_result_pair_u64_size tk_swar_prefix_64(uint64_t bound, uint32_t limit, bool skip, tk_bytes s)
+TK_NOINLINE tk_result_pair_u64_size tk_swar_prefix_64(uint64_t bound, uint32_t limit, bool skip, tk_bytes s)
 {
     /* Long slices first: rustc 1.95 then puts no jump before them. */
     if (s.len >= 16) {
@@ -2270,8 +2749,8 @@ TK_NOINLINE tk_result_u128 tk_whole_128(tk_u128 bound, bool skip, tk_bytes s)
  * for the type's size. The errors are the same.
  */
 /* atoi_core/src/calls.rt:154 */
-TK_INLINE tk_result_u128 tk_atoi_core_whole_by_size(uint32_t bits, bool is_signed, tk_u128 greatest, bool minus,
-                                                    bool skip, tk_bytes s)
+TK_INLINE tk_result_u128 tk_whole_by_size(uint32_t bits, bool is_signed, tk_u128 greatest, bool minus, bool skip,
+                                          tk_bytes s)
 {
     tk_u128 bound = tk_greatest_magnitude(greatest, minus);
     if (bits <= 32) {
@@ -2294,59 +2773,13 @@ TK_INLINE tk_result_u128 tk_atoi_core_whole_by_size(uint32_t bits, bool is_signe
 }
 
 /*
- * Returns the magnitude of fewer than 16 bytes, which one window decides: they never have too many
- * digits.
+ * Like `whole_neg` if `minus` is set, otherwise like `whole_pos`: a type that may be unsigned has no
+ * `whole_neg`.
  */
-/* atoi_fast/src/calls.rt:167 */
-TK_INLINE tk_result_u128 tk_whole_short(uint32_t bits, tk_u128 bound, tk_bytes s)
-{
-    /* Cast as in the engine, so that rustc 1.95 casts once. */
-    uint32_t size = TK_CAST(uint32_t, s.len);
-    tk_window window = tk_swar_window(s);
-    bool is_whole = window.len == size;
-    size_t len = TK_CAST(size_t, window.len);
-    if (bits <= 32) {
-        tk_result_u64 number_found = tk_narrow_answer(tk_u128_low(bound), len, is_whole, window.number, s);
-        if (!number_found.is_ok) {
-            return tk_err_u128(number_found.error);
-        }
-        uint64_t number = number_found.value;
-        return tk_ok_u128(tk_u128_of(number));
-    }
-    if (is_whole && s.len != 0) {
-        return tk_ok_u128(tk_u128_of(window.number));
-    }
-    tk_result_pair_u64_size found = tk_found_or_empty_u64(window.number, len);
-    if (!found.is_ok) {
-        return tk_err_u128(found.error);
-    }
-    uint64_t number = found.value.first;
-    size_t digits = found.value.second;
-    if (bits == 64) {
-        return tk_err_u128(tk_error_invalid64(number, digits, s));
-    }
-    return tk_err_u128(tk_error_invalid128(tk_u128_of(number), digits, s));
-}
-
-/*
- * `atoi_core::whole_by_size`. Of at most 64 bits, one window decides fewer than 16 bytes, and 128 bits need
- * a test less without that.
- */
-/* atoi_fast/src/calls.rt:146 */
-TK_INLINE tk_result_u128 tk_atoi_fast_whole_by_size(uint32_t bits, bool is_signed, tk_u128 greatest, bool minus,
-                                                    bool skip, tk_bytes s)
-{
-    if (bits == 128 || s.len >= 16) {
-        return tk_atoi_core_whole_by_size(bits, is_signed, greatest, minus, skip, s);
-    }
-    return tk_whole_short(bits, tk_greatest_magnitude(greatest, minus), s);
-}
-
-/* Like `whole_neg` if `minus` is set, otherwise like `whole_pos`. */
-/* atoi_fast/src/calls.rt:128 */
+/* atoi_core/src/calls.rt:136 */
 TK_INLINE tk_result_i8 tk_whole_with_sign_i8(bool minus, bool skip, tk_bytes s)
 {
-    tk_result_u128 magnitude_found = tk_atoi_fast_whole_by_size(8, true, tk_u128_of(127), minus, skip, s);
+    tk_result_u128 magnitude_found = tk_whole_by_size(8, true, tk_u128_of(127), minus, skip, s);
     if (!magnitude_found.is_ok) {
         return tk_err_i8(magnitude_found.error);
     }
@@ -2354,64 +2787,40 @@ TK_INLINE tk_result_i8 tk_whole_with_sign_i8(bool minus, bool skip, tk_bytes s)
     return tk_ok_i8(tk_from_parts_i8(minus, magnitude));
 }
 
-/* `parse_text` for a byte that is no digit, or none. */
-/* atoi_fast/src/calls.rt:53 */
-TK_COLD tk_result_i8 tk_parse_no_digit_i8(bool skip, bool skip_plus, tk_bytes s)
+/*
+ * Parses all of `s` as at most one sign and digits. Returns the errors of `whole_pos` for the
+ * body, or of `whole_neg` after a `-`.
+ */
+/* atoi_core/src/calls.rt:21 */
+TK_INLINE tk_result_i8 tk_atoi_core_parse_text_i8(bool skip, bool skip_plus, tk_bytes s)
 {
-    tk_pair_bool_bytes found = tk_sign_take_sign(true, skip_plus, s);
-    bool minus = found.first;
-    tk_bytes body = found.second;
-    /* Of at most one byte, rustc 1.95 leaves out the parser of longer slices. */
-    return tk_whole_with_sign_i8(minus, skip, tk_bytes_to(body, tk_size_min(body.len, 1)));
-}
-
-/* Returns the number of a slice of 2 to 8 bytes, if all are digits after at most a minus. */
-/* atoi_fast/src/short_slice.rt:38 */
-TK_INLINE tk_option_i8 tk_short_slice_i8(tk_bytes s)
-{
-    bool minus = true & (s.at[tk_index(0, s.len)] == '-');
-    /* A `-` that is flipped once more is the digit 0, without a branch. */
-    uint64_t flipped = tk_load_flipped(s) ^ (tk_factor_of(s.len) * (0x1D * TK_CAST(uint64_t, minus)));
-    if (tk_leading_digits_flipped(flipped) != 8) {
-        return tk_none_i8();
-    }
-    return tk_number_in_range_i8(TK_MOST_IN_WORD, minus, tk_sum_of(flipped));
-}
-
-/* `short_slice` for a signed type, which counts its load. */
-/* atoi_fast/src/short_slice.rt:25 */
-TK_INLINE tk_option_i8 tk_short_signed_i8(tk_bytes s)
-{
-    return tk_short_slice_i8(s);
-}
-
-/* `atoi_core::parse_text` for an engine of decimal digits, with the same clauses. */
-/* atoi_fast/src/calls.rt:24 */
-TK_INLINE tk_result_i8 tk_parse_text_i8(bool skip, bool skip_plus, tk_bytes s)
-{
-    if (s.len <= 1) {
-        if (s.len == 1 && '0' <= s.at[0] && s.at[0] <= '9') {
-            return tk_ok_i8(tk_loaded_digit_i8(s));
-        }
-        return tk_parse_no_digit_i8(skip, skip_plus, s);
-    }
-    if (s.len <= 8) {
-        tk_option_i8 found = tk_short_signed_i8(s);
-        if (found.is_some) {
-            int8_t number = found.value;
-            return tk_ok_i8(number);
-        }
-    }
-    tk_pair_bool_bytes found = tk_sign_take_sign(true, skip_plus, s);
+    tk_pair_bool_bytes found = tk_take_sign(true, skip_plus, s);
     bool minus = found.first;
     tk_bytes body = found.second;
     return tk_whole_with_sign_i8(minus, skip, body);
 }
 
+/* `atoi_core::parse_text`, with the same answer. It may make one load more. */
+/* atoi_fast/src/called.rt:17 */
+TK_INLINE tk_result_i8 tk_called_parse_text_i8(bool skip, bool skip_plus, tk_bytes s)
+{
+    if (s.len == 1 && '0' <= s.at[0] && s.at[0] <= '9') {
+        return tk_ok_i8(tk_loaded_digit_i8(s));
+    }
+    if (2 <= s.len && s.len <= 15) {
+        tk_option_i8 found = tk_loaded_slice_i8(s);
+        if (found.is_some) {
+            int8_t number = found.value;
+            return tk_ok_i8(number);
+        }
+    }
+    return tk_atoi_core_parse_text_i8(skip, skip_plus, s);
+}
+
 /* atoi_simd/src/parse_trait.rt:61 */
 TK_INLINE tk_result_i8 tk_atoi_simd_parse_i8(tk_bytes s, bool skip, bool skip_plus)
 {
-    return tk_parse_text_i8(skip, skip_plus, s);
+    return tk_called_parse_text_i8(skip, skip_plus, s);
 }
 
 /* atoi_fast/src/short_slice.rt:13 */
@@ -2420,10 +2829,19 @@ TK_INLINE uint8_t tk_loaded_digit_u8(tk_bytes s)
     return tk_from_parts_u8(false, tk_u128_of(TK_CAST(uint8_t, s.at[tk_index(0, s.len)] - '0')));
 }
 
-/* atoi_fast/src/calls.rt:128 */
+/* atoi_fast/src/short_slice.rt:54 */
+TK_NOINLINE tk_option_u8 tk_loaded_slice_u8(tk_bytes s)
+{
+    if (s.len <= 8) {
+        return tk_short_slice_u8(s);
+    }
+    return tk_slice_of_two_words_u8(s);
+}
+
+/* atoi_core/src/calls.rt:136 */
 TK_INLINE tk_result_u8 tk_whole_with_sign_u8(bool minus, bool skip, tk_bytes s)
 {
-    tk_result_u128 magnitude_found = tk_atoi_fast_whole_by_size(8, false, tk_u128_of(255), minus, skip, s);
+    tk_result_u128 magnitude_found = tk_whole_by_size(8, false, tk_u128_of(255), minus, skip, s);
     if (!magnitude_found.is_ok) {
         return tk_err_u8(magnitude_found.error);
     }
@@ -2431,35 +2849,35 @@ TK_INLINE tk_result_u8 tk_whole_with_sign_u8(bool minus, bool skip, tk_bytes s)
     return tk_ok_u8(tk_from_parts_u8(minus, magnitude));
 }
 
-/* atoi_fast/src/calls.rt:53 */
-TK_COLD tk_result_u8 tk_parse_no_digit_u8(bool skip, bool skip_plus, tk_bytes s)
+/* atoi_core/src/calls.rt:21 */
+TK_INLINE tk_result_u8 tk_atoi_core_parse_text_u8(bool skip, bool skip_plus, tk_bytes s)
 {
-    tk_pair_bool_bytes found = tk_sign_take_sign(false, skip_plus, s);
-    bool minus = found.first;
-    tk_bytes body = found.second;
-    /* Of at most one byte, rustc 1.95 leaves out the parser of longer slices. */
-    return tk_whole_with_sign_u8(minus, skip, tk_bytes_to(body, tk_size_min(body.len, 1)));
-}
-
-/* atoi_fast/src/calls.rt:24 */
-TK_INLINE tk_result_u8 tk_parse_text_u8(bool skip, bool skip_plus, tk_bytes s)
-{
-    if (s.len <= 1) {
-        if (s.len == 1 && '0' <= s.at[0] && s.at[0] <= '9') {
-            return tk_ok_u8(tk_loaded_digit_u8(s));
-        }
-        return tk_parse_no_digit_u8(skip, skip_plus, s);
-    }
-    tk_pair_bool_bytes found = tk_sign_take_sign(false, skip_plus, s);
+    tk_pair_bool_bytes found = tk_take_sign(false, skip_plus, s);
     bool minus = found.first;
     tk_bytes body = found.second;
     return tk_whole_with_sign_u8(minus, skip, body);
 }
 
+/* atoi_fast/src/called.rt:17 */
+TK_INLINE tk_result_u8 tk_called_parse_text_u8(bool skip, bool skip_plus, tk_bytes s)
+{
+    if (s.len == 1 && '0' <= s.at[0] && s.at[0] <= '9') {
+        return tk_ok_u8(tk_loaded_digit_u8(s));
+    }
+    if (2 <= s.len && s.len <= 15) {
+        tk_option_u8 found = tk_loaded_slice_u8(s);
+        if (found.is_some) {
+            uint8_t number = found.value;
+            return tk_ok_u8(number);
+        }
+    }
+    return tk_atoi_core_parse_text_u8(skip, skip_plus, s);
+}
+
 /* atoi_simd/src/parse_trait.rt:49 */
 TK_INLINE tk_result_u8 tk_atoi_simd_parse_u8(tk_bytes s, bool skip, bool skip_plus)
 {
-    return tk_parse_text_u8(skip, skip_plus, s);
+    return tk_called_parse_text_u8(skip, skip_plus, s);
 }
 
 /* atoi_fast/src/short_slice.rt:13 */
@@ -2468,10 +2886,19 @@ TK_INLINE int16_t tk_loaded_digit_i16(tk_bytes s)
     return tk_from_parts_i16(false, tk_u128_of(TK_CAST(uint8_t, s.at[tk_index(0, s.len)] - '0')));
 }
 
-/* atoi_fast/src/calls.rt:128 */
+/* atoi_fast/src/short_slice.rt:54 */
+TK_NOINLINE tk_option_i16 tk_loaded_slice_i16(tk_bytes s)
+{
+    if (s.len <= 8) {
+        return tk_short_slice_i16(s);
+    }
+    return tk_slice_of_two_words_i16(s);
+}
+
+/* atoi_core/src/calls.rt:136 */
 TK_INLINE tk_result_i16 tk_whole_with_sign_i16(bool minus, bool skip, tk_bytes s)
 {
-    tk_result_u128 magnitude_found = tk_atoi_fast_whole_by_size(16, true, tk_u128_of(32767), minus, skip, s);
+    tk_result_u128 magnitude_found = tk_whole_by_size(16, true, tk_u128_of(32767), minus, skip, s);
     if (!magnitude_found.is_ok) {
         return tk_err_i16(magnitude_found.error);
     }
@@ -2479,60 +2906,35 @@ TK_INLINE tk_result_i16 tk_whole_with_sign_i16(bool minus, bool skip, tk_bytes s
     return tk_ok_i16(tk_from_parts_i16(minus, magnitude));
 }
 
-/* atoi_fast/src/calls.rt:53 */
-TK_COLD tk_result_i16 tk_parse_no_digit_i16(bool skip, bool skip_plus, tk_bytes s)
+/* atoi_core/src/calls.rt:21 */
+TK_INLINE tk_result_i16 tk_atoi_core_parse_text_i16(bool skip, bool skip_plus, tk_bytes s)
 {
-    tk_pair_bool_bytes found = tk_sign_take_sign(true, skip_plus, s);
-    bool minus = found.first;
-    tk_bytes body = found.second;
-    /* Of at most one byte, rustc 1.95 leaves out the parser of longer slices. */
-    return tk_whole_with_sign_i16(minus, skip, tk_bytes_to(body, tk_size_min(body.len, 1)));
-}
-
-/* atoi_fast/src/short_slice.rt:38 */
-TK_INLINE tk_option_i16 tk_short_slice_i16(tk_bytes s)
-{
-    bool minus = true & (s.at[tk_index(0, s.len)] == '-');
-    /* A `-` that is flipped once more is the digit 0, without a branch. */
-    uint64_t flipped = tk_load_flipped(s) ^ (tk_factor_of(s.len) * (0x1D * TK_CAST(uint64_t, minus)));
-    if (tk_leading_digits_flipped(flipped) != 8) {
-        return tk_none_i16();
-    }
-    return tk_number_in_range_i16(TK_MOST_IN_WORD, minus, tk_sum_of(flipped));
-}
-
-/* atoi_fast/src/short_slice.rt:25 */
-TK_INLINE tk_option_i16 tk_short_signed_i16(tk_bytes s)
-{
-    return tk_short_slice_i16(s);
-}
-
-/* atoi_fast/src/calls.rt:24 */
-TK_INLINE tk_result_i16 tk_parse_text_i16(bool skip, bool skip_plus, tk_bytes s)
-{
-    if (s.len <= 1) {
-        if (s.len == 1 && '0' <= s.at[0] && s.at[0] <= '9') {
-            return tk_ok_i16(tk_loaded_digit_i16(s));
-        }
-        return tk_parse_no_digit_i16(skip, skip_plus, s);
-    }
-    if (s.len <= 8) {
-        tk_option_i16 found = tk_short_signed_i16(s);
-        if (found.is_some) {
-            int16_t number = found.value;
-            return tk_ok_i16(number);
-        }
-    }
-    tk_pair_bool_bytes found = tk_sign_take_sign(true, skip_plus, s);
+    tk_pair_bool_bytes found = tk_take_sign(true, skip_plus, s);
     bool minus = found.first;
     tk_bytes body = found.second;
     return tk_whole_with_sign_i16(minus, skip, body);
 }
 
+/* atoi_fast/src/called.rt:17 */
+TK_INLINE tk_result_i16 tk_called_parse_text_i16(bool skip, bool skip_plus, tk_bytes s)
+{
+    if (s.len == 1 && '0' <= s.at[0] && s.at[0] <= '9') {
+        return tk_ok_i16(tk_loaded_digit_i16(s));
+    }
+    if (2 <= s.len && s.len <= 15) {
+        tk_option_i16 found = tk_loaded_slice_i16(s);
+        if (found.is_some) {
+            int16_t number = found.value;
+            return tk_ok_i16(number);
+        }
+    }
+    return tk_atoi_core_parse_text_i16(skip, skip_plus, s);
+}
+
 /* atoi_simd/src/parse_trait.rt:85 */
 TK_INLINE tk_result_i16 tk_atoi_simd_parse_i16(tk_bytes s, bool skip, bool skip_plus)
 {
-    return tk_parse_text_i16(skip, skip_plus, s);
+    return tk_called_parse_text_i16(skip, skip_plus, s);
 }
 
 /* atoi_fast/src/short_slice.rt:13 */
@@ -2541,10 +2943,19 @@ TK_INLINE uint16_t tk_loaded_digit_u16(tk_bytes s)
     return tk_from_parts_u16(false, tk_u128_of(TK_CAST(uint8_t, s.at[tk_index(0, s.len)] - '0')));
 }
 
-/* atoi_fast/src/calls.rt:128 */
+/* atoi_fast/src/short_slice.rt:54 */
+TK_NOINLINE tk_option_u16 tk_loaded_slice_u16(tk_bytes s)
+{
+    if (s.len <= 8) {
+        return tk_short_slice_u16(s);
+    }
+    return tk_slice_of_two_words_u16(s);
+}
+
+/* atoi_core/src/calls.rt:136 */
 TK_INLINE tk_result_u16 tk_whole_with_sign_u16(bool minus, bool skip, tk_bytes s)
 {
-    tk_result_u128 magnitude_found = tk_atoi_fast_whole_by_size(16, false, tk_u128_of(65535), minus, skip, s);
+    tk_result_u128 magnitude_found = tk_whole_by_size(16, false, tk_u128_of(65535), minus, skip, s);
     if (!magnitude_found.is_ok) {
         return tk_err_u16(magnitude_found.error);
     }
@@ -2552,35 +2963,35 @@ TK_INLINE tk_result_u16 tk_whole_with_sign_u16(bool minus, bool skip, tk_bytes s
     return tk_ok_u16(tk_from_parts_u16(minus, magnitude));
 }
 
-/* atoi_fast/src/calls.rt:53 */
-TK_COLD tk_result_u16 tk_parse_no_digit_u16(bool skip, bool skip_plus, tk_bytes s)
+/* atoi_core/src/calls.rt:21 */
+TK_INLINE tk_result_u16 tk_atoi_core_parse_text_u16(bool skip, bool skip_plus, tk_bytes s)
 {
-    tk_pair_bool_bytes found = tk_sign_take_sign(false, skip_plus, s);
-    bool minus = found.first;
-    tk_bytes body = found.second;
-    /* Of at most one byte, rustc 1.95 leaves out the parser of longer slices. */
-    return tk_whole_with_sign_u16(minus, skip, tk_bytes_to(body, tk_size_min(body.len, 1)));
-}
-
-/* atoi_fast/src/calls.rt:24 */
-TK_INLINE tk_result_u16 tk_parse_text_u16(bool skip, bool skip_plus, tk_bytes s)
-{
-    if (s.len <= 1) {
-        if (s.len == 1 && '0' <= s.at[0] && s.at[0] <= '9') {
-            return tk_ok_u16(tk_loaded_digit_u16(s));
-        }
-        return tk_parse_no_digit_u16(skip, skip_plus, s);
-    }
-    tk_pair_bool_bytes found = tk_sign_take_sign(false, skip_plus, s);
+    tk_pair_bool_bytes found = tk_take_sign(false, skip_plus, s);
     bool minus = found.first;
     tk_bytes body = found.second;
     return tk_whole_with_sign_u16(minus, skip, body);
 }
 
+/* atoi_fast/src/called.rt:17 */
+TK_INLINE tk_result_u16 tk_called_parse_text_u16(bool skip, bool skip_plus, tk_bytes s)
+{
+    if (s.len == 1 && '0' <= s.at[0] && s.at[0] <= '9') {
+        return tk_ok_u16(tk_loaded_digit_u16(s));
+    }
+    if (2 <= s.len && s.len <= 15) {
+        tk_option_u16 found = tk_loaded_slice_u16(s);
+        if (found.is_some) {
+            uint16_t number = found.value;
+            return tk_ok_u16(number);
+        }
+    }
+    return tk_atoi_core_parse_text_u16(skip, skip_plus, s);
+}
+
 /* atoi_simd/src/parse_trait.rt:73 */
 TK_INLINE tk_result_u16 tk_atoi_simd_parse_u16(tk_bytes s, bool skip, bool skip_plus)
 {
-    return tk_parse_text_u16(skip, skip_plus, s);
+    return tk_called_parse_text_u16(skip, skip_plus, s);
 }
 
 /* atoi_fast/src/short_slice.rt:13 */
@@ -2589,10 +3000,19 @@ TK_INLINE int32_t tk_loaded_digit_i32(tk_bytes s)
     return tk_from_parts_i32(false, tk_u128_of(TK_CAST(uint8_t, s.at[tk_index(0, s.len)] - '0')));
 }
 
-/* atoi_fast/src/calls.rt:128 */
+/* atoi_fast/src/short_slice.rt:54 */
+TK_NOINLINE tk_option_i32 tk_loaded_slice_i32(tk_bytes s)
+{
+    if (s.len <= 8) {
+        return tk_short_slice_i32(s);
+    }
+    return tk_slice_of_two_words_i32(s);
+}
+
+/* atoi_core/src/calls.rt:136 */
 TK_INLINE tk_result_i32 tk_whole_with_sign_i32(bool minus, bool skip, tk_bytes s)
 {
-    tk_result_u128 magnitude_found = tk_atoi_fast_whole_by_size(32, true, tk_u128_of(2147483647), minus, skip, s);
+    tk_result_u128 magnitude_found = tk_whole_by_size(32, true, tk_u128_of(2147483647), minus, skip, s);
     if (!magnitude_found.is_ok) {
         return tk_err_i32(magnitude_found.error);
     }
@@ -2600,60 +3020,35 @@ TK_INLINE tk_result_i32 tk_whole_with_sign_i32(bool minus, bool skip, tk_bytes s
     return tk_ok_i32(tk_from_parts_i32(minus, magnitude));
 }
 
-/* atoi_fast/src/calls.rt:53 */
-TK_COLD tk_result_i32 tk_parse_no_digit_i32(bool skip, bool skip_plus, tk_bytes s)
+/* atoi_core/src/calls.rt:21 */
+TK_INLINE tk_result_i32 tk_atoi_core_parse_text_i32(bool skip, bool skip_plus, tk_bytes s)
 {
-    tk_pair_bool_bytes found = tk_sign_take_sign(true, skip_plus, s);
-    bool minus = found.first;
-    tk_bytes body = found.second;
-    /* Of at most one byte, rustc 1.95 leaves out the parser of longer slices. */
-    return tk_whole_with_sign_i32(minus, skip, tk_bytes_to(body, tk_size_min(body.len, 1)));
-}
-
-/* atoi_fast/src/short_slice.rt:38 */
-TK_INLINE tk_option_i32 tk_short_slice_i32(tk_bytes s)
-{
-    bool minus = true & (s.at[tk_index(0, s.len)] == '-');
-    /* A `-` that is flipped once more is the digit 0, without a branch. */
-    uint64_t flipped = tk_load_flipped(s) ^ (tk_factor_of(s.len) * (0x1D * TK_CAST(uint64_t, minus)));
-    if (tk_leading_digits_flipped(flipped) != 8) {
-        return tk_none_i32();
-    }
-    return tk_number_in_range_i32(TK_MOST_IN_WORD, minus, tk_sum_of(flipped));
-}
-
-/* atoi_fast/src/short_slice.rt:25 */
-TK_INLINE tk_option_i32 tk_short_signed_i32(tk_bytes s)
-{
-    return tk_short_slice_i32(s);
-}
-
-/* atoi_fast/src/calls.rt:24 */
-TK_INLINE tk_result_i32 tk_parse_text_i32(bool skip, bool skip_plus, tk_bytes s)
-{
-    if (s.len <= 1) {
-        if (s.len == 1 && '0' <= s.at[0] && s.at[0] <= '9') {
-            return tk_ok_i32(tk_loaded_digit_i32(s));
-        }
-        return tk_parse_no_digit_i32(skip, skip_plus, s);
-    }
-    if (s.len <= 8) {
-        tk_option_i32 found = tk_short_signed_i32(s);
-        if (found.is_some) {
-            int32_t number = found.value;
-            return tk_ok_i32(number);
-        }
-    }
-    tk_pair_bool_bytes found = tk_sign_take_sign(true, skip_plus, s);
+    tk_pair_bool_bytes found = tk_take_sign(true, skip_plus, s);
     bool minus = found.first;
     tk_bytes body = found.second;
     return tk_whole_with_sign_i32(minus, skip, body);
 }
 
+/* atoi_fast/src/called.rt:17 */
+TK_INLINE tk_result_i32 tk_called_parse_text_i32(bool skip, bool skip_plus, tk_bytes s)
+{
+    if (s.len == 1 && '0' <= s.at[0] && s.at[0] <= '9') {
+        return tk_ok_i32(tk_loaded_digit_i32(s));
+    }
+    if (2 <= s.len && s.len <= 15) {
+        tk_option_i32 found = tk_loaded_slice_i32(s);
+        if (found.is_some) {
+            int32_t number = found.value;
+            return tk_ok_i32(number);
+        }
+    }
+    return tk_atoi_core_parse_text_i32(skip, skip_plus, s);
+}
+
 /* atoi_simd/src/parse_trait.rt:109 */
 TK_INLINE tk_result_i32 tk_atoi_simd_parse_i32(tk_bytes s, bool skip, bool skip_plus)
 {
-    return tk_parse_text_i32(skip, skip_plus, s);
+    return tk_called_parse_text_i32(skip, skip_plus, s);
 }
 
 /* atoi_fast/src/short_slice.rt:13 */
@@ -2662,11 +3057,19 @@ TK_INLINE uint32_t tk_loaded_digit_u32(tk_bytes s)
     return tk_from_parts_u32(false, tk_u128_of(TK_CAST(uint8_t, s.at[tk_index(0, s.len)] - '0')));
 }
 
-/* atoi_fast/src/calls.rt:128 */
+/* atoi_fast/src/short_slice.rt:54 */
+TK_NOINLINE tk_option_u32 tk_loaded_slice_u32(tk_bytes s)
+{
+    if (s.len <= 8) {
+        return tk_short_slice_u32(s);
+    }
+    return tk_slice_of_two_words_u32(s);
+}
+
+/* atoi_core/src/calls.rt:136 */
 TK_INLINE tk_result_u32 tk_whole_with_sign_u32(bool minus, bool skip, tk_bytes s)
 {
-    tk_result_u128 magnitude_found = tk_atoi_fast_whole_by_size(32, false, tk_u128_of(UINT64_C(4294967295)), minus,
-                                                                skip, s);
+    tk_result_u128 magnitude_found = tk_whole_by_size(32, false, tk_u128_of(UINT64_C(4294967295)), minus, skip, s);
     if (!magnitude_found.is_ok) {
         return tk_err_u32(magnitude_found.error);
     }
@@ -2674,35 +3077,35 @@ TK_INLINE tk_result_u32 tk_whole_with_sign_u32(bool minus, bool skip, tk_bytes s
     return tk_ok_u32(tk_from_parts_u32(minus, magnitude));
 }
 
-/* atoi_fast/src/calls.rt:53 */
-TK_COLD tk_result_u32 tk_parse_no_digit_u32(bool skip, bool skip_plus, tk_bytes s)
+/* atoi_core/src/calls.rt:21 */
+TK_INLINE tk_result_u32 tk_atoi_core_parse_text_u32(bool skip, bool skip_plus, tk_bytes s)
 {
-    tk_pair_bool_bytes found = tk_sign_take_sign(false, skip_plus, s);
-    bool minus = found.first;
-    tk_bytes body = found.second;
-    /* Of at most one byte, rustc 1.95 leaves out the parser of longer slices. */
-    return tk_whole_with_sign_u32(minus, skip, tk_bytes_to(body, tk_size_min(body.len, 1)));
-}
-
-/* atoi_fast/src/calls.rt:24 */
-TK_INLINE tk_result_u32 tk_parse_text_u32(bool skip, bool skip_plus, tk_bytes s)
-{
-    if (s.len <= 1) {
-        if (s.len == 1 && '0' <= s.at[0] && s.at[0] <= '9') {
-            return tk_ok_u32(tk_loaded_digit_u32(s));
-        }
-        return tk_parse_no_digit_u32(skip, skip_plus, s);
-    }
-    tk_pair_bool_bytes found = tk_sign_take_sign(false, skip_plus, s);
+    tk_pair_bool_bytes found = tk_take_sign(false, skip_plus, s);
     bool minus = found.first;
     tk_bytes body = found.second;
     return tk_whole_with_sign_u32(minus, skip, body);
 }
 
+/* atoi_fast/src/called.rt:17 */
+TK_INLINE tk_result_u32 tk_called_parse_text_u32(bool skip, bool skip_plus, tk_bytes s)
+{
+    if (s.len == 1 && '0' <= s.at[0] && s.at[0] <= '9') {
+        return tk_ok_u32(tk_loaded_digit_u32(s));
+    }
+    if (2 <= s.len && s.len <= 15) {
+        tk_option_u32 found = tk_loaded_slice_u32(s);
+        if (found.is_some) {
+            uint32_t number = found.value;
+            return tk_ok_u32(number);
+        }
+    }
+    return tk_atoi_core_parse_text_u32(skip, skip_plus, s);
+}
+
 /* atoi_simd/src/parse_trait.rt:97 */
 TK_INLINE tk_result_u32 tk_atoi_simd_parse_u32(tk_bytes s, bool skip, bool skip_plus)
 {
-    return tk_parse_text_u32(skip, skip_plus, s);
+    return tk_called_parse_text_u32(skip, skip_plus, s);
 }
 
 /* atoi_fast/src/short_slice.rt:13 */
@@ -2711,11 +3114,20 @@ TK_INLINE int64_t tk_loaded_digit_i64(tk_bytes s)
     return tk_from_parts_i64(false, tk_u128_of(TK_CAST(uint8_t, s.at[tk_index(0, s.len)] - '0')));
 }
 
-/* atoi_fast/src/calls.rt:128 */
+/* atoi_fast/src/short_slice.rt:54 */
+TK_NOINLINE tk_option_i64 tk_loaded_slice_i64(tk_bytes s)
+{
+    if (s.len <= 8) {
+        return tk_short_slice_i64(s);
+    }
+    return tk_slice_of_two_words_i64(s);
+}
+
+/* atoi_core/src/calls.rt:136 */
 TK_INLINE tk_result_i64 tk_whole_with_sign_i64(bool minus, bool skip, tk_bytes s)
 {
-    tk_result_u128 magnitude_found = tk_atoi_fast_whole_by_size(64, true, tk_u128_of(UINT64_C(9223372036854775807)),
-                                                                minus, skip, s);
+    tk_result_u128 magnitude_found = tk_whole_by_size(64, true, tk_u128_of(UINT64_C(9223372036854775807)), minus, skip,
+                                                      s);
     if (!magnitude_found.is_ok) {
         return tk_err_i64(magnitude_found.error);
     }
@@ -2723,60 +3135,35 @@ TK_INLINE tk_result_i64 tk_whole_with_sign_i64(bool minus, bool skip, tk_bytes s
     return tk_ok_i64(tk_from_parts_i64(minus, magnitude));
 }
 
-/* atoi_fast/src/calls.rt:53 */
-TK_COLD tk_result_i64 tk_parse_no_digit_i64(bool skip, bool skip_plus, tk_bytes s)
+/* atoi_core/src/calls.rt:21 */
+TK_INLINE tk_result_i64 tk_atoi_core_parse_text_i64(bool skip, bool skip_plus, tk_bytes s)
 {
-    tk_pair_bool_bytes found = tk_sign_take_sign(true, skip_plus, s);
-    bool minus = found.first;
-    tk_bytes body = found.second;
-    /* Of at most one byte, rustc 1.95 leaves out the parser of longer slices. */
-    return tk_whole_with_sign_i64(minus, skip, tk_bytes_to(body, tk_size_min(body.len, 1)));
-}
-
-/* atoi_fast/src/short_slice.rt:38 */
-TK_INLINE tk_option_i64 tk_short_slice_i64(tk_bytes s)
-{
-    bool minus = true & (s.at[tk_index(0, s.len)] == '-');
-    /* A `-` that is flipped once more is the digit 0, without a branch. */
-    uint64_t flipped = tk_load_flipped(s) ^ (tk_factor_of(s.len) * (0x1D * TK_CAST(uint64_t, minus)));
-    if (tk_leading_digits_flipped(flipped) != 8) {
-        return tk_none_i64();
-    }
-    return tk_number_in_range_i64(TK_MOST_IN_WORD, minus, tk_sum_of(flipped));
-}
-
-/* atoi_fast/src/short_slice.rt:25 */
-TK_INLINE tk_option_i64 tk_short_signed_i64(tk_bytes s)
-{
-    return tk_short_slice_i64(s);
-}
-
-/* atoi_fast/src/calls.rt:24 */
-TK_INLINE tk_result_i64 tk_parse_text_i64(bool skip, bool skip_plus, tk_bytes s)
-{
-    if (s.len <= 1) {
-        if (s.len == 1 && '0' <= s.at[0] && s.at[0] <= '9') {
-            return tk_ok_i64(tk_loaded_digit_i64(s));
-        }
-        return tk_parse_no_digit_i64(skip, skip_plus, s);
-    }
-    if (s.len <= 8) {
-        tk_option_i64 found = tk_short_signed_i64(s);
-        if (found.is_some) {
-            int64_t number = found.value;
-            return tk_ok_i64(number);
-        }
-    }
-    tk_pair_bool_bytes found = tk_sign_take_sign(true, skip_plus, s);
+    tk_pair_bool_bytes found = tk_take_sign(true, skip_plus, s);
     bool minus = found.first;
     tk_bytes body = found.second;
     return tk_whole_with_sign_i64(minus, skip, body);
 }
 
+/* atoi_fast/src/called.rt:17 */
+TK_INLINE tk_result_i64 tk_called_parse_text_i64(bool skip, bool skip_plus, tk_bytes s)
+{
+    if (s.len == 1 && '0' <= s.at[0] && s.at[0] <= '9') {
+        return tk_ok_i64(tk_loaded_digit_i64(s));
+    }
+    if (2 <= s.len && s.len <= 15) {
+        tk_option_i64 found = tk_loaded_slice_i64(s);
+        if (found.is_some) {
+            int64_t number = found.value;
+            return tk_ok_i64(number);
+        }
+    }
+    return tk_atoi_core_parse_text_i64(skip, skip_plus, s);
+}
+
 /* atoi_simd/src/parse_trait.rt:157 */
 TK_INLINE tk_result_i64 tk_atoi_simd_parse_i64(tk_bytes s, bool skip, bool skip_plus)
 {
-    return tk_parse_text_i64(skip, skip_plus, s);
+    return tk_called_parse_text_i64(skip, skip_plus, s);
 }
 
 /* atoi_fast/src/short_slice.rt:13 */
@@ -2785,11 +3172,20 @@ TK_INLINE uint64_t tk_loaded_digit_u64(tk_bytes s)
     return tk_from_parts_u64(false, tk_u128_of(TK_CAST(uint8_t, s.at[tk_index(0, s.len)] - '0')));
 }
 
-/* atoi_fast/src/calls.rt:128 */
+/* atoi_fast/src/short_slice.rt:54 */
+TK_NOINLINE tk_option_u64 tk_loaded_slice_u64(tk_bytes s)
+{
+    if (s.len <= 8) {
+        return tk_short_slice_u64(s);
+    }
+    return tk_slice_of_two_words_u64(s);
+}
+
+/* atoi_core/src/calls.rt:136 */
 TK_INLINE tk_result_u64 tk_whole_with_sign_u64(bool minus, bool skip, tk_bytes s)
 {
-    tk_result_u128 magnitude_found = tk_atoi_fast_whole_by_size(64, false, tk_u128_of(UINT64_C(18446744073709551615)),
-                                                                minus, skip, s);
+    tk_result_u128 magnitude_found = tk_whole_by_size(64, false, tk_u128_of(UINT64_C(18446744073709551615)), minus,
+                                                      skip, s);
     if (!magnitude_found.is_ok) {
         return tk_err_u64(magnitude_found.error);
     }
@@ -2797,35 +3193,35 @@ TK_INLINE tk_result_u64 tk_whole_with_sign_u64(bool minus, bool skip, tk_bytes s
     return tk_ok_u64(tk_from_parts_u64(minus, magnitude));
 }
 
-/* atoi_fast/src/calls.rt:53 */
-TK_COLD tk_result_u64 tk_parse_no_digit_u64(bool skip, bool skip_plus, tk_bytes s)
+/* atoi_core/src/calls.rt:21 */
+TK_INLINE tk_result_u64 tk_atoi_core_parse_text_u64(bool skip, bool skip_plus, tk_bytes s)
 {
-    tk_pair_bool_bytes found = tk_sign_take_sign(false, skip_plus, s);
-    bool minus = found.first;
-    tk_bytes body = found.second;
-    /* Of at most one byte, rustc 1.95 leaves out the parser of longer slices. */
-    return tk_whole_with_sign_u64(minus, skip, tk_bytes_to(body, tk_size_min(body.len, 1)));
-}
-
-/* atoi_fast/src/calls.rt:24 */
-TK_INLINE tk_result_u64 tk_parse_text_u64(bool skip, bool skip_plus, tk_bytes s)
-{
-    if (s.len <= 1) {
-        if (s.len == 1 && '0' <= s.at[0] && s.at[0] <= '9') {
-            return tk_ok_u64(tk_loaded_digit_u64(s));
-        }
-        return tk_parse_no_digit_u64(skip, skip_plus, s);
-    }
-    tk_pair_bool_bytes found = tk_sign_take_sign(false, skip_plus, s);
+    tk_pair_bool_bytes found = tk_take_sign(false, skip_plus, s);
     bool minus = found.first;
     tk_bytes body = found.second;
     return tk_whole_with_sign_u64(minus, skip, body);
 }
 
+/* atoi_fast/src/called.rt:17 */
+TK_INLINE tk_result_u64 tk_called_parse_text_u64(bool skip, bool skip_plus, tk_bytes s)
+{
+    if (s.len == 1 && '0' <= s.at[0] && s.at[0] <= '9') {
+        return tk_ok_u64(tk_loaded_digit_u64(s));
+    }
+    if (2 <= s.len && s.len <= 15) {
+        tk_option_u64 found = tk_loaded_slice_u64(s);
+        if (found.is_some) {
+            uint64_t number = found.value;
+            return tk_ok_u64(number);
+        }
+    }
+    return tk_atoi_core_parse_text_u64(skip, skip_plus, s);
+}
+
 /* atoi_simd/src/parse_trait.rt:145 */
 TK_INLINE tk_result_u64 tk_atoi_simd_parse_u64(tk_bytes s, bool skip, bool skip_plus)
 {
-    return tk_parse_text_u64(skip, skip_plus, s);
+    return tk_called_parse_text_u64(skip, skip_plus, s);
 }
 
 /* atoi_fast/src/short_slice.rt:13 */
@@ -2834,13 +3230,21 @@ TK_INLINE tk_i128 tk_loaded_digit_i128(tk_bytes s)
     return tk_from_parts_i128(false, tk_u128_of(TK_CAST(uint8_t, s.at[tk_index(0, s.len)] - '0')));
 }
 
-/* atoi_fast/src/calls.rt:128 */
+/* atoi_fast/src/short_slice.rt:54 */
+TK_NOINLINE tk_option_i128 tk_loaded_slice_i128(tk_bytes s)
+{
+    if (s.len <= 8) {
+        return tk_short_slice_i128(s);
+    }
+    return tk_slice_of_two_words_i128(s);
+}
+
+/* atoi_core/src/calls.rt:136 */
 TK_INLINE tk_result_i128 tk_whole_with_sign_i128(bool minus, bool skip, tk_bytes s)
 {
-    tk_result_u128 magnitude_found = tk_atoi_fast_whole_by_size(128, true,
-                                                                tk_u128_make(UINT64_C(9223372036854775807),
-                                                                             UINT64_C(18446744073709551615)), minus,
-                                                                                 skip, s);
+    tk_result_u128 magnitude_found = tk_whole_by_size(128, true,
+                                                      tk_u128_make(UINT64_C(9223372036854775807),
+                                                                   UINT64_C(18446744073709551615)), minus, skip, s);
     if (!magnitude_found.is_ok) {
         return tk_err_i128(magnitude_found.error);
     }
@@ -2848,35 +3252,35 @@ TK_INLINE tk_result_i128 tk_whole_with_sign_i128(bool minus, bool skip, tk_bytes
     return tk_ok_i128(tk_from_parts_i128(minus, magnitude));
 }
 
-/* atoi_fast/src/calls.rt:53 */
-TK_COLD tk_result_i128 tk_parse_no_digit_i128(bool skip, bool skip_plus, tk_bytes s)
+/* atoi_core/src/calls.rt:21 */
+TK_INLINE tk_result_i128 tk_atoi_core_parse_text_i128(bool skip, bool skip_plus, tk_bytes s)
 {
-    tk_pair_bool_bytes found = tk_sign_take_sign(true, skip_plus, s);
-    bool minus = found.first;
-    tk_bytes body = found.second;
-    /* Of at most one byte, rustc 1.95 leaves out the parser of longer slices. */
-    return tk_whole_with_sign_i128(minus, skip, tk_bytes_to(body, tk_size_min(body.len, 1)));
-}
-
-/* atoi_fast/src/calls.rt:24 */
-TK_INLINE tk_result_i128 tk_parse_text_i128(bool skip, bool skip_plus, tk_bytes s)
-{
-    if (s.len <= 1) {
-        if (s.len == 1 && '0' <= s.at[0] && s.at[0] <= '9') {
-            return tk_ok_i128(tk_loaded_digit_i128(s));
-        }
-        return tk_parse_no_digit_i128(skip, skip_plus, s);
-    }
-    tk_pair_bool_bytes found = tk_sign_take_sign(true, skip_plus, s);
+    tk_pair_bool_bytes found = tk_take_sign(true, skip_plus, s);
     bool minus = found.first;
     tk_bytes body = found.second;
     return tk_whole_with_sign_i128(minus, skip, body);
 }
 
+/* atoi_fast/src/called.rt:17 */
+TK_INLINE tk_result_i128 tk_called_parse_text_i128(bool skip, bool skip_plus, tk_bytes s)
+{
+    if (s.len == 1 && '0' <= s.at[0] && s.at[0] <= '9') {
+        return tk_ok_i128(tk_loaded_digit_i128(s));
+    }
+    if (2 <= s.len && s.len <= 15) {
+        tk_option_i128 found = tk_loaded_slice_i128(s);
+        if (found.is_some) {
+            tk_i128 number = found.value;
+            return tk_ok_i128(number);
+        }
+    }
+    return tk_atoi_core_parse_text_i128(skip, skip_plus, s);
+}
+
 /* atoi_simd/src/parse_trait.rt:181 */
 TK_INLINE tk_result_i128 tk_atoi_simd_parse_i128(tk_bytes s, bool skip, bool skip_plus)
 {
-    return tk_parse_text_i128(skip, skip_plus, s);
+    return tk_called_parse_text_i128(skip, skip_plus, s);
 }
 
 /* atoi_fast/src/short_slice.rt:13 */
@@ -2885,13 +3289,21 @@ TK_INLINE tk_u128 tk_loaded_digit_u128(tk_bytes s)
     return tk_from_parts_u128(false, tk_u128_of(TK_CAST(uint8_t, s.at[tk_index(0, s.len)] - '0')));
 }
 
-/* atoi_fast/src/calls.rt:128 */
+/* atoi_fast/src/short_slice.rt:54 */
+TK_NOINLINE tk_option_u128 tk_loaded_slice_u128(tk_bytes s)
+{
+    if (s.len <= 8) {
+        return tk_short_slice_u128(s);
+    }
+    return tk_slice_of_two_words_u128(s);
+}
+
+/* atoi_core/src/calls.rt:136 */
 TK_INLINE tk_result_u128 tk_whole_with_sign_u128(bool minus, bool skip, tk_bytes s)
 {
-    tk_result_u128 magnitude_found = tk_atoi_fast_whole_by_size(128, false,
-                                                                tk_u128_make(UINT64_C(18446744073709551615),
-                                                                             UINT64_C(18446744073709551615)), minus,
-                                                                                 skip, s);
+    tk_result_u128 magnitude_found = tk_whole_by_size(128, false,
+                                                      tk_u128_make(UINT64_C(18446744073709551615),
+                                                                   UINT64_C(18446744073709551615)), minus, skip, s);
     if (!magnitude_found.is_ok) {
         return tk_err_u128(magnitude_found.error);
     }
@@ -2899,35 +3311,35 @@ TK_INLINE tk_result_u128 tk_whole_with_sign_u128(bool minus, bool skip, tk_bytes
     return tk_ok_u128(tk_from_parts_u128(minus, magnitude));
 }
 
-/* atoi_fast/src/calls.rt:53 */
-TK_COLD tk_result_u128 tk_parse_no_digit_u128(bool skip, bool skip_plus, tk_bytes s)
+/* atoi_core/src/calls.rt:21 */
+TK_INLINE tk_result_u128 tk_atoi_core_parse_text_u128(bool skip, bool skip_plus, tk_bytes s)
 {
-    tk_pair_bool_bytes found = tk_sign_take_sign(false, skip_plus, s);
-    bool minus = found.first;
-    tk_bytes body = found.second;
-    /* Of at most one byte, rustc 1.95 leaves out the parser of longer slices. */
-    return tk_whole_with_sign_u128(minus, skip, tk_bytes_to(body, tk_size_min(body.len, 1)));
-}
-
-/* atoi_fast/src/calls.rt:24 */
-TK_INLINE tk_result_u128 tk_parse_text_u128(bool skip, bool skip_plus, tk_bytes s)
-{
-    if (s.len <= 1) {
-        if (s.len == 1 && '0' <= s.at[0] && s.at[0] <= '9') {
-            return tk_ok_u128(tk_loaded_digit_u128(s));
-        }
-        return tk_parse_no_digit_u128(skip, skip_plus, s);
-    }
-    tk_pair_bool_bytes found = tk_sign_take_sign(false, skip_plus, s);
+    tk_pair_bool_bytes found = tk_take_sign(false, skip_plus, s);
     bool minus = found.first;
     tk_bytes body = found.second;
     return tk_whole_with_sign_u128(minus, skip, body);
 }
 
+/* atoi_fast/src/called.rt:17 */
+TK_INLINE tk_result_u128 tk_called_parse_text_u128(bool skip, bool skip_plus, tk_bytes s)
+{
+    if (s.len == 1 && '0' <= s.at[0] && s.at[0] <= '9') {
+        return tk_ok_u128(tk_loaded_digit_u128(s));
+    }
+    if (2 <= s.len && s.len <= 15) {
+        tk_option_u128 found = tk_loaded_slice_u128(s);
+        if (found.is_some) {
+            tk_u128 number = found.value;
+            return tk_ok_u128(number);
+        }
+    }
+    return tk_atoi_core_parse_text_u128(skip, skip_plus, s);
+}
+
 /* atoi_simd/src/parse_trait.rt:169 */
 TK_INLINE tk_result_u128 tk_atoi_simd_parse_u128(tk_bytes s, bool skip, bool skip_plus)
 {
-    return tk_parse_text_u128(skip, skip_plus, s);
+    return tk_called_parse_text_u128(skip, skip_plus, s);
 }
 
 /*
@@ -2938,19 +3350,6 @@ TK_INLINE tk_result_u128 tk_atoi_simd_parse_u128(tk_bytes s, bool skip, bool ski
 TK_INLINE tk_option_pair_i8_size tk_short_prefix_i8(tk_bytes s)
 {
     return tk_prefix_of_words_i8(s);
-}
-
-/* `take_sign` with a branch on the sign: the load of the digits does not wait for the first byte. */
-/* atoi_fast/src/sign.rt:30 */
-TK_INLINE tk_pair_bool_bytes tk_sign_by_branch(bool signed_, bool skip_plus, tk_bytes s)
-{
-    if (s.len >= 1 && s.at[0] == '-' && signed_) {
-        return tk_new_pair_bool_bytes(true, tk_without_first(s));
-    }
-    if (s.len >= 1 && s.at[0] == '+' && skip_plus) {
-        return tk_new_pair_bool_bytes(false, tk_without_first(s));
-    }
-    return tk_new_pair_bool_bytes(false, s);
 }
 
 /* atoi_core/src/narrow.rt:147 */
@@ -2985,7 +3384,7 @@ TK_HINTED bool tk_is_too_long(bool skip, tk_bytes s)
  * slice `AtoiSimdError` describes.
  */
 /* atoi_core/src/narrow.rt:20 */
-TK_INLINE tk_result_pair_u64_size tk_narrow_prefix(uint64_t bound, bool skip, tk_bytes s)
+TK_NOINLINE tk_result_pair_u64_size tk_narrow_prefix(uint64_t bound, bool skip, tk_bytes s)
 {
     tk_window window = tk_swar_window(s);
     if (window.len == 0) {
@@ -3041,38 +3440,51 @@ TK_INLINE tk_result_pair_i8_size tk_prefix_with_sign_i8(bool minus, bool skip, t
 }
 
 /*
- * `atoi_core::parse_prefix_text` for an engine of decimal digits, with the same answer. It may make one
- * load more.
+ * Parses the number at the start of `s`, and returns it with its length, the sign included. Returns the
+ * errors of `prefix_pos` for the body, or of `prefix_neg` after a `-`.
  */
-/* atoi_fast/src/calls.rt:72 */
-TK_INLINE tk_result_pair_i8_size tk_parse_prefix_text_i8(bool skip, bool skip_plus, tk_bytes s)
+/* atoi_core/src/calls.rt:38 */
+TK_INLINE tk_result_pair_i8_size tk_atoi_core_parse_prefix_text_i8(bool skip, bool skip_plus, tk_bytes s)
 {
-    tk_pair_bool_bytes chosen;
+    tk_pair_bool_bytes found = tk_take_sign(true, skip_plus, s);
+    bool minus = found.first;
+    tk_bytes body = found.second;
+    tk_result_pair_i8_size found_2 = tk_prefix_with_sign_i8(minus, skip, body);
+    if (!found_2.is_ok) {
+        return tk_err_pair_i8_size(found_2.error);
+    }
+    int8_t number = found_2.value.first;
+    size_t len = found_2.value.second;
+    return tk_ok_pair_i8_size(tk_new_pair_i8_size(number, len + (s.len - body.len)));
+}
+
+/* `atoi_core::parse_prefix_text`, with the same answer. It may make one load more. */
+/* atoi_fast/src/called.rt:42 */
+TK_INLINE tk_result_pair_i8_size tk_called_parse_prefix_text_i8(bool skip, bool skip_plus, tk_bytes s)
+{
     if (s.len >= 16) {
         tk_option_pair_i8_size found = tk_short_prefix_i8(s);
         if (found.is_some) {
             tk_pair_i8_size found_2 = found.value;
             return tk_ok_pair_i8_size(found_2);
         }
-        chosen = tk_sign_by_branch(true, skip_plus, s);
     } else {
-        chosen = tk_sign_take_sign(true, skip_plus, s);
+        if (s.len >= 2) {
+            /* Many texts are a number alone. */
+            tk_option_i8 found = tk_loaded_slice_i8(s);
+            if (found.is_some) {
+                int8_t number = found.value;
+                return tk_ok_pair_i8_size(tk_new_pair_i8_size(number, s.len));
+            }
+        }
     }
-    bool minus = chosen.first;
-    tk_bytes body = chosen.second;
-    tk_result_pair_i8_size found = tk_prefix_with_sign_i8(minus, skip, body);
-    if (!found.is_ok) {
-        return tk_err_pair_i8_size(found.error);
-    }
-    int8_t number = found.value.first;
-    size_t len = found.value.second;
-    return tk_ok_pair_i8_size(tk_new_pair_i8_size(number, len + (s.len - body.len)));
+    return tk_atoi_core_parse_prefix_text_i8(skip, skip_plus, s);
 }
 
 /* atoi_simd/src/parse_trait.rt:66 */
 TK_NOINLINE tk_result_pair_i8_size tk_atoi_simd_parse_prefix_i8(tk_bytes s, bool skip, bool skip_plus)
 {
-    return tk_parse_prefix_text_i8(skip, skip_plus, s);
+    return tk_called_parse_prefix_text_i8(skip, skip_plus, s);
 }
 
 /* atoi_fast/src/short_prefix.rt:136 */
@@ -3110,35 +3522,47 @@ TK_INLINE tk_result_pair_u8_size tk_prefix_with_sign_u8(bool minus, bool skip, t
     return tk_ok_pair_u8_size(tk_new_pair_u8_size(tk_from_parts_u8(minus, magnitude), len));
 }
 
-/* atoi_fast/src/calls.rt:72 */
-TK_INLINE tk_result_pair_u8_size tk_parse_prefix_text_u8(bool skip, bool skip_plus, tk_bytes s)
+/* atoi_core/src/calls.rt:38 */
+TK_INLINE tk_result_pair_u8_size tk_atoi_core_parse_prefix_text_u8(bool skip, bool skip_plus, tk_bytes s)
 {
-    tk_pair_bool_bytes chosen;
+    tk_pair_bool_bytes found = tk_take_sign(false, skip_plus, s);
+    bool minus = found.first;
+    tk_bytes body = found.second;
+    tk_result_pair_u8_size found_2 = tk_prefix_with_sign_u8(minus, skip, body);
+    if (!found_2.is_ok) {
+        return tk_err_pair_u8_size(found_2.error);
+    }
+    uint8_t number = found_2.value.first;
+    size_t len = found_2.value.second;
+    return tk_ok_pair_u8_size(tk_new_pair_u8_size(number, len + (s.len - body.len)));
+}
+
+/* atoi_fast/src/called.rt:42 */
+TK_INLINE tk_result_pair_u8_size tk_called_parse_prefix_text_u8(bool skip, bool skip_plus, tk_bytes s)
+{
     if (s.len >= 16) {
         tk_option_pair_u8_size found = tk_short_prefix_u8(s);
         if (found.is_some) {
             tk_pair_u8_size found_2 = found.value;
             return tk_ok_pair_u8_size(found_2);
         }
-        chosen = tk_sign_by_branch(false, skip_plus, s);
     } else {
-        chosen = tk_sign_take_sign(false, skip_plus, s);
+        if (s.len >= 2) {
+            /* Many texts are a number alone. */
+            tk_option_u8 found = tk_loaded_slice_u8(s);
+            if (found.is_some) {
+                uint8_t number = found.value;
+                return tk_ok_pair_u8_size(tk_new_pair_u8_size(number, s.len));
+            }
+        }
     }
-    bool minus = chosen.first;
-    tk_bytes body = chosen.second;
-    tk_result_pair_u8_size found = tk_prefix_with_sign_u8(minus, skip, body);
-    if (!found.is_ok) {
-        return tk_err_pair_u8_size(found.error);
-    }
-    uint8_t number = found.value.first;
-    size_t len = found.value.second;
-    return tk_ok_pair_u8_size(tk_new_pair_u8_size(number, len + (s.len - body.len)));
+    return tk_atoi_core_parse_prefix_text_u8(skip, skip_plus, s);
 }
 
 /* atoi_simd/src/parse_trait.rt:54 */
 TK_NOINLINE tk_result_pair_u8_size tk_atoi_simd_parse_prefix_u8(tk_bytes s, bool skip, bool skip_plus)
 {
-    return tk_parse_prefix_text_u8(skip, skip_plus, s);
+    return tk_called_parse_prefix_text_u8(skip, skip_plus, s);
 }
 
 /* atoi_fast/src/short_prefix.rt:16 */
@@ -3159,35 +3583,47 @@ TK_INLINE tk_result_pair_i16_size tk_prefix_with_sign_i16(bool minus, bool skip,
     return tk_ok_pair_i16_size(tk_new_pair_i16_size(tk_from_parts_i16(minus, magnitude), len));
 }
 
-/* atoi_fast/src/calls.rt:72 */
-TK_INLINE tk_result_pair_i16_size tk_parse_prefix_text_i16(bool skip, bool skip_plus, tk_bytes s)
+/* atoi_core/src/calls.rt:38 */
+TK_INLINE tk_result_pair_i16_size tk_atoi_core_parse_prefix_text_i16(bool skip, bool skip_plus, tk_bytes s)
 {
-    tk_pair_bool_bytes chosen;
+    tk_pair_bool_bytes found = tk_take_sign(true, skip_plus, s);
+    bool minus = found.first;
+    tk_bytes body = found.second;
+    tk_result_pair_i16_size found_2 = tk_prefix_with_sign_i16(minus, skip, body);
+    if (!found_2.is_ok) {
+        return tk_err_pair_i16_size(found_2.error);
+    }
+    int16_t number = found_2.value.first;
+    size_t len = found_2.value.second;
+    return tk_ok_pair_i16_size(tk_new_pair_i16_size(number, len + (s.len - body.len)));
+}
+
+/* atoi_fast/src/called.rt:42 */
+TK_INLINE tk_result_pair_i16_size tk_called_parse_prefix_text_i16(bool skip, bool skip_plus, tk_bytes s)
+{
     if (s.len >= 16) {
         tk_option_pair_i16_size found = tk_short_prefix_i16(s);
         if (found.is_some) {
             tk_pair_i16_size found_2 = found.value;
             return tk_ok_pair_i16_size(found_2);
         }
-        chosen = tk_sign_by_branch(true, skip_plus, s);
     } else {
-        chosen = tk_sign_take_sign(true, skip_plus, s);
+        if (s.len >= 2) {
+            /* Many texts are a number alone. */
+            tk_option_i16 found = tk_loaded_slice_i16(s);
+            if (found.is_some) {
+                int16_t number = found.value;
+                return tk_ok_pair_i16_size(tk_new_pair_i16_size(number, s.len));
+            }
+        }
     }
-    bool minus = chosen.first;
-    tk_bytes body = chosen.second;
-    tk_result_pair_i16_size found = tk_prefix_with_sign_i16(minus, skip, body);
-    if (!found.is_ok) {
-        return tk_err_pair_i16_size(found.error);
-    }
-    int16_t number = found.value.first;
-    size_t len = found.value.second;
-    return tk_ok_pair_i16_size(tk_new_pair_i16_size(number, len + (s.len - body.len)));
+    return tk_atoi_core_parse_prefix_text_i16(skip, skip_plus, s);
 }
 
 /* atoi_simd/src/parse_trait.rt:90 */
 TK_NOINLINE tk_result_pair_i16_size tk_atoi_simd_parse_prefix_i16(tk_bytes s, bool skip, bool skip_plus)
 {
-    return tk_parse_prefix_text_i16(skip, skip_plus, s);
+    return tk_called_parse_prefix_text_i16(skip, skip_plus, s);
 }
 
 /* atoi_fast/src/short_prefix.rt:136 */
@@ -3225,35 +3661,47 @@ TK_INLINE tk_result_pair_u16_size tk_prefix_with_sign_u16(bool minus, bool skip,
     return tk_ok_pair_u16_size(tk_new_pair_u16_size(tk_from_parts_u16(minus, magnitude), len));
 }
 
-/* atoi_fast/src/calls.rt:72 */
-TK_INLINE tk_result_pair_u16_size tk_parse_prefix_text_u16(bool skip, bool skip_plus, tk_bytes s)
+/* atoi_core/src/calls.rt:38 */
+TK_INLINE tk_result_pair_u16_size tk_atoi_core_parse_prefix_text_u16(bool skip, bool skip_plus, tk_bytes s)
 {
-    tk_pair_bool_bytes chosen;
+    tk_pair_bool_bytes found = tk_take_sign(false, skip_plus, s);
+    bool minus = found.first;
+    tk_bytes body = found.second;
+    tk_result_pair_u16_size found_2 = tk_prefix_with_sign_u16(minus, skip, body);
+    if (!found_2.is_ok) {
+        return tk_err_pair_u16_size(found_2.error);
+    }
+    uint16_t number = found_2.value.first;
+    size_t len = found_2.value.second;
+    return tk_ok_pair_u16_size(tk_new_pair_u16_size(number, len + (s.len - body.len)));
+}
+
+/* atoi_fast/src/called.rt:42 */
+TK_INLINE tk_result_pair_u16_size tk_called_parse_prefix_text_u16(bool skip, bool skip_plus, tk_bytes s)
+{
     if (s.len >= 16) {
         tk_option_pair_u16_size found = tk_short_prefix_u16(s);
         if (found.is_some) {
             tk_pair_u16_size found_2 = found.value;
             return tk_ok_pair_u16_size(found_2);
         }
-        chosen = tk_sign_by_branch(false, skip_plus, s);
     } else {
-        chosen = tk_sign_take_sign(false, skip_plus, s);
+        if (s.len >= 2) {
+            /* Many texts are a number alone. */
+            tk_option_u16 found = tk_loaded_slice_u16(s);
+            if (found.is_some) {
+                uint16_t number = found.value;
+                return tk_ok_pair_u16_size(tk_new_pair_u16_size(number, s.len));
+            }
+        }
     }
-    bool minus = chosen.first;
-    tk_bytes body = chosen.second;
-    tk_result_pair_u16_size found = tk_prefix_with_sign_u16(minus, skip, body);
-    if (!found.is_ok) {
-        return tk_err_pair_u16_size(found.error);
-    }
-    uint16_t number = found.value.first;
-    size_t len = found.value.second;
-    return tk_ok_pair_u16_size(tk_new_pair_u16_size(number, len + (s.len - body.len)));
+    return tk_atoi_core_parse_prefix_text_u16(skip, skip_plus, s);
 }
 
 /* atoi_simd/src/parse_trait.rt:78 */
 TK_NOINLINE tk_result_pair_u16_size tk_atoi_simd_parse_prefix_u16(tk_bytes s, bool skip, bool skip_plus)
 {
-    return tk_parse_prefix_text_u16(skip, skip_plus, s);
+    return tk_called_parse_prefix_text_u16(skip, skip_plus, s);
 }
 
 /* atoi_fast/src/short_prefix.rt:16 */
@@ -3274,35 +3722,47 @@ TK_INLINE tk_result_pair_i32_size tk_prefix_with_sign_i32(bool minus, bool skip,
     return tk_ok_pair_i32_size(tk_new_pair_i32_size(tk_from_parts_i32(minus, magnitude), len));
 }
 
-/* atoi_fast/src/calls.rt:72 */
-TK_INLINE tk_result_pair_i32_size tk_parse_prefix_text_i32(bool skip, bool skip_plus, tk_bytes s)
+/* atoi_core/src/calls.rt:38 */
+TK_INLINE tk_result_pair_i32_size tk_atoi_core_parse_prefix_text_i32(bool skip, bool skip_plus, tk_bytes s)
 {
-    tk_pair_bool_bytes chosen;
+    tk_pair_bool_bytes found = tk_take_sign(true, skip_plus, s);
+    bool minus = found.first;
+    tk_bytes body = found.second;
+    tk_result_pair_i32_size found_2 = tk_prefix_with_sign_i32(minus, skip, body);
+    if (!found_2.is_ok) {
+        return tk_err_pair_i32_size(found_2.error);
+    }
+    int32_t number = found_2.value.first;
+    size_t len = found_2.value.second;
+    return tk_ok_pair_i32_size(tk_new_pair_i32_size(number, len + (s.len - body.len)));
+}
+
+/* atoi_fast/src/called.rt:42 */
+TK_INLINE tk_result_pair_i32_size tk_called_parse_prefix_text_i32(bool skip, bool skip_plus, tk_bytes s)
+{
     if (s.len >= 16) {
         tk_option_pair_i32_size found = tk_short_prefix_i32(s);
         if (found.is_some) {
             tk_pair_i32_size found_2 = found.value;
             return tk_ok_pair_i32_size(found_2);
         }
-        chosen = tk_sign_by_branch(true, skip_plus, s);
     } else {
-        chosen = tk_sign_take_sign(true, skip_plus, s);
+        if (s.len >= 2) {
+            /* Many texts are a number alone. */
+            tk_option_i32 found = tk_loaded_slice_i32(s);
+            if (found.is_some) {
+                int32_t number = found.value;
+                return tk_ok_pair_i32_size(tk_new_pair_i32_size(number, s.len));
+            }
+        }
     }
-    bool minus = chosen.first;
-    tk_bytes body = chosen.second;
-    tk_result_pair_i32_size found = tk_prefix_with_sign_i32(minus, skip, body);
-    if (!found.is_ok) {
-        return tk_err_pair_i32_size(found.error);
-    }
-    int32_t number = found.value.first;
-    size_t len = found.value.second;
-    return tk_ok_pair_i32_size(tk_new_pair_i32_size(number, len + (s.len - body.len)));
+    return tk_atoi_core_parse_prefix_text_i32(skip, skip_plus, s);
 }
 
 /* atoi_simd/src/parse_trait.rt:114 */
 TK_NOINLINE tk_result_pair_i32_size tk_atoi_simd_parse_prefix_i32(tk_bytes s, bool skip, bool skip_plus)
 {
-    return tk_parse_prefix_text_i32(skip, skip_plus, s);
+    return tk_called_parse_prefix_text_i32(skip, skip_plus, s);
 }
 
 /* atoi_fast/src/short_prefix.rt:136 */
@@ -3340,35 +3800,47 @@ TK_INLINE tk_result_pair_u32_size tk_prefix_with_sign_u32(bool minus, bool skip,
     return tk_ok_pair_u32_size(tk_new_pair_u32_size(tk_from_parts_u32(minus, magnitude), len));
 }
 
-/* atoi_fast/src/calls.rt:72 */
-TK_INLINE tk_result_pair_u32_size tk_parse_prefix_text_u32(bool skip, bool skip_plus, tk_bytes s)
+/* atoi_core/src/calls.rt:38 */
+TK_INLINE tk_result_pair_u32_size tk_atoi_core_parse_prefix_text_u32(bool skip, bool skip_plus, tk_bytes s)
 {
-    tk_pair_bool_bytes chosen;
+    tk_pair_bool_bytes found = tk_take_sign(false, skip_plus, s);
+    bool minus = found.first;
+    tk_bytes body = found.second;
+    tk_result_pair_u32_size found_2 = tk_prefix_with_sign_u32(minus, skip, body);
+    if (!found_2.is_ok) {
+        return tk_err_pair_u32_size(found_2.error);
+    }
+    uint32_t number = found_2.value.first;
+    size_t len = found_2.value.second;
+    return tk_ok_pair_u32_size(tk_new_pair_u32_size(number, len + (s.len - body.len)));
+}
+
+/* atoi_fast/src/called.rt:42 */
+TK_INLINE tk_result_pair_u32_size tk_called_parse_prefix_text_u32(bool skip, bool skip_plus, tk_bytes s)
+{
     if (s.len >= 16) {
         tk_option_pair_u32_size found = tk_short_prefix_u32(s);
         if (found.is_some) {
             tk_pair_u32_size found_2 = found.value;
             return tk_ok_pair_u32_size(found_2);
         }
-        chosen = tk_sign_by_branch(false, skip_plus, s);
     } else {
-        chosen = tk_sign_take_sign(false, skip_plus, s);
+        if (s.len >= 2) {
+            /* Many texts are a number alone. */
+            tk_option_u32 found = tk_loaded_slice_u32(s);
+            if (found.is_some) {
+                uint32_t number = found.value;
+                return tk_ok_pair_u32_size(tk_new_pair_u32_size(number, s.len));
+            }
+        }
     }
-    bool minus = chosen.first;
-    tk_bytes body = chosen.second;
-    tk_result_pair_u32_size found = tk_prefix_with_sign_u32(minus, skip, body);
-    if (!found.is_ok) {
-        return tk_err_pair_u32_size(found.error);
-    }
-    uint32_t number = found.value.first;
-    size_t len = found.value.second;
-    return tk_ok_pair_u32_size(tk_new_pair_u32_size(number, len + (s.len - body.len)));
+    return tk_atoi_core_parse_prefix_text_u32(skip, skip_plus, s);
 }
 
 /* atoi_simd/src/parse_trait.rt:102 */
 TK_NOINLINE tk_result_pair_u32_size tk_atoi_simd_parse_prefix_u32(tk_bytes s, bool skip, bool skip_plus)
 {
-    return tk_parse_prefix_text_u32(skip, skip_plus, s);
+    return tk_called_parse_prefix_text_u32(skip, skip_plus, s);
 }
 
 /* atoi_fast/src/short_prefix.rt:16 */
@@ -3390,35 +3862,47 @@ TK_INLINE tk_result_pair_i64_size tk_prefix_with_sign_i64(bool minus, bool skip,
     return tk_ok_pair_i64_size(tk_new_pair_i64_size(tk_from_parts_i64(minus, magnitude), len));
 }
 
-/* atoi_fast/src/calls.rt:72 */
-TK_INLINE tk_result_pair_i64_size tk_parse_prefix_text_i64(bool skip, bool skip_plus, tk_bytes s)
+/* atoi_core/src/calls.rt:38 */
+TK_INLINE tk_result_pair_i64_size tk_atoi_core_parse_prefix_text_i64(bool skip, bool skip_plus, tk_bytes s)
 {
-    tk_pair_bool_bytes chosen;
+    tk_pair_bool_bytes found = tk_take_sign(true, skip_plus, s);
+    bool minus = found.first;
+    tk_bytes body = found.second;
+    tk_result_pair_i64_size found_2 = tk_prefix_with_sign_i64(minus, skip, body);
+    if (!found_2.is_ok) {
+        return tk_err_pair_i64_size(found_2.error);
+    }
+    int64_t number = found_2.value.first;
+    size_t len = found_2.value.second;
+    return tk_ok_pair_i64_size(tk_new_pair_i64_size(number, len + (s.len - body.len)));
+}
+
+/* atoi_fast/src/called.rt:42 */
+TK_INLINE tk_result_pair_i64_size tk_called_parse_prefix_text_i64(bool skip, bool skip_plus, tk_bytes s)
+{
     if (s.len >= 16) {
         tk_option_pair_i64_size found = tk_short_prefix_i64(s);
         if (found.is_some) {
             tk_pair_i64_size found_2 = found.value;
             return tk_ok_pair_i64_size(found_2);
         }
-        chosen = tk_sign_by_branch(true, skip_plus, s);
     } else {
-        chosen = tk_sign_take_sign(true, skip_plus, s);
+        if (s.len >= 2) {
+            /* Many texts are a number alone. */
+            tk_option_i64 found = tk_loaded_slice_i64(s);
+            if (found.is_some) {
+                int64_t number = found.value;
+                return tk_ok_pair_i64_size(tk_new_pair_i64_size(number, s.len));
+            }
+        }
     }
-    bool minus = chosen.first;
-    tk_bytes body = chosen.second;
-    tk_result_pair_i64_size found = tk_prefix_with_sign_i64(minus, skip, body);
-    if (!found.is_ok) {
-        return tk_err_pair_i64_size(found.error);
-    }
-    int64_t number = found.value.first;
-    size_t len = found.value.second;
-    return tk_ok_pair_i64_size(tk_new_pair_i64_size(number, len + (s.len - body.len)));
+    return tk_atoi_core_parse_prefix_text_i64(skip, skip_plus, s);
 }
 
 /* atoi_simd/src/parse_trait.rt:162 */
 TK_NOINLINE tk_result_pair_i64_size tk_atoi_simd_parse_prefix_i64(tk_bytes s, bool skip, bool skip_plus)
 {
-    return tk_parse_prefix_text_i64(skip, skip_plus, s);
+    return tk_called_parse_prefix_text_i64(skip, skip_plus, s);
 }
 
 /* atoi_fast/src/short_prefix.rt:136 */
@@ -3457,35 +3941,47 @@ TK_INLINE tk_result_pair_u64_size tk_prefix_with_sign_u64(bool minus, bool skip,
     return tk_ok_pair_u64_size(tk_new_pair_u64_size(tk_from_parts_u64(minus, magnitude), len));
 }
 
-/* atoi_fast/src/calls.rt:72 */
-TK_INLINE tk_result_pair_u64_size tk_parse_prefix_text_u64(bool skip, bool skip_plus, tk_bytes s)
+/* atoi_core/src/calls.rt:38 */
+TK_INLINE tk_result_pair_u64_size tk_atoi_core_parse_prefix_text_u64(bool skip, bool skip_plus, tk_bytes s)
 {
-    tk_pair_bool_bytes chosen;
+    tk_pair_bool_bytes found = tk_take_sign(false, skip_plus, s);
+    bool minus = found.first;
+    tk_bytes body = found.second;
+    tk_result_pair_u64_size found_2 = tk_prefix_with_sign_u64(minus, skip, body);
+    if (!found_2.is_ok) {
+        return tk_err_pair_u64_size(found_2.error);
+    }
+    uint64_t number = found_2.value.first;
+    size_t len = found_2.value.second;
+    return tk_ok_pair_u64_size(tk_new_pair_u64_size(number, len + (s.len - body.len)));
+}
+
+/* atoi_fast/src/called.rt:42 */
+TK_INLINE tk_result_pair_u64_size tk_called_parse_prefix_text_u64(bool skip, bool skip_plus, tk_bytes s)
+{
     if (s.len >= 16) {
         tk_option_pair_u64_size found = tk_short_prefix_u64(s);
         if (found.is_some) {
             tk_pair_u64_size found_2 = found.value;
             return tk_ok_pair_u64_size(found_2);
         }
-        chosen = tk_sign_by_branch(false, skip_plus, s);
     } else {
-        chosen = tk_sign_take_sign(false, skip_plus, s);
+        if (s.len >= 2) {
+            /* Many texts are a number alone. */
+            tk_option_u64 found = tk_loaded_slice_u64(s);
+            if (found.is_some) {
+                uint64_t number = found.value;
+                return tk_ok_pair_u64_size(tk_new_pair_u64_size(number, s.len));
+            }
+        }
     }
-    bool minus = chosen.first;
-    tk_bytes body = chosen.second;
-    tk_result_pair_u64_size found = tk_prefix_with_sign_u64(minus, skip, body);
-    if (!found.is_ok) {
-        return tk_err_pair_u64_size(found.error);
-    }
-    uint64_t number = found.value.first;
-    size_t len = found.value.second;
-    return tk_ok_pair_u64_size(tk_new_pair_u64_size(number, len + (s.len - body.len)));
+    return tk_atoi_core_parse_prefix_text_u64(skip, skip_plus, s);
 }
 
 /* atoi_simd/src/parse_trait.rt:150 */
 TK_NOINLINE tk_result_pair_u64_size tk_atoi_simd_parse_prefix_u64(tk_bytes s, bool skip, bool skip_plus)
 {
-    return tk_parse_prefix_text_u64(skip, skip_plus, s);
+    return tk_called_parse_prefix_text_u64(skip, skip_plus, s);
 }
 
 /* atoi_fast/src/short_prefix.rt:16 */
@@ -3508,35 +4004,47 @@ TK_INLINE tk_result_pair_i128_size tk_prefix_with_sign_i128(bool minus, bool ski
     return tk_ok_pair_i128_size(tk_new_pair_i128_size(tk_from_parts_i128(minus, magnitude), len));
 }
 
-/* atoi_fast/src/calls.rt:72 */
-TK_INLINE tk_result_pair_i128_size tk_parse_prefix_text_i128(bool skip, bool skip_plus, tk_bytes s)
+/* atoi_core/src/calls.rt:38 */
+TK_INLINE tk_result_pair_i128_size tk_atoi_core_parse_prefix_text_i128(bool skip, bool skip_plus, tk_bytes s)
 {
-    tk_pair_bool_bytes chosen;
+    tk_pair_bool_bytes found = tk_take_sign(true, skip_plus, s);
+    bool minus = found.first;
+    tk_bytes body = found.second;
+    tk_result_pair_i128_size found_2 = tk_prefix_with_sign_i128(minus, skip, body);
+    if (!found_2.is_ok) {
+        return tk_err_pair_i128_size(found_2.error);
+    }
+    tk_i128 number = found_2.value.first;
+    size_t len = found_2.value.second;
+    return tk_ok_pair_i128_size(tk_new_pair_i128_size(number, len + (s.len - body.len)));
+}
+
+/* atoi_fast/src/called.rt:42 */
+TK_INLINE tk_result_pair_i128_size tk_called_parse_prefix_text_i128(bool skip, bool skip_plus, tk_bytes s)
+{
     if (s.len >= 16) {
         tk_option_pair_i128_size found = tk_short_prefix_i128(s);
         if (found.is_some) {
             tk_pair_i128_size found_2 = found.value;
             return tk_ok_pair_i128_size(found_2);
         }
-        chosen = tk_sign_by_branch(true, skip_plus, s);
     } else {
-        chosen = tk_sign_take_sign(true, skip_plus, s);
+        if (s.len >= 2) {
+            /* Many texts are a number alone. */
+            tk_option_i128 found = tk_loaded_slice_i128(s);
+            if (found.is_some) {
+                tk_i128 number = found.value;
+                return tk_ok_pair_i128_size(tk_new_pair_i128_size(number, s.len));
+            }
+        }
     }
-    bool minus = chosen.first;
-    tk_bytes body = chosen.second;
-    tk_result_pair_i128_size found = tk_prefix_with_sign_i128(minus, skip, body);
-    if (!found.is_ok) {
-        return tk_err_pair_i128_size(found.error);
-    }
-    tk_i128 number = found.value.first;
-    size_t len = found.value.second;
-    return tk_ok_pair_i128_size(tk_new_pair_i128_size(number, len + (s.len - body.len)));
+    return tk_atoi_core_parse_prefix_text_i128(skip, skip_plus, s);
 }
 
 /* atoi_simd/src/parse_trait.rt:186 */
 TK_NOINLINE tk_result_pair_i128_size tk_atoi_simd_parse_prefix_i128(tk_bytes s, bool skip, bool skip_plus)
 {
-    return tk_parse_prefix_text_i128(skip, skip_plus, s);
+    return tk_called_parse_prefix_text_i128(skip, skip_plus, s);
 }
 
 /* atoi_fast/src/short_prefix.rt:136 */
@@ -3576,156 +4084,309 @@ TK_INLINE tk_result_pair_u128_size tk_prefix_with_sign_u128(bool minus, bool ski
     return tk_ok_pair_u128_size(tk_new_pair_u128_size(tk_from_parts_u128(minus, magnitude), len));
 }
 
-/* atoi_fast/src/calls.rt:72 */
-TK_INLINE tk_result_pair_u128_size tk_parse_prefix_text_u128(bool skip, bool skip_plus, tk_bytes s)
+/* atoi_core/src/calls.rt:38 */
+TK_INLINE tk_result_pair_u128_size tk_atoi_core_parse_prefix_text_u128(bool skip, bool skip_plus, tk_bytes s)
 {
-    tk_pair_bool_bytes chosen;
+    tk_pair_bool_bytes found = tk_take_sign(false, skip_plus, s);
+    bool minus = found.first;
+    tk_bytes body = found.second;
+    tk_result_pair_u128_size found_2 = tk_prefix_with_sign_u128(minus, skip, body);
+    if (!found_2.is_ok) {
+        return tk_err_pair_u128_size(found_2.error);
+    }
+    tk_u128 number = found_2.value.first;
+    size_t len = found_2.value.second;
+    return tk_ok_pair_u128_size(tk_new_pair_u128_size(number, len + (s.len - body.len)));
+}
+
+/* atoi_fast/src/called.rt:42 */
+TK_INLINE tk_result_pair_u128_size tk_called_parse_prefix_text_u128(bool skip, bool skip_plus, tk_bytes s)
+{
     if (s.len >= 16) {
         tk_option_pair_u128_size found = tk_short_prefix_u128(s);
         if (found.is_some) {
             tk_pair_u128_size found_2 = found.value;
             return tk_ok_pair_u128_size(found_2);
         }
-        chosen = tk_sign_by_branch(false, skip_plus, s);
     } else {
-        chosen = tk_sign_take_sign(false, skip_plus, s);
+        if (s.len >= 2) {
+            /* Many texts are a number alone. */
+            tk_option_u128 found = tk_loaded_slice_u128(s);
+            if (found.is_some) {
+                tk_u128 number = found.value;
+                return tk_ok_pair_u128_size(tk_new_pair_u128_size(number, s.len));
+            }
+        }
     }
-    bool minus = chosen.first;
-    tk_bytes body = chosen.second;
-    tk_result_pair_u128_size found = tk_prefix_with_sign_u128(minus, skip, body);
-    if (!found.is_ok) {
-        return tk_err_pair_u128_size(found.error);
-    }
-    tk_u128 number = found.value.first;
-    size_t len = found.value.second;
-    return tk_ok_pair_u128_size(tk_new_pair_u128_size(number, len + (s.len - body.len)));
+    return tk_atoi_core_parse_prefix_text_u128(skip, skip_plus, s);
 }
 
 /* atoi_simd/src/parse_trait.rt:174 */
 TK_NOINLINE tk_result_pair_u128_size tk_atoi_simd_parse_prefix_u128(tk_bytes s, bool skip, bool skip_plus)
 {
-    return tk_parse_prefix_text_u128(skip, skip_plus, s);
+    return tk_called_parse_prefix_text_u128(skip, skip_plus, s);
 }
 
-/* `atoi_core::whole_pos`, with the same contract. */
-/* atoi_fast/src/calls.rt:101 */
-TK_INLINE tk_result_i8 tk_whole_pos_i8(bool skip, tk_bytes s)
+/*
+ * Parses all of `s`, digits without a sign, as a `T` that is not negative. With `skip`, leading
+ * zeros do not count towards a limit of digits. The errors are of every kind, and `s` is the body.
+ */
+/* atoi_core/src/calls.rt:75 */
+TK_INLINE tk_result_i8 tk_atoi_core_whole_pos_i8(bool skip, tk_bytes s)
 {
     return tk_whole_with_sign_i8(false, skip, s);
+}
+
+/* `atoi_core::whole_pos`, with the same answer. It may make one load more. */
+/* atoi_fast/src/called.rt:71 */
+TK_INLINE tk_result_i8 tk_called_whole_pos_i8(bool skip, tk_bytes s)
+{
+    if (s.len >= 2 && '0' <= s.at[0] && s.at[0] <= '9' && s.len < 16) {
+        tk_option_i8 found = tk_loaded_slice_i8(s);
+        if (found.is_some) {
+            int8_t number = found.value;
+            return tk_ok_i8(number);
+        }
+    }
+    return tk_atoi_core_whole_pos_i8(skip, s);
 }
 
 /* atoi_simd/src/parse_pos_trait.rt:37 */
 TK_INLINE tk_result_i8 tk_atoi_simd_parse_pos_i8(tk_bytes s, bool skip)
 {
-    return tk_whole_pos_i8(skip, s);
+    return tk_called_whole_pos_i8(skip, s);
 }
 
-/* atoi_fast/src/calls.rt:101 */
-TK_INLINE tk_result_u8 tk_whole_pos_u8(bool skip, tk_bytes s)
+/* atoi_core/src/calls.rt:75 */
+TK_INLINE tk_result_u8 tk_atoi_core_whole_pos_u8(bool skip, tk_bytes s)
 {
     return tk_whole_with_sign_u8(false, skip, s);
+}
+
+/* atoi_fast/src/called.rt:71 */
+TK_INLINE tk_result_u8 tk_called_whole_pos_u8(bool skip, tk_bytes s)
+{
+    if (s.len >= 2 && '0' <= s.at[0] && s.at[0] <= '9' && s.len < 16) {
+        tk_option_u8 found = tk_loaded_slice_u8(s);
+        if (found.is_some) {
+            uint8_t number = found.value;
+            return tk_ok_u8(number);
+        }
+    }
+    return tk_atoi_core_whole_pos_u8(skip, s);
 }
 
 /* atoi_simd/src/parse_pos_trait.rt:25 */
 TK_INLINE tk_result_u8 tk_atoi_simd_parse_pos_u8(tk_bytes s, bool skip)
 {
-    return tk_whole_pos_u8(skip, s);
+    return tk_called_whole_pos_u8(skip, s);
 }
 
-/* atoi_fast/src/calls.rt:101 */
-TK_INLINE tk_result_i16 tk_whole_pos_i16(bool skip, tk_bytes s)
+/* atoi_core/src/calls.rt:75 */
+TK_INLINE tk_result_i16 tk_atoi_core_whole_pos_i16(bool skip, tk_bytes s)
 {
     return tk_whole_with_sign_i16(false, skip, s);
+}
+
+/* atoi_fast/src/called.rt:71 */
+TK_INLINE tk_result_i16 tk_called_whole_pos_i16(bool skip, tk_bytes s)
+{
+    if (s.len >= 2 && '0' <= s.at[0] && s.at[0] <= '9' && s.len < 16) {
+        tk_option_i16 found = tk_loaded_slice_i16(s);
+        if (found.is_some) {
+            int16_t number = found.value;
+            return tk_ok_i16(number);
+        }
+    }
+    return tk_atoi_core_whole_pos_i16(skip, s);
 }
 
 /* atoi_simd/src/parse_pos_trait.rt:61 */
 TK_INLINE tk_result_i16 tk_atoi_simd_parse_pos_i16(tk_bytes s, bool skip)
 {
-    return tk_whole_pos_i16(skip, s);
+    return tk_called_whole_pos_i16(skip, s);
 }
 
-/* atoi_fast/src/calls.rt:101 */
-TK_INLINE tk_result_u16 tk_whole_pos_u16(bool skip, tk_bytes s)
+/* atoi_core/src/calls.rt:75 */
+TK_INLINE tk_result_u16 tk_atoi_core_whole_pos_u16(bool skip, tk_bytes s)
 {
     return tk_whole_with_sign_u16(false, skip, s);
+}
+
+/* atoi_fast/src/called.rt:71 */
+TK_INLINE tk_result_u16 tk_called_whole_pos_u16(bool skip, tk_bytes s)
+{
+    if (s.len >= 2 && '0' <= s.at[0] && s.at[0] <= '9' && s.len < 16) {
+        tk_option_u16 found = tk_loaded_slice_u16(s);
+        if (found.is_some) {
+            uint16_t number = found.value;
+            return tk_ok_u16(number);
+        }
+    }
+    return tk_atoi_core_whole_pos_u16(skip, s);
 }
 
 /* atoi_simd/src/parse_pos_trait.rt:49 */
 TK_INLINE tk_result_u16 tk_atoi_simd_parse_pos_u16(tk_bytes s, bool skip)
 {
-    return tk_whole_pos_u16(skip, s);
+    return tk_called_whole_pos_u16(skip, s);
 }
 
-/* atoi_fast/src/calls.rt:101 */
-TK_INLINE tk_result_i32 tk_whole_pos_i32(bool skip, tk_bytes s)
+/* atoi_core/src/calls.rt:75 */
+TK_INLINE tk_result_i32 tk_atoi_core_whole_pos_i32(bool skip, tk_bytes s)
 {
     return tk_whole_with_sign_i32(false, skip, s);
+}
+
+/* atoi_fast/src/called.rt:71 */
+TK_INLINE tk_result_i32 tk_called_whole_pos_i32(bool skip, tk_bytes s)
+{
+    if (s.len >= 2 && '0' <= s.at[0] && s.at[0] <= '9' && s.len < 16) {
+        tk_option_i32 found = tk_loaded_slice_i32(s);
+        if (found.is_some) {
+            int32_t number = found.value;
+            return tk_ok_i32(number);
+        }
+    }
+    return tk_atoi_core_whole_pos_i32(skip, s);
 }
 
 /* atoi_simd/src/parse_pos_trait.rt:85 */
 TK_INLINE tk_result_i32 tk_atoi_simd_parse_pos_i32(tk_bytes s, bool skip)
 {
-    return tk_whole_pos_i32(skip, s);
+    return tk_called_whole_pos_i32(skip, s);
 }
 
-/* atoi_fast/src/calls.rt:101 */
-TK_INLINE tk_result_u32 tk_whole_pos_u32(bool skip, tk_bytes s)
+/* atoi_core/src/calls.rt:75 */
+TK_INLINE tk_result_u32 tk_atoi_core_whole_pos_u32(bool skip, tk_bytes s)
 {
     return tk_whole_with_sign_u32(false, skip, s);
+}
+
+/* atoi_fast/src/called.rt:71 */
+TK_INLINE tk_result_u32 tk_called_whole_pos_u32(bool skip, tk_bytes s)
+{
+    if (s.len >= 2 && '0' <= s.at[0] && s.at[0] <= '9' && s.len < 16) {
+        tk_option_u32 found = tk_loaded_slice_u32(s);
+        if (found.is_some) {
+            uint32_t number = found.value;
+            return tk_ok_u32(number);
+        }
+    }
+    return tk_atoi_core_whole_pos_u32(skip, s);
 }
 
 /* atoi_simd/src/parse_pos_trait.rt:73 */
 TK_INLINE tk_result_u32 tk_atoi_simd_parse_pos_u32(tk_bytes s, bool skip)
 {
-    return tk_whole_pos_u32(skip, s);
+    return tk_called_whole_pos_u32(skip, s);
 }
 
-/* atoi_fast/src/calls.rt:101 */
-TK_INLINE tk_result_i64 tk_whole_pos_i64(bool skip, tk_bytes s)
+/* atoi_core/src/calls.rt:75 */
+TK_INLINE tk_result_i64 tk_atoi_core_whole_pos_i64(bool skip, tk_bytes s)
 {
     return tk_whole_with_sign_i64(false, skip, s);
+}
+
+/* atoi_fast/src/called.rt:71 */
+TK_INLINE tk_result_i64 tk_called_whole_pos_i64(bool skip, tk_bytes s)
+{
+    if (s.len >= 2 && '0' <= s.at[0] && s.at[0] <= '9' && s.len < 16) {
+        tk_option_i64 found = tk_loaded_slice_i64(s);
+        if (found.is_some) {
+            int64_t number = found.value;
+            return tk_ok_i64(number);
+        }
+    }
+    return tk_atoi_core_whole_pos_i64(skip, s);
 }
 
 /* atoi_simd/src/parse_pos_trait.rt:133 */
 TK_INLINE tk_result_i64 tk_atoi_simd_parse_pos_i64(tk_bytes s, bool skip)
 {
-    return tk_whole_pos_i64(skip, s);
+    return tk_called_whole_pos_i64(skip, s);
 }
 
-/* atoi_fast/src/calls.rt:101 */
-TK_INLINE tk_result_u64 tk_whole_pos_u64(bool skip, tk_bytes s)
+/* atoi_core/src/calls.rt:75 */
+TK_INLINE tk_result_u64 tk_atoi_core_whole_pos_u64(bool skip, tk_bytes s)
 {
     return tk_whole_with_sign_u64(false, skip, s);
+}
+
+/* atoi_fast/src/called.rt:71 */
+TK_INLINE tk_result_u64 tk_called_whole_pos_u64(bool skip, tk_bytes s)
+{
+    if (s.len >= 2 && '0' <= s.at[0] && s.at[0] <= '9' && s.len < 16) {
+        tk_option_u64 found = tk_loaded_slice_u64(s);
+        if (found.is_some) {
+            uint64_t number = found.value;
+            return tk_ok_u64(number);
+        }
+    }
+    return tk_atoi_core_whole_pos_u64(skip, s);
 }
 
 /* atoi_simd/src/parse_pos_trait.rt:121 */
 TK_INLINE tk_result_u64 tk_atoi_simd_parse_pos_u64(tk_bytes s, bool skip)
 {
-    return tk_whole_pos_u64(skip, s);
+    return tk_called_whole_pos_u64(skip, s);
 }
 
-/* atoi_fast/src/calls.rt:101 */
-TK_INLINE tk_result_i128 tk_whole_pos_i128(bool skip, tk_bytes s)
+/* atoi_core/src/calls.rt:75 */
+TK_INLINE tk_result_i128 tk_atoi_core_whole_pos_i128(bool skip, tk_bytes s)
 {
     return tk_whole_with_sign_i128(false, skip, s);
+}
+
+/* atoi_fast/src/called.rt:71 */
+TK_INLINE tk_result_i128 tk_called_whole_pos_i128(bool skip, tk_bytes s)
+{
+    if (s.len >= 2 && '0' <= s.at[0] && s.at[0] <= '9' && s.len < 16) {
+        tk_option_i128 found = tk_loaded_slice_i128(s);
+        if (found.is_some) {
+            tk_i128 number = found.value;
+            return tk_ok_i128(number);
+        }
+    }
+    return tk_atoi_core_whole_pos_i128(skip, s);
 }
 
 /* atoi_simd/src/parse_pos_trait.rt:157 */
 TK_INLINE tk_result_i128 tk_atoi_simd_parse_pos_i128(tk_bytes s, bool skip)
 {
-    return tk_whole_pos_i128(skip, s);
+    return tk_called_whole_pos_i128(skip, s);
 }
 
-/* atoi_fast/src/calls.rt:101 */
-TK_INLINE tk_result_u128 tk_whole_pos_u128(bool skip, tk_bytes s)
+/* atoi_core/src/calls.rt:75 */
+TK_INLINE tk_result_u128 tk_atoi_core_whole_pos_u128(bool skip, tk_bytes s)
 {
     return tk_whole_with_sign_u128(false, skip, s);
+}
+
+/* atoi_fast/src/called.rt:71 */
+TK_INLINE tk_result_u128 tk_called_whole_pos_u128(bool skip, tk_bytes s)
+{
+    if (s.len >= 2 && '0' <= s.at[0] && s.at[0] <= '9' && s.len < 16) {
+        tk_option_u128 found = tk_loaded_slice_u128(s);
+        if (found.is_some) {
+            tk_u128 number = found.value;
+            return tk_ok_u128(number);
+        }
+    }
+    return tk_atoi_core_whole_pos_u128(skip, s);
 }
 
 /* atoi_simd/src/parse_pos_trait.rt:145 */
 TK_INLINE tk_result_u128 tk_atoi_simd_parse_pos_u128(tk_bytes s, bool skip)
 {
-    return tk_whole_pos_u128(skip, s);
+    return tk_called_whole_pos_u128(skip, s);
+}
+
+/* `prefix_of_words`, which counts its load. */
+/* atoi_fast/src/short_prefix.rt:32 */
+TK_INLINE tk_option_pair_i8_size tk_loaded_prefix_i8(tk_bytes s)
+{
+    return tk_prefix_of_words_i8(s);
 }
 
 /*
@@ -3733,123 +4394,308 @@ TK_INLINE tk_result_u128 tk_atoi_simd_parse_pos_u128(tk_bytes s, bool skip)
  * The errors are `Empty`, `Size` and `Overflow`.
  */
 /* atoi_core/src/calls.rt:102 */
-TK_INLINE tk_result_pair_i8_size tk_prefix_pos_i8(bool skip, tk_bytes s)
+TK_INLINE tk_result_pair_i8_size tk_atoi_core_prefix_pos_i8(bool skip, tk_bytes s)
 {
     return tk_prefix_with_sign_i8(false, skip, s);
+}
+
+/* `atoi_core::prefix_pos`, with the same answer. It may make one load more. */
+/* atoi_fast/src/called.rt:94 */
+TK_NOINLINE tk_result_pair_i8_size tk_called_prefix_pos_i8(bool skip, tk_bytes s)
+{
+    if (s.len >= 1 && '0' <= s.at[0] && s.at[0] <= '9' && s.len >= 16) {
+        tk_option_pair_i8_size found = tk_loaded_prefix_i8(s);
+        if (found.is_some) {
+            tk_pair_i8_size found_2 = found.value;
+            return tk_ok_pair_i8_size(found_2);
+        }
+    }
+    return tk_atoi_core_prefix_pos_i8(skip, s);
 }
 
 /* atoi_simd/src/parse_pos_trait.rt:42 */
 TK_INLINE tk_result_pair_i8_size tk_atoi_simd_parse_prefix_pos_i8(tk_bytes s, bool skip)
 {
-    return tk_prefix_pos_i8(skip, s);
+    return tk_called_prefix_pos_i8(skip, s);
+}
+
+/* atoi_fast/src/short_prefix.rt:32 */
+TK_INLINE tk_option_pair_u8_size tk_loaded_prefix_u8(tk_bytes s)
+{
+    return tk_prefix_of_words_u8(s);
 }
 
 /* atoi_core/src/calls.rt:102 */
-TK_INLINE tk_result_pair_u8_size tk_prefix_pos_u8(bool skip, tk_bytes s)
+TK_INLINE tk_result_pair_u8_size tk_atoi_core_prefix_pos_u8(bool skip, tk_bytes s)
 {
     return tk_prefix_with_sign_u8(false, skip, s);
+}
+
+/* atoi_fast/src/called.rt:94 */
+TK_NOINLINE tk_result_pair_u8_size tk_called_prefix_pos_u8(bool skip, tk_bytes s)
+{
+    if (s.len >= 1 && '0' <= s.at[0] && s.at[0] <= '9' && s.len >= 16) {
+        tk_option_pair_u8_size found = tk_loaded_prefix_u8(s);
+        if (found.is_some) {
+            tk_pair_u8_size found_2 = found.value;
+            return tk_ok_pair_u8_size(found_2);
+        }
+    }
+    return tk_atoi_core_prefix_pos_u8(skip, s);
 }
 
 /* atoi_simd/src/parse_pos_trait.rt:30 */
 TK_INLINE tk_result_pair_u8_size tk_atoi_simd_parse_prefix_pos_u8(tk_bytes s, bool skip)
 {
-    return tk_prefix_pos_u8(skip, s);
+    return tk_called_prefix_pos_u8(skip, s);
+}
+
+/* atoi_fast/src/short_prefix.rt:32 */
+TK_INLINE tk_option_pair_i16_size tk_loaded_prefix_i16(tk_bytes s)
+{
+    return tk_prefix_of_words_i16(s);
 }
 
 /* atoi_core/src/calls.rt:102 */
-TK_INLINE tk_result_pair_i16_size tk_prefix_pos_i16(bool skip, tk_bytes s)
+TK_INLINE tk_result_pair_i16_size tk_atoi_core_prefix_pos_i16(bool skip, tk_bytes s)
 {
     return tk_prefix_with_sign_i16(false, skip, s);
+}
+
+/* atoi_fast/src/called.rt:94 */
+TK_NOINLINE tk_result_pair_i16_size tk_called_prefix_pos_i16(bool skip, tk_bytes s)
+{
+    if (s.len >= 1 && '0' <= s.at[0] && s.at[0] <= '9' && s.len >= 16) {
+        tk_option_pair_i16_size found = tk_loaded_prefix_i16(s);
+        if (found.is_some) {
+            tk_pair_i16_size found_2 = found.value;
+            return tk_ok_pair_i16_size(found_2);
+        }
+    }
+    return tk_atoi_core_prefix_pos_i16(skip, s);
 }
 
 /* atoi_simd/src/parse_pos_trait.rt:66 */
 TK_INLINE tk_result_pair_i16_size tk_atoi_simd_parse_prefix_pos_i16(tk_bytes s, bool skip)
 {
-    return tk_prefix_pos_i16(skip, s);
+    return tk_called_prefix_pos_i16(skip, s);
+}
+
+/* atoi_fast/src/short_prefix.rt:32 */
+TK_INLINE tk_option_pair_u16_size tk_loaded_prefix_u16(tk_bytes s)
+{
+    return tk_prefix_of_words_u16(s);
 }
 
 /* atoi_core/src/calls.rt:102 */
-TK_INLINE tk_result_pair_u16_size tk_prefix_pos_u16(bool skip, tk_bytes s)
+TK_INLINE tk_result_pair_u16_size tk_atoi_core_prefix_pos_u16(bool skip, tk_bytes s)
 {
     return tk_prefix_with_sign_u16(false, skip, s);
+}
+
+/* atoi_fast/src/called.rt:94 */
+TK_NOINLINE tk_result_pair_u16_size tk_called_prefix_pos_u16(bool skip, tk_bytes s)
+{
+    if (s.len >= 1 && '0' <= s.at[0] && s.at[0] <= '9' && s.len >= 16) {
+        tk_option_pair_u16_size found = tk_loaded_prefix_u16(s);
+        if (found.is_some) {
+            tk_pair_u16_size found_2 = found.value;
+            return tk_ok_pair_u16_size(found_2);
+        }
+    }
+    return tk_atoi_core_prefix_pos_u16(skip, s);
 }
 
 /* atoi_simd/src/parse_pos_trait.rt:54 */
 TK_INLINE tk_result_pair_u16_size tk_atoi_simd_parse_prefix_pos_u16(tk_bytes s, bool skip)
 {
-    return tk_prefix_pos_u16(skip, s);
+    return tk_called_prefix_pos_u16(skip, s);
+}
+
+/* atoi_fast/src/short_prefix.rt:32 */
+TK_INLINE tk_option_pair_i32_size tk_loaded_prefix_i32(tk_bytes s)
+{
+    return tk_prefix_of_words_i32(s);
 }
 
 /* atoi_core/src/calls.rt:102 */
-TK_INLINE tk_result_pair_i32_size tk_prefix_pos_i32(bool skip, tk_bytes s)
+TK_INLINE tk_result_pair_i32_size tk_atoi_core_prefix_pos_i32(bool skip, tk_bytes s)
 {
     return tk_prefix_with_sign_i32(false, skip, s);
+}
+
+/* atoi_fast/src/called.rt:94 */
+TK_INLINE tk_result_pair_i32_size tk_called_prefix_pos_i32(bool skip, tk_bytes s)
+{
+    if (s.len >= 1 && '0' <= s.at[0] && s.at[0] <= '9' && s.len >= 16) {
+        tk_option_pair_i32_size found = tk_loaded_prefix_i32(s);
+        if (found.is_some) {
+            tk_pair_i32_size found_2 = found.value;
+            return tk_ok_pair_i32_size(found_2);
+        }
+    }
+    return tk_atoi_core_prefix_pos_i32(skip, s);
 }
 
 /* atoi_simd/src/parse_pos_trait.rt:90 */
 TK_INLINE tk_result_pair_i32_size tk_atoi_simd_parse_prefix_pos_i32(tk_bytes s, bool skip)
 {
-    return tk_prefix_pos_i32(skip, s);
+    return tk_called_prefix_pos_i32(skip, s);
+}
+
+/* atoi_fast/src/short_prefix.rt:32 */
+TK_INLINE tk_option_pair_u32_size tk_loaded_prefix_u32(tk_bytes s)
+{
+    return tk_prefix_of_words_u32(s);
 }
 
 /* atoi_core/src/calls.rt:102 */
-TK_INLINE tk_result_pair_u32_size tk_prefix_pos_u32(bool skip, tk_bytes s)
+TK_INLINE tk_result_pair_u32_size tk_atoi_core_prefix_pos_u32(bool skip, tk_bytes s)
 {
     return tk_prefix_with_sign_u32(false, skip, s);
+}
+
+/* atoi_fast/src/called.rt:94 */
+TK_INLINE tk_result_pair_u32_size tk_called_prefix_pos_u32(bool skip, tk_bytes s)
+{
+    if (s.len >= 1 && '0' <= s.at[0] && s.at[0] <= '9' && s.len >= 16) {
+        tk_option_pair_u32_size found = tk_loaded_prefix_u32(s);
+        if (found.is_some) {
+            tk_pair_u32_size found_2 = found.value;
+            return tk_ok_pair_u32_size(found_2);
+        }
+    }
+    return tk_atoi_core_prefix_pos_u32(skip, s);
 }
 
 /* atoi_simd/src/parse_pos_trait.rt:78 */
 TK_INLINE tk_result_pair_u32_size tk_atoi_simd_parse_prefix_pos_u32(tk_bytes s, bool skip)
 {
-    return tk_prefix_pos_u32(skip, s);
+    return tk_called_prefix_pos_u32(skip, s);
+}
+
+/* atoi_fast/src/short_prefix.rt:32 */
+TK_INLINE tk_option_pair_i64_size tk_loaded_prefix_i64(tk_bytes s)
+{
+    return tk_prefix_of_words_i64(s);
 }
 
 /* atoi_core/src/calls.rt:102 */
-TK_INLINE tk_result_pair_i64_size tk_prefix_pos_i64(bool skip, tk_bytes s)
+TK_INLINE tk_result_pair_i64_size tk_atoi_core_prefix_pos_i64(bool skip, tk_bytes s)
 {
     return tk_prefix_with_sign_i64(false, skip, s);
+}
+
+/* atoi_fast/src/called.rt:94 */
+TK_INLINE tk_result_pair_i64_size tk_called_prefix_pos_i64(bool skip, tk_bytes s)
+{
+    if (s.len >= 1 && '0' <= s.at[0] && s.at[0] <= '9' && s.len >= 16) {
+        tk_option_pair_i64_size found = tk_loaded_prefix_i64(s);
+        if (found.is_some) {
+            tk_pair_i64_size found_2 = found.value;
+            return tk_ok_pair_i64_size(found_2);
+        }
+    }
+    return tk_atoi_core_prefix_pos_i64(skip, s);
 }
 
 /* atoi_simd/src/parse_pos_trait.rt:138 */
 TK_INLINE tk_result_pair_i64_size tk_atoi_simd_parse_prefix_pos_i64(tk_bytes s, bool skip)
 {
-    return tk_prefix_pos_i64(skip, s);
+    return tk_called_prefix_pos_i64(skip, s);
+}
+
+/* atoi_fast/src/short_prefix.rt:32 */
+TK_INLINE tk_option_pair_u64_size tk_loaded_prefix_u64(tk_bytes s)
+{
+    return tk_prefix_of_words_u64(s);
 }
 
 /* atoi_core/src/calls.rt:102 */
-TK_INLINE tk_result_pair_u64_size tk_prefix_pos_u64(bool skip, tk_bytes s)
+TK_INLINE tk_result_pair_u64_size tk_atoi_core_prefix_pos_u64(bool skip, tk_bytes s)
 {
     return tk_prefix_with_sign_u64(false, skip, s);
+}
+
+/* atoi_fast/src/called.rt:94 */
+TK_INLINE tk_result_pair_u64_size tk_called_prefix_pos_u64(bool skip, tk_bytes s)
+{
+    if (s.len >= 1 && '0' <= s.at[0] && s.at[0] <= '9' && s.len >= 16) {
+        tk_option_pair_u64_size found = tk_loaded_prefix_u64(s);
+        if (found.is_some) {
+            tk_pair_u64_size found_2 = found.value;
+            return tk_ok_pair_u64_size(found_2);
+        }
+    }
+    return tk_atoi_core_prefix_pos_u64(skip, s);
 }
 
 /* atoi_simd/src/parse_pos_trait.rt:126 */
 TK_INLINE tk_result_pair_u64_size tk_atoi_simd_parse_prefix_pos_u64(tk_bytes s, bool skip)
 {
-    return tk_prefix_pos_u64(skip, s);
+    return tk_called_prefix_pos_u64(skip, s);
+}
+
+/* atoi_fast/src/short_prefix.rt:32 */
+TK_INLINE tk_option_pair_i128_size tk_loaded_prefix_i128(tk_bytes s)
+{
+    return tk_prefix_of_words_i128(s);
 }
 
 /* atoi_core/src/calls.rt:102 */
-TK_INLINE tk_result_pair_i128_size tk_prefix_pos_i128(bool skip, tk_bytes s)
+TK_INLINE tk_result_pair_i128_size tk_atoi_core_prefix_pos_i128(bool skip, tk_bytes s)
 {
     return tk_prefix_with_sign_i128(false, skip, s);
+}
+
+/* atoi_fast/src/called.rt:94 */
+TK_NOINLINE tk_result_pair_i128_size tk_called_prefix_pos_i128(bool skip, tk_bytes s)
+{
+    if (s.len >= 1 && '0' <= s.at[0] && s.at[0] <= '9' && s.len >= 16) {
+        tk_option_pair_i128_size found = tk_loaded_prefix_i128(s);
+        if (found.is_some) {
+            tk_pair_i128_size found_2 = found.value;
+            return tk_ok_pair_i128_size(found_2);
+        }
+    }
+    return tk_atoi_core_prefix_pos_i128(skip, s);
 }
 
 /* atoi_simd/src/parse_pos_trait.rt:162 */
 TK_INLINE tk_result_pair_i128_size tk_atoi_simd_parse_prefix_pos_i128(tk_bytes s, bool skip)
 {
-    return tk_prefix_pos_i128(skip, s);
+    return tk_called_prefix_pos_i128(skip, s);
+}
+
+/* atoi_fast/src/short_prefix.rt:32 */
+TK_INLINE tk_option_pair_u128_size tk_loaded_prefix_u128(tk_bytes s)
+{
+    return tk_prefix_of_words_u128(s);
 }
 
 /* atoi_core/src/calls.rt:102 */
-TK_INLINE tk_result_pair_u128_size tk_prefix_pos_u128(bool skip, tk_bytes s)
+TK_INLINE tk_result_pair_u128_size tk_atoi_core_prefix_pos_u128(bool skip, tk_bytes s)
 {
     return tk_prefix_with_sign_u128(false, skip, s);
+}
+
+/* atoi_fast/src/called.rt:94 */
+TK_NOINLINE tk_result_pair_u128_size tk_called_prefix_pos_u128(bool skip, tk_bytes s)
+{
+    if (s.len >= 1 && '0' <= s.at[0] && s.at[0] <= '9' && s.len >= 16) {
+        tk_option_pair_u128_size found = tk_loaded_prefix_u128(s);
+        if (found.is_some) {
+            tk_pair_u128_size found_2 = found.value;
+            return tk_ok_pair_u128_size(found_2);
+        }
+    }
+    return tk_atoi_core_prefix_pos_u128(skip, s);
 }
 
 /* atoi_simd/src/parse_pos_trait.rt:150 */
 TK_INLINE tk_result_pair_u128_size tk_atoi_simd_parse_prefix_pos_u128(tk_bytes s, bool skip)
 {
-    return tk_prefix_pos_u128(skip, s);
+    return tk_called_prefix_pos_u128(skip, s);
 }
 
 /*
@@ -4233,7 +5079,7 @@ TK_HINTED tk_option_bytes tk_strip_byte(tk_bytes text, uint8_t byte)
 /* atoi_formats/src/json_integers.rt:73 */
 TK_HINTED tk_option_bytes tk_after_zero(tk_bytes text)
 {
-    tk_pair_bool_bytes found = tk_atoi_core_take_sign(true, false, text);
+    tk_pair_bool_bytes found = tk_take_sign(true, false, text);
     tk_bytes body = found.second;
     return tk_strip_byte(body, '0');
 }
@@ -6029,8 +6875,8 @@ TK_INLINE tk_option_i8 tk_fields_next_number_i8(tk_fields *self, tk_guess guess)
 
 /* Reads at most `most` numbers to `values[from..]`. With `GUESSES`, they look as guessed. */
 /* atoi_column/src/fields/read.rt:140 */
-TK_INLINE size_t tk_fields_read_part_i8(bool guesses, tk_fields *self, tk_room_i8 values, size_t from, size_t most,
-                                        tk_guess guess)
+TK_NOINLINE size_t tk_fields_read_part_i8(bool guesses, tk_fields *self, tk_room_i8 values, size_t from, size_t most,
+                                          tk_guess guess)
 {
     /* The smaller one of both, so that rustc 1.95 tests no index below it. */
     size_t end = tk_size_min(values.len, from + most);
@@ -6298,8 +7144,8 @@ TK_INLINE tk_option_u8 tk_fields_next_number_u8(tk_fields *self, tk_guess guess)
 }
 
 /* atoi_column/src/fields/read.rt:140 */
-TK_INLINE size_t tk_fields_read_part_u8(bool guesses, tk_fields *self, tk_room_u8 values, size_t from, size_t most,
-                                        tk_guess guess)
+TK_NOINLINE size_t tk_fields_read_part_u8(bool guesses, tk_fields *self, tk_room_u8 values, size_t from, size_t most,
+                                          tk_guess guess)
 {
     /* The smaller one of both, so that rustc 1.95 tests no index below it. */
     size_t end = tk_size_min(values.len, from + most);
@@ -6551,8 +7397,8 @@ TK_INLINE tk_option_i16 tk_fields_next_number_i16(tk_fields *self, tk_guess gues
 }
 
 /* atoi_column/src/fields/read.rt:140 */
-TK_INLINE size_t tk_fields_read_part_i16(bool guesses, tk_fields *self, tk_room_i16 values, size_t from, size_t most,
-                                         tk_guess guess)
+TK_NOINLINE size_t tk_fields_read_part_i16(bool guesses, tk_fields *self, tk_room_i16 values, size_t from, size_t most,
+                                           tk_guess guess)
 {
     /* The smaller one of both, so that rustc 1.95 tests no index below it. */
     size_t end = tk_size_min(values.len, from + most);
@@ -6807,8 +7653,8 @@ TK_INLINE tk_option_u16 tk_fields_next_number_u16(tk_fields *self, tk_guess gues
 }
 
 /* atoi_column/src/fields/read.rt:140 */
-TK_INLINE size_t tk_fields_read_part_u16(bool guesses, tk_fields *self, tk_room_u16 values, size_t from, size_t most,
-                                         tk_guess guess)
+TK_NOINLINE size_t tk_fields_read_part_u16(bool guesses, tk_fields *self, tk_room_u16 values, size_t from, size_t most,
+                                           tk_guess guess)
 {
     /* The smaller one of both, so that rustc 1.95 tests no index below it. */
     size_t end = tk_size_min(values.len, from + most);
@@ -8083,8 +8929,8 @@ TK_INLINE tk_option_i128 tk_fields_next_number_i128(tk_fields *self, tk_guess gu
 }
 
 /* atoi_column/src/fields/read.rt:140 */
-TK_INLINE size_t tk_fields_read_part_i128(bool guesses, tk_fields *self, tk_room_i128 values, size_t from, size_t most,
-                                          tk_guess guess)
+TK_NOINLINE size_t tk_fields_read_part_i128(bool guesses, tk_fields *self, tk_room_i128 values, size_t from,
+                                            size_t most, tk_guess guess)
 {
     /* The smaller one of both, so that rustc 1.95 tests no index below it. */
     size_t end = tk_size_min(values.len, from + most);
@@ -8343,8 +9189,8 @@ TK_INLINE tk_option_u128 tk_fields_next_number_u128(tk_fields *self, tk_guess gu
 }
 
 /* atoi_column/src/fields/read.rt:140 */
-TK_INLINE size_t tk_fields_read_part_u128(bool guesses, tk_fields *self, tk_room_u128 values, size_t from, size_t most,
-                                          tk_guess guess)
+TK_NOINLINE size_t tk_fields_read_part_u128(bool guesses, tk_fields *self, tk_room_u128 values, size_t from,
+                                            size_t most, tk_guess guess)
 {
     /* The smaller one of both, so that rustc 1.95 tests no index below it. */
     size_t end = tk_size_min(values.len, from + most);

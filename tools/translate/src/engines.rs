@@ -12,13 +12,17 @@ pub const TWINS: &str = "rust/default_engine";
 /// The modules of `atoi_lanes` that only the engine `Lanes` needs, whose vectors `rust/src/simd` does not have.
 pub const LEFT_OUT: [&str; 4] = ["kernels", "lanes", "wide_lanes", "window_32"];
 
+/// The folder of the file that C has in place of one of these.
+const TWINS_OF_C: &str = "c/default_engine";
+
 // The module of `atoi_fast` that the package has only with the feature `lanes`.
 const WITH_LANES: &str = "vectors";
 
 /// Returns the file that stands in place of a module of a crate, if one does.
-pub fn twin(crate_name: &str, module: &[String]) -> Option<PathBuf> {
+pub fn twin(crate_name: &str, module: &[String], is_for_c: bool) -> Option<PathBuf> {
     let is_named = matches!(module, [only] if only == "default_engine");
-    is_named.then(|| Path::new(TWINS).join(crate_name).with_extension("rs"))
+    let folder = if is_for_c && crate_name == "atoi_simd" { TWINS_OF_C } else { TWINS };
+    is_named.then(|| Path::new(folder).join(crate_name).with_extension("rs"))
 }
 
 /// Says whether the package leaves out this module.

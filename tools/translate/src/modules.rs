@@ -29,6 +29,11 @@ pub struct Module {
 impl Package {
     /// Reads the sources in `crates` below `top`, and their trees.
     pub fn read(top: &Path) -> Done<Package> {
+        Package::read_for(top, false)
+    }
+
+    /// Reads the sources as the package has them, or C.
+    pub fn read_for(top: &Path, is_for_c: bool) -> Done<Package> {
         let mut modules = Vec::new();
         for crate_name in CRATES {
             let folder = Path::new("crates").join(crate_name).join("src");
@@ -37,7 +42,7 @@ impl Package {
             // The root of the crate comes first.
             for (path, file) in sources.collect::<BTreeMap<_, _>>() {
                 if !engines::is_left_out(crate_name, &path) {
-                    let twin = engines::twin(crate_name, &path);
+                    let twin = engines::twin(crate_name, &path, is_for_c);
                     let source = Source::read(top, twin.as_ref().unwrap_or(file))?;
                     modules.push(Module::new(crate_name, path, source)?);
                 }

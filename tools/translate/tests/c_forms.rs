@@ -32,7 +32,7 @@ fn the_library_has_an_inline_part_and_the_rest() {
         ("value_by_product", true),
         ("quick_prefix_i64", true),
         ("fields_position", false),
-        ("parse_text_i64", false),
+        ("called_parse_text_i64", false),
         ("fields_read_u8", false),
     ] {
         let head = format!("tk_{name}(");

@@ -25,8 +25,10 @@ pub const TYPES: [&str; 10] =
     ["i8", "u8", "i16", "u16", "i32", "u32", "i64", "u64", "i128", "u128"];
 
 /// What C calls: functions by their crate and path, `Self::` for one of a type, and for each type of integers.
-const ROOTS: [(&str, &str); 17] = [
+const ROOTS: [(&str, &str); 19] = [
     ("atoi_fast", "one_digit"),
+    ("atoi_fast", "quick_slice"),
+    ("atoi_fast", "long_slice"),
     ("atoi_fast", "quick_prefix"),
     ("atoi_fast", "prefix_by_digits"),
     ("atoi_fast", "whole_by_digits"),
@@ -59,7 +61,30 @@ const CONSTANT: [&str; 2] = ["prefix_by_digits", "whole_by_digits"];
 const FAR: [&str; 1] = ["prefix_of_three_words"];
 
 /// What C calls where Rust inlines it: long functions that few numbers need. Each type would have a copy.
-pub const CALLED: [&str; 4] = ["atoi_simd_parse_prefix", "prefix_128", "whole_64", "whole_128"];
+const CALLED: [(&str, &str); 7] = [
+    ("atoi_core", "narrow_prefix"),
+    ("atoi_core", "whole_64"),
+    ("atoi_core", "whole_128"),
+    ("atoi_fast", "loaded_slice"),
+    ("atoi_fast", "prefix_64"),
+    ("atoi_fast", "prefix_128"),
+    ("atoi_simd", "atoi_simd_parse_prefix"),
+];
+
+/// The types that most numbers have.
+const COMMON: [&str; 4] = ["i32", "u32", "i64", "u64"];
+
+/// What C calls only for the other types.
+const CALLED_BY_OTHERS: [(&str, &str); 2] =
+    [("atoi_column", "read_part"), ("atoi_fast", "prefix_pos")];
+
+/// Says whether C calls a function that Rust inlines.
+pub fn is_called(world: &World, key: &Callee) -> bool {
+    let name = (world.package.modules[key.id.module].crate_name, world.name(key.id));
+    let is_common = |of: &Type| COMMON.iter().any(|it| world::integer(it).as_ref() == Some(of));
+    let is_of_others = key.bindings.get("T").is_some_and(|of| !is_common(of));
+    CALLED.contains(&name) || is_of_others && CALLED_BY_OTHERS.contains(&name)
+}
 
 /// What is written by hand of the library: the start of its functions, the header and the source.
 const INTERFACE: &str = "c/interface";
@@ -67,7 +92,7 @@ const INTERFACE: &str = "c/interface";
 /// Returns the files of the library for C that are made of the sources below `top`: the header and the source. Their
 /// operators may assert that nothing overflows.
 pub fn made(top: &Path, is_checked: bool) -> Done<[(&'static str, String); 2]> {
-    let package = Package::read(top)?;
+    let package = Package::read_for(top, true)?;
     let scopes = Scopes::new(&package)?;
     checks::check(&package, &scopes)?;
     let world = World::new(&package, &scopes);

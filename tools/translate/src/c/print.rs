@@ -263,7 +263,7 @@ pub fn explained(world: &World, id: Id) -> String {
 /// Returns what a compiler has to do with a function, as its attributes say it. What calls itself cannot be inlined.
 pub fn qualifier(world: &World, function: &Function) -> &'static str {
     let id = function.key.id;
-    if super::CALLED.contains(&world.name(id)) || called(function).contains(&function.key) {
+    if super::is_called(world, &function.key) || called(function).contains(&function.key) {
         return "TK_NOINLINE";
     }
     let qualifiers = [

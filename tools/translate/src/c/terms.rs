@@ -50,6 +50,15 @@ pub fn print(printer: &mut Printer, term: &Term) -> Done<Text> {
         Kind::Not => Text::new(format!("!{}", texts[0].at(UNARY)), UNARY),
         Kind::Cast => cast(printer, &term.parts[0], &texts[0], &term.of)?,
         Kind::Make(variant) => made(printer, *variant, &texts, &term.of)?,
+        // Of two slices that are there already, one is chosen without a branch.
+        Kind::Choice
+            if term.of == Type::slice(Type::BYTE, false)
+                && term.parts[1..].iter().all(|it| matches!(it.kind, Kind::Local(_))) =>
+        {
+            let [test, a, b] = [0, 1, 2].map(|part| &texts[part].text);
+            let at = format!("tk_either_at({test}, {a}.at, {b}.at)");
+            Text::atom(format!("tk_bytes_of({at}, tk_either({test}, {a}.len, {b}.len))"))
+        }
         Kind::Choice => {
             let [test, then, other] = [texts[0].at(OR), texts[1].at(OR), texts[2].at(CHOICE)];
             Text::new(format!("{test} ? {then} : {other}"), CHOICE)
