@@ -279,8 +279,9 @@ typedef struct torkettle_error {
  *
  * What is described neither above nor below is internal and may change in a minor version: all names that begin with
  * tk_, and functions such as those whose names begin with torkettle_whole_, torkettle_prefix_ and torkettle_next_. They
- * return a number and its length in two registers. The length is 0 if there is no number. The length that
- * torkettle_next_field_ returns is 1 for a number, and 2 for a bad field.
+ * return a number and its length in two registers. If there is no number, the length is 0, and the first two return the
+ * status in place of the number. The length that torkettle_next_field_ returns is 1 for a number, and 2 for a bad
+ * field.
  *
  * For other languages, torkettle_0_1_parse_i64 and torkettle_0_1_parse_prefix_i64 are functions of the shared library.
  */
@@ -3029,7 +3030,7 @@ static inline size_t torkettle_rest_length(size_t length, char separator) TORKET
     {                                                                                                                  \
         torkettle_found_##name found = torkettle_of_whole_##name(text, length, flags);                                 \
         if (found.length == 0)                                                                                         \
-            return torkettle_refusal(torkettle_parse_error_##name(text, length, flags).status);                        \
+            return torkettle_refusal(TK_CAST(torkettle_status, found.value));                                          \
         *value = found.value;                                                                                          \
         return TORKETTLE_OK;                                                                                           \
     }                                                                                                                  \
@@ -3039,7 +3040,7 @@ static inline size_t torkettle_rest_length(size_t length, char separator) TORKET
     {                                                                                                                  \
         torkettle_found_##name found = torkettle_of_prefix_##name(text, length, flags);                                \
         if (found.length == 0)                                                                                         \
-            return torkettle_refusal(torkettle_parse_prefix_error_##name(text, length, flags).status);                 \
+            return torkettle_refusal(TK_CAST(torkettle_status, found.value));                                          \
         *value = found.value;                                                                                          \
         *count = found.length;                                                                                         \
         return TORKETTLE_OK;                                                                                           \

@@ -99,19 +99,41 @@ const char *torkettle_version(void) TORKETTLE_NOEXCEPT
     } while (0)
 
 #define TK_FUNCTIONS(name, type)                                                                                       \
+    /* Without a number, the value is the status. */                                                                   \
+    TK_INLINE torkettle_found_##name tk_refused_##name(tk_error error)                                                 \
+    {                                                                                                                  \
+        return TK_MAKE(torkettle_found_##name, TK_CAST(type, tk_status_of(error)), 0);                                 \
+    }                                                                                                                  \
+                                                                                                                       \
     TK_INLINE torkettle_found_##name tk_found_##name(tk_result_##name found, size_t length)                            \
     {                                                                                                                  \
-        return TK_MAKE(torkettle_found_##name, found.value, found.is_ok ? length : 0);                                 \
+        if (!found.is_ok)                                                                                              \
+            return tk_refused_##name(found.error);                                                                     \
+        return TK_MAKE(torkettle_found_##name, found.value, length);                                                   \
     }                                                                                                                  \
                                                                                                                        \
     TK_INLINE torkettle_found_##name tk_found_prefix_##name(tk_result_pair_##name##_size found)                        \
     {                                                                                                                  \
-        return TK_MAKE(torkettle_found_##name, found.value.first, found.is_ok ? found.value.second : 0);               \
+        if (!found.is_ok)                                                                                              \
+            return tk_refused_##name(found.error);                                                                     \
+        return TK_MAKE(torkettle_found_##name, found.value.first, found.value.second);                                 \
     }                                                                                                                  \
                                                                                                                        \
+    /* A slice that `quick_slice` does not read, in a function of its own: this one needs room for an error. */        \
+    TK_NOINLINE torkettle_found_##name tk_rest_of_whole_##name(const char *text, size_t length, unsigned flags)        \
+    {                                                                                                                  \
+        tk_bytes bytes = tk_text(text, length);                                                                        \
+        tk_option_##name long_ = tk_long_slice_##name(bytes);                                                          \
+        if (long_.is_some)                                                                                             \
+            return TK_MAKE(torkettle_found_##name, long_.value, length);                                               \
+        return tk_found_##name(tk_atoi_simd_parse_##name(bytes, TK_ZEROES, TK_PLUS), length);                          \
+    }                                                                                                                  \
     torkettle_found_##name torkettle_whole_##name(const char *text, size_t length, unsigned flags) TORKETTLE_NOEXCEPT  \
     {                                                                                                                  \
-        return tk_found_##name(tk_atoi_simd_parse_##name(tk_text(text, length), TK_ZEROES, TK_PLUS), length);          \
+        tk_option_##name quick = tk_quick_slice_##name(tk_text(text, length));                                         \
+        if (quick.is_some)                                                                                             \
+            return TK_MAKE(torkettle_found_##name, quick.value, length);                                               \
+        return tk_rest_of_whole_##name(text, length, flags);                                                           \
     }                                                                                                                  \
     torkettle_found_##name torkettle_prefix_##name(const char *text, size_t length, unsigned flags) TORKETTLE_NOEXCEPT \
     {                                                                                                                  \
@@ -157,7 +179,12 @@ const char *torkettle_version(void) TORKETTLE_NOEXCEPT
     torkettle_status torkettle_called_parse_prefix_##name(const char *text, size_t length, unsigned flags,             \
                                                           type *value, size_t *count) TORKETTLE_NOEXCEPT               \
     {                                                                                                                  \
-        return torkettle_parse_prefix_##name(text, length, flags, value, count);                                       \
+        torkettle_found_##name found = torkettle_prefix_##name(text, length, flags);                                   \
+        if (found.length == 0)                                                                                         \
+            return TK_CAST(torkettle_status, found.value);                                                             \
+        *value = found.value;                                                                                          \
+        *count = found.length;                                                                                         \
+        return TORKETTLE_OK;                                                                                           \
     }                                                                                                                  \
                                                                                                                        \
     torkettle_error torkettle_parse_error_##name(const char *text, size_t length, unsigned flags) TORKETTLE_NOEXCEPT   \
