@@ -34,9 +34,8 @@ impl<'w> Instances<'w> {
                     key.bindings.insert(name.clone(), of);
                 }
                 Some(Attempt::Started) if key.bindings.len() < callee.bindings.len() => {
-                    return Err(self
-                        .world
-                        .fault_of(key.id, "a generic function that calls itself"));
+                    let reason = "a generic function that calls itself";
+                    return Err(self.world.fault_of(key.id, reason));
                 }
                 Some(Attempt::Started | Attempt::Made(_)) => return Ok(key),
                 None => {

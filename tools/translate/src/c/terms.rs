@@ -225,27 +225,27 @@ fn made(printer: &mut Printer, variant: usize, texts: &[Text], of: &Type) -> Don
     printer.made(of, variant, &fields).map(Text::atom)
 }
 
-// Returns an operator, its level, and the name of the function that stands for it.
-fn symbol(operator: BinaryOperator) -> (&'static str, u8, &'static str) {
+// Returns an operator, its level, the name of the function that stands for it, and what is proved of its operands.
+fn symbol(operator: BinaryOperator) -> (&'static str, u8, &'static str, &'static str) {
     match operator {
-        BinaryOperator::Or => ("||", OR, ""),
-        BinaryOperator::And => ("&&", AND, ""),
-        BinaryOperator::Equal => ("==", EQUALITY, "equal"),
-        BinaryOperator::NotEqual => ("!=", EQUALITY, "equal"),
-        BinaryOperator::Less => ("<", 10, "less"),
-        BinaryOperator::Greater => (">", 10, "less"),
-        BinaryOperator::LessOrEqual => ("<=", 10, "less"),
-        BinaryOperator::GreaterOrEqual => (">=", 10, "less"),
-        BinaryOperator::BitOr => ("|", 6, "or"),
-        BinaryOperator::BitXor => ("^", 7, "xor"),
-        BinaryOperator::BitAnd => ("&", 8, "and"),
-        BinaryOperator::ShiftLeft => ("<<", SHIFT, "shift_left"),
-        BinaryOperator::ShiftRight => (">>", SHIFT, "shift_right"),
-        BinaryOperator::Add => ("+", SUM, "add"),
-        BinaryOperator::Subtract => ("-", SUM, "sub"),
-        BinaryOperator::Multiply => ("*", 13, "mul"),
-        BinaryOperator::Divide => ("/", 13, "div"),
-        BinaryOperator::Remainder => ("%", 13, "rem"),
+        BinaryOperator::Or => ("||", OR, "", ""),
+        BinaryOperator::And => ("&&", AND, "", ""),
+        BinaryOperator::Equal => ("==", EQUALITY, "equal", ""),
+        BinaryOperator::NotEqual => ("!=", EQUALITY, "equal", ""),
+        BinaryOperator::Less => ("<", 10, "less", ""),
+        BinaryOperator::Greater => (">", 10, "less", ""),
+        BinaryOperator::LessOrEqual => ("<=", 10, "less", ""),
+        BinaryOperator::GreaterOrEqual => (">=", 10, "less", ""),
+        BinaryOperator::BitOr => ("|", 6, "or", ""),
+        BinaryOperator::BitXor => ("^", 7, "xor", ""),
+        BinaryOperator::BitAnd => ("&", 8, "and", ""),
+        BinaryOperator::ShiftLeft => ("<<", SHIFT, "shift_left", "b < BITS"),
+        BinaryOperator::ShiftRight => (">>", SHIFT, "shift_right", "b < BITS"),
+        BinaryOperator::Add => ("+", SUM, "add", "TK_CAST(TYPE, a + b) >= a"),
+        BinaryOperator::Subtract => ("-", SUM, "sub", "a >= b"),
+        BinaryOperator::Multiply => ("*", 13, "mul", "b == 0 || a <= TK_CAST(TYPE, -1) / b"),
+        BinaryOperator::Divide => ("/", 13, "div", "b != 0"),
+        BinaryOperator::Remainder => ("%", 13, "rem", "b != 0"),
     }
 }
 
@@ -265,12 +265,12 @@ fn binary(
         Type::Boolean => None,
         _ => return Err(refuse(printer, term, "a comparison of these")),
     };
-    let (_, level, function) = symbol(operator);
+    let level = symbol(operator).1;
     let Some(own) = own else { return Ok(Text::new(joined(operator, &texts), level)) };
     if is_wrapping && (own.is_signed || own.bits < 32) {
         return Err(refuse(printer, term, "a wrapping operation on this type"));
     }
-    // C computes with `int`, which a product or a shift of 16 bits may exceed.
+    // A product or a shift of 16 bits may be more than an `int`.
     if own.bits < 32 && matches!(operator, Multiply | ShiftLeft) {
         return Err(refuse(printer, term, "this operation on so few bits"));
     }
@@ -282,15 +282,11 @@ fn binary(
         let is_long = own.bits == 64;
         texts[0].text = if is_long { format!("UINT64_C({value})") } else { format!("{value}u") };
     }
-    if printer.is_checked && !is_wrapping && !own.is_signed {
-        if let Some(check) = condition(operator, own) {
-            let name = format!("tk_{}_{function}", integer_name(own));
-            checked(printer, &name, own, operator, &check);
-            return Ok(call(name, &texts));
-        }
-    }
-    let text = Text::new(joined(operator, &texts), level);
-    Ok(if own.bits < 32 { cast_to(own, &text) } else { text })
+    let checked = if is_wrapping { None } else { checked(printer, own, operator) };
+    Ok(match checked {
+        Some(name) => call(name, &texts),
+        None => narrow(own, Text::new(joined(operator, &texts), level)),
+    })
 }
 
 // An operator on 128 bits, as a call: not all compilers have such numbers.
@@ -310,7 +306,7 @@ fn wide(own: Integer, operator: BinaryOperator, is_wrapping: bool, mut texts: Ve
 
 // Joins operands, with parentheses wherever compilers and readers ask for them.
 fn joined(operator: BinaryOperator, texts: &[Text]) -> String {
-    let (sign, level, _) = symbol(operator);
+    let (sign, level, ..) = symbol(operator);
     let is_bits = matches!(sign, "<<" | ">>" | "&" | "|" | "^");
     let side = |text: &Text, least: u8, is_left: bool| {
         let is_same = is_left && text.level == level && level != SHIFT;
@@ -321,27 +317,21 @@ fn joined(operator: BinaryOperator, texts: &[Text]) -> String {
     format!("{} {sign} {}", side(&texts[0], level, true), side(&texts[1], level + 1, false))
 }
 
-// Returns what is proved of the operands of an operator.
-fn condition(operator: BinaryOperator, own: Integer) -> Option<String> {
-    let of = integer_type(own);
-    Some(match operator {
-        BinaryOperator::Add => format!("TK_CAST({of}, a + b) >= a"),
-        BinaryOperator::Subtract => "a >= b".into(),
-        BinaryOperator::Multiply => format!("b == 0 || a <= TK_CAST({of}, -1) / b"),
-        BinaryOperator::ShiftLeft | BinaryOperator::ShiftRight => format!("b < {}", own.bits),
-        BinaryOperator::Divide | BinaryOperator::Remainder => "b != 0".into(),
-        _ => return None,
-    })
+// Adds a function that asserts what is proved of the operands of an operator, if that is wanted, and returns its name.
+fn checked(printer: &mut Printer, own: Integer, operator: BinaryOperator) -> Option<String> {
+    let (sign, _, function, proved) = symbol(operator);
+    if !printer.is_checked || own.is_signed || proved.is_empty() {
+        return None;
+    }
+    let (of, name) = (integer_type(own), format!("tk_{}_{function}", integer_name(own)));
+    let check = proved.replace("TYPE", &of).replace("BITS", &own.bits.to_string());
+    let second = if operator.is_shift() { "uint64_t" } else { of.as_str() };
+    let value = narrow(own, Text::new(format!("a {sign} b"), 0)).text;
+    printer.small(&name, &format!("{of} {name}({of} a, {second} b)"), &check, &value);
+    Some(name)
 }
 
-// Adds a function that asserts what is proved of an operator, and applies it.
-fn checked(printer: &mut Printer, name: &str, own: Integer, operator: BinaryOperator, check: &str) {
-    let of = integer_type(own);
-    let sign = symbol(operator).0;
-    let second = if operator.is_shift() { "uint64_t" } else { of.as_str() };
-    let value = match own.bits {
-        8 | 16 => format!("TK_CAST({of}, TK_CAST(uint32_t, a) {sign} b)"),
-        _ => format!("a {sign} b"),
-    };
-    printer.small(name, &format!("{of} {name}({of} a, {second} b)"), check, &value);
+// C computes with `int` where a type has fewer bits.
+fn narrow(own: Integer, text: Text) -> Text {
+    if own.bits < 32 { cast_to(own, &text) } else { text }
 }

@@ -5,8 +5,8 @@ use crate::modules::{Module, Package};
 use crate::resolve::{Definition, Resolved, Scopes};
 use crate::source::{Fault, Source, Span};
 use crate::tree::{
-    ExpressionKind, Field, GenericArgument, GenericKind, Item, ItemKind, LiteralKind, Path,
-    Segment, Type as TreeType, TypeKind,
+    ExpressionKind, Field, GenericArgument, GenericKind, Item, ItemKind, Literal, LiteralKind,
+    Path, Segment, Type as TreeType, TypeKind, Variant as TreeVariant,
 };
 
 pub struct World<'a> {
@@ -120,14 +120,12 @@ impl<'a> World<'a> {
                 _ => self.type_in(place, target),
             },
             TypeKind::Slice(_) => Err(source.fault(tree.span, "C: a slice without a reference")),
-            TypeKind::Array { element, length } => {
-                if let ExpressionKind::Literal(literal) = &length.kind {
-                    if let LiteralKind::Integer(value) = literal.kind {
-                        return Ok(Type::array(self.type_in(place, element)?, value));
-                    }
+            TypeKind::Array { element, length } => match &length.kind {
+                ExpressionKind::Literal(Literal { kind: LiteralKind::Integer(length), .. }) => {
+                    Ok(Type::array(self.type_in(place, element)?, *length))
                 }
-                Err(source.fault(tree.span, "C: the length of this array"))
-            }
+                _ => Err(source.fault(tree.span, "C: the length of this array")),
+            },
         }
     }
 
@@ -183,10 +181,8 @@ impl<'a> World<'a> {
         Ok(match *form {
             Form::Option => vec![variant("some", &[("value", &parts[0])]), variant("none", &[])],
             Form::Result => {
-                vec![
-                    variant("ok", &[("value", &parts[0])]),
-                    variant("err", &[("error", &parts[1])]),
-                ]
+                let ok = variant("ok", &[("value", &parts[0])]);
+                vec![ok, variant("err", &[("error", &parts[1])])]
             }
             Form::Tuple => {
                 let names = (0..parts.len()).map(|it| it.to_string());
@@ -203,9 +199,9 @@ impl<'a> World<'a> {
                 match &self.item(id).kind {
                     ItemKind::Struct { fields, .. } => vec![self.variant(&place, "new", fields)?],
                     ItemKind::Enum(variants) => {
-                        let all = variants.iter();
-                        all.map(|it| self.variant(&place, &it.name.text, &it.fields))
-                            .collect::<Done<_>>()?
+                        let made =
+                            |it: &TreeVariant| self.variant(&place, &it.name.text, &it.fields);
+                        variants.iter().map(made).collect::<Done<_>>()?
                     }
                     _ => Vec::new(),
                 }
@@ -290,13 +286,11 @@ impl<'a> World<'a> {
 fn matched(target: &Type, of: &Type) -> Option<Bindings> {
     match (target, of) {
         (Type::Of(Form::Item(id), parts), Type::Of(Form::Item(own), known)) if id == own => {
-            let names = parts.iter().map(|part| match part {
-                Type::Parameter(name) => Some(name.clone()),
+            let pairs = parts.iter().zip(known).map(|(part, known)| match part {
+                Type::Parameter(name) => Some((name.clone(), known.clone())),
                 _ => None,
             });
-            Some(
-                names.collect::<Option<Vec<_>>>()?.into_iter().zip(known.iter().cloned()).collect(),
-            )
+            pairs.collect()
         }
         (target, of) if target == of => Some(Bindings::new()),
         _ => None,
