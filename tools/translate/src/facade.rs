@@ -6,7 +6,7 @@ use crate::lexer::Kind;
 use crate::modules::CRATES;
 use crate::parser::Parser;
 use crate::resolve::{Definition, Scopes};
-use crate::source::{Done, Source, Span};
+use crate::source::{Done, Fault, Source, Span};
 use crate::std_names::has;
 use crate::tree::{ItemKind, Name};
 
@@ -171,21 +171,14 @@ fn may_be_exported(definition: &Definition, exported: &[&Definition], scopes: &S
 /// them, or call it where its conditions do not hold. It is read by words, as no grammar of ours knows all of Rust:
 /// no comment or text can hide one. A file that it takes in must be a file of Rust in the same folder.
 pub fn check_other(source: &Source) -> Done<()> {
-    let mut start = 0;
-    for line in source.text.split_inclusive('\n') {
-        let span = Span { start, end: start + line.len() };
-        let is_part = |character: char| character.is_alphanumeric() || character == '_';
-        for word in line.split(|character| !is_part(character)) {
-            match word {
-                "proved" => return Err(source.fault(span, "`proved` outside of the facade")),
-                "include" => return Err(source.fault(span, "a file that is not read here")),
-                "path" if !is_plain_path(line.trim()) => {
-                    return Err(source.fault(span, "a file that is not read here"));
-                }
-                _ => {}
-            }
+    let is_part = |character: char| character.is_alphanumeric() || character == '_';
+    for (number, line) in source.text.lines().enumerate() {
+        let has = |word| line.split(|character| !is_part(character)).any(|it| it == word);
+        if has("proved") || has("include") || has("path") && !is_plain_path(line.trim()) {
+            let reason = "`proved`, or a file that is not read here, outside of the facade";
+            let (file, line) = (source.path.clone(), Some(number + 1));
+            return Err(Fault { file, line, reason: reason.into() });
         }
-        start = span.end;
     }
     Ok(())
 }

@@ -81,7 +81,7 @@ fn a_refusal_names_the_file_and_the_line() {
     assert!(package.fault().starts_with(&format!("{file}: ")) && package.fault().contains("UTF-8"));
     package.put(file, "fn b() {}");
     package.put("rust/src/debug.rs", "\npub use super::proved;\n");
-    assert_eq!(package.fault(), "rust/src/debug.rs:2: `proved` outside of the facade");
+    assert!(package.fault().starts_with("rust/src/debug.rs:2: `proved`"));
 }
 
 #[test]
