@@ -222,9 +222,8 @@ fn may_be(item: &Item, role: Role) -> bool {
     match &item.kind {
         ItemKind::Function(_) => role == Role::Callee,
         ItemKind::Trait { .. } => matches!(role, Role::Bound | Role::Trait),
-        // An argument of a type may be a constant.
-        ItemKind::Constant { .. } => matches!(role, Role::Value | Role::Pattern | Role::Type),
-        _ => !matches!(role, Role::Callee | Role::Bound | Role::Trait),
+        // An argument of a type may be a constant, and a struct without fields is a value.
+        _ => matches!(role, Role::Type | Role::Value),
     }
 }
 
@@ -232,7 +231,7 @@ fn may_be(item: &Item, role: Role) -> bool {
 fn is_used(name: &str, role: Role) -> bool {
     match role {
         Role::Callee => !is_capital(name),
-        Role::Value | Role::Pattern => is_capital(name),
+        Role::Value => is_capital(name),
         _ => false,
     }
 }

@@ -120,10 +120,9 @@ fn item(
 // Reads what follows `pub use`.
 fn export(parser: &mut Parser, start: Span, exports: &mut Vec<Export>) -> Done<()> {
     for import in parser.imports()? {
-        let is_plain = import.alias.is_none() && !import.is_all;
         match import.names()[..] {
             ["proved", owner, _] | ["crate", "proved", owner, _]
-                if is_plain && CRATES.contains(&owner) =>
+                if import.alias.is_none() && CRATES.contains(&owner) =>
             {
                 let (crate_name, name) = (owner.to_string(), import.last().clone());
                 exports.push(Export { crate_name, name });

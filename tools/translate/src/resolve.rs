@@ -90,9 +90,9 @@ impl<'a> Scopes<'a> {
     fn import(&mut self, module: usize, import: &Import) -> Done<()> {
         let (names, last) = (import.names(), import.last());
         let path = names.join("::");
-        let found: Vec<(&str, Definition)> = if import.is_all {
-            let all = std_names::names_of(&path).iter();
-            all.map(|name| (*name, foreign(&[&path, name]))).collect()
+        let found: Vec<(&str, Definition)> = if let [above @ .., "*"] = &names[..] {
+            let all = std_names::names_of(&above.join("::")).iter();
+            all.map(|name| (*name, foreign(&[above, &[name]].concat()))).collect()
         } else {
             let name = &import.alias.as_ref().unwrap_or(last).text;
             self.imported(module, &names).map(|it| (name.as_str(), it)).into_iter().collect()

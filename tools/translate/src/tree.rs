@@ -79,16 +79,14 @@ pub enum Mention {
 /// What a path stands for.
 #[derive(Clone, Copy, Debug, PartialEq, Eq)]
 pub enum Role {
+    /// A type, also one that is made or taken apart by its fields.
     Type,
     Bound,
     /// The trait of an `impl`.
     Trait,
-    /// A variant or a constant in a pattern.
-    Pattern,
-    /// A struct, or a variant with named fields, that is made or taken apart.
-    Struct,
     /// What is called.
     Callee,
+    /// A value, also a variant or a constant in a pattern.
     Value,
 }
 
@@ -116,11 +114,10 @@ pub enum ItemKind {
     GhostUse { module: String, names: Vec<String> },
 }
 
-/// One path of a `use`, of which the last name is imported, by another name, or as all that is in it.
+/// One path of a `use`, of which the last name is imported, maybe by another name. It is `*` for all names.
 pub struct Import {
     pub path: Vec<Name>,
     pub alias: Option<Name>,
-    pub is_all: bool,
 }
 
 /// A field. Those of a variant without names are called `0`, `1` and so on.

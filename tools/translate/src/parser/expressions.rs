@@ -324,7 +324,7 @@ impl Parser<'_> {
         if !(is_capital(&path.last().name.text) && self.takes_structs && self.eat("{")) {
             return Ok(Kind::Path(path));
         }
-        self.set_role(Role::Struct);
+        self.set_role(Role::Type);
         let fields = self.fields_of(Self::field)?;
         let base = self.after("..", Self::base)?;
         self.expect("}")?;

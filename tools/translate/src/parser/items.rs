@@ -208,9 +208,10 @@ impl<'a> Parser<'a> {
     fn import(&mut self, mut path: Vec<Name>, imports: &mut Vec<Import>) -> Done<()> {
         if !self.eat("::") {
             let alias = self.after("as", Self::name)?;
-            imports.push(Import { path, alias, is_all: false });
-        } else if self.eat("*") {
-            imports.push(Import { path, alias: None, is_all: true });
+            imports.push(Import { path, alias });
+        } else if self.is("*") {
+            path.push(self.word());
+            imports.push(Import { path, alias: None });
         } else if self.eat("{") {
             self.list("}", |parser| {
                 let name = parser.name()?;

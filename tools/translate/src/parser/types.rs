@@ -145,12 +145,12 @@ impl Parser<'_> {
     }
 
     fn path_pattern(&mut self) -> Done<PatternKind> {
-        let path = self.path(Role::Pattern)?;
+        let path = self.path(Role::Value)?;
         if !self.eat("{") {
             let fields = self.after("(", |parser| parser.list(")", Self::element_pattern))?;
             return Ok(PatternKind::Variant { path, fields: fields.unwrap_or_default() });
         }
-        self.set_role(Role::Struct);
+        self.set_role(Role::Type);
         let fields = self.fields_of(|parser| {
             let name = parser.local()?;
             Ok((name.clone(), binding(name)))
