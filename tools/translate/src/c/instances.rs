@@ -1,6 +1,6 @@
 //! The functions that are printed: each generic one for the types that matter to it, from what is asked for.
 
-use super::ir::{Bindings, Callee, Done, Function, Id, Kind, all_kinds};
+use super::ir::{Bindings, Callee, Done, Function, Kind, all_kinds};
 use super::lower;
 use super::world::World;
 use std::collections::{BTreeMap, BTreeSet};
@@ -49,11 +49,6 @@ impl<'w> Instances<'w> {
 
     pub fn get(&self, key: &Callee) -> Option<&Function> {
         if let Some(Attempt::Made(function)) = self.tried.get(key) { Some(function) } else { None }
-    }
-
-    /// Returns the constants that a function gets for parameters that do not matter.
-    pub fn constants(&self, key: &Callee) -> Vec<(String, Id)> {
-        self.get(key).map_or(Vec::new(), |function| function.constants.clone())
     }
 
     /// Adds functions and those that they call, each behind those that it calls. What ends calls is not looked into.

@@ -296,28 +296,9 @@ impl Term {
         })
     }
 
-    pub fn boolean(value: bool, span: Span) -> Term {
-        Term { kind: Kind::Boolean(value), parts: Vec::new(), of: Type::Boolean, span }
-    }
-
-    fn number(&self) -> Option<u128> {
+    /// Returns the number that this is.
+    pub fn number(&self) -> Option<u128> {
         if let Kind::Number { value, .. } = self.kind { Some(value) } else { None }
-    }
-
-    /// Returns a condition of two terms, or what is known of it.
-    pub fn test(operator: BinaryOperator, left: Term, right: Term, span: Span) -> Term {
-        use BinaryOperator::{And, Or};
-        let numbers = left.number().zip(right.number());
-        if let Some(known) = numbers.and_then(|(left, right)| compared(operator, left, right)) {
-            return Term::boolean(known, span);
-        }
-        match (operator, &left.kind, &right.kind) {
-            (And, Kind::Boolean(true), _) | (Or, Kind::Boolean(false), _) => return right,
-            (And, Kind::Boolean(false), _) | (Or, Kind::Boolean(true), _) => return left,
-            (And | Or, _, Kind::Boolean(_)) if !left.has_effect() => return right,
-            _ => {}
-        }
-        Term { kind: Kind::Binary(operator), parts: vec![left, right], of: Type::Boolean, span }
     }
 
     /// Returns the opposite of a condition.
@@ -342,16 +323,4 @@ fn opposite(comparison: BinaryOperator) -> BinaryOperator {
         BinaryOperator::LessOrEqual => BinaryOperator::Greater,
         other => other,
     }
-}
-
-fn compared(operator: BinaryOperator, left: u128, right: u128) -> Option<bool> {
-    Some(match operator {
-        BinaryOperator::Equal => left == right,
-        BinaryOperator::NotEqual => left != right,
-        BinaryOperator::Less => left < right,
-        BinaryOperator::Greater => left > right,
-        BinaryOperator::LessOrEqual => left <= right,
-        BinaryOperator::GreaterOrEqual => left >= right,
-        _ => return None,
-    })
 }

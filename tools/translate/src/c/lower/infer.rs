@@ -133,8 +133,9 @@ impl Lowering<'_, '_> {
         if let Some(name) = callee.bindings.keys().find_map(|name| own[name].parameter()) {
             return self.need(name);
         }
-        let constants = self.instances.constants(callee).into_iter();
-        let constants = constants.map(|(name, id)| {
+        // What it gets for parameters that do not matter.
+        let constants = self.instances.get(callee).map_or(Vec::new(), |it| it.constants.clone());
+        let constants = constants.into_iter().map(|(name, id)| {
             let constant = self.world.name(id);
             self.constant_of(&own[&name], constant)
         });

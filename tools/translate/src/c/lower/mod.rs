@@ -10,7 +10,7 @@ mod values;
 use super::instances::{Attempt, Instances};
 use super::ir::{Bindings, Callee, Done, Id, Kind, Local, PLAIN, Statement, Term, Type};
 use super::world::{Place, World};
-use crate::source::{Fault, Source, Span};
+use crate::source::{Source, Span};
 use crate::tree::{self, BinaryOperator, Expression, GenericKind, ItemKind};
 use std::collections::BTreeMap;
 
@@ -130,12 +130,8 @@ impl<'w, 'i> Lowering<'w, 'i> {
         self.finish(key, parameters)
     }
 
-    fn fault(&self, reason: impl std::fmt::Display) -> Fault {
-        self.source.fault(self.at, format!("C: {reason}"))
-    }
-
     fn refuse<T>(&self, reason: impl std::fmt::Display) -> Done<T> {
-        Err(self.fault(reason))
+        Err(self.source.fault(self.at, format!("C: {reason}")))
     }
 
     // Ends this attempt, as the type of a parameter matters.
@@ -148,8 +144,24 @@ impl<'w, 'i> Lowering<'w, 'i> {
         Term { kind, parts, of, span: self.at }
     }
 
+    fn boolean(&self, value: bool) -> Term {
+        self.make(Kind::Boolean(value), Vec::new(), Type::Boolean)
+    }
+
+    // Returns a condition of two terms, or what is known of it.
     fn test(&self, operator: BinaryOperator, left: Term, right: Term) -> Term {
-        Term::test(operator, left, right, self.at)
+        use BinaryOperator::{And, Or};
+        let numbers = left.number().zip(right.number());
+        if let Some(known) = numbers.and_then(|(left, right)| compared(operator, left, right)) {
+            return self.boolean(known);
+        }
+        match (operator, &left.kind, &right.kind) {
+            (And, Kind::Boolean(true), _) | (Or, Kind::Boolean(false), _) => return right,
+            (And, Kind::Boolean(false), _) | (Or, Kind::Boolean(true), _) => return left,
+            (And | Or, _, Kind::Boolean(_)) if !left.has_effect() => return right,
+            _ => {}
+        }
+        self.make(Kind::Binary(operator), vec![left, right], Type::Boolean)
     }
 
     fn number(&self, value: u128, of: Type) -> Term {
@@ -175,7 +187,7 @@ impl<'w, 'i> Lowering<'w, 'i> {
     // Joins conditions by an operator. None are always fulfilled.
     fn joined(&self, tests: Vec<Term>, operator: BinaryOperator) -> Term {
         let joined = tests.into_iter().reduce(|left, right| self.test(operator, left, right));
-        joined.unwrap_or_else(|| Term::boolean(true, self.at))
+        joined.unwrap_or_else(|| self.boolean(true))
     }
 
     // Makes a variable, and lets its name stand for it.
@@ -253,4 +265,16 @@ impl<'w, 'i> Lowering<'w, 'i> {
         let term = self.any(expression)?;
         self.coerce(term, of)
     }
+}
+
+fn compared(operator: BinaryOperator, left: u128, right: u128) -> Option<bool> {
+    Some(match operator {
+        BinaryOperator::Equal => left == right,
+        BinaryOperator::NotEqual => left != right,
+        BinaryOperator::Less => left < right,
+        BinaryOperator::Greater => left > right,
+        BinaryOperator::LessOrEqual => left <= right,
+        BinaryOperator::GreaterOrEqual => left >= right,
+        _ => return None,
+    })
 }

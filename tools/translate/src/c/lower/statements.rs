@@ -234,24 +234,21 @@ impl Lowering<'_, '_> {
         // An array may be a slice.
         let types: Vec<Type> = branches.iter().map(|it| self.known(&it.value.of)).collect();
         let of = types.iter().find(|of| of.is_slice()).unwrap_or(&types[0]).clone();
-        let is_short = branches.iter().all(|it| it.statements.is_empty());
-        if is_short && branches.len() <= 3 {
-            let mut chosen: Option<Term> = None;
-            for branch in branches.into_iter().rev() {
-                let term = self.coerce(branch.value, &of)?;
-                chosen = Some(match (branch.condition, chosen) {
-                    (Some(test), Some(other)) => {
-                        self.make(Kind::Choice, vec![test, term, other], of.clone())
-                    }
-                    _ => term,
-                });
-            }
-            return chosen.ok_or_else(|| self.fault("no value"));
+        for branch in &mut branches {
+            branch.value = self.coerce(branch.value.clone(), &of)?;
+        }
+        let is_short = branches.len() <= 3 && branches.iter().all(|it| it.statements.is_empty());
+        if is_short {
+            let Some(last) = branches.pop() else { return self.refuse("no value") };
+            return Ok(branches.into_iter().rev().fold(last.value, |other, branch| {
+                let test = branch.condition.unwrap_or_else(|| self.boolean(true));
+                self.make(Kind::Choice, vec![test, branch.value, other], of.clone())
+            }));
         }
         let local = self.variable("chosen", of.clone(), false);
         self.push(Statement::Declare { local, value: None });
         for branch in &mut branches {
-            let value = self.coerce(branch.value.clone(), &of)?;
+            let value = branch.value.clone();
             branch.statements.push(Statement::Assign { place: self.local(local), value });
         }
         self.push_branches(branches);

@@ -232,8 +232,9 @@ impl Lowering<'_, '_> {
         let receiver = self.any(receiver)?;
         let receiver = self.followed(receiver);
         let fields = self.fields_of(&receiver.of, PLAIN)?;
-        let place = fields.iter().position(|(own, _)| own == name);
-        let place = place.ok_or_else(|| self.fault("no such field"))?;
+        let Some(place) = fields.iter().position(|(own, _)| own == name) else {
+            return self.refuse("no such field");
+        };
         Ok(self.make(Kind::Field(PLAIN, place), vec![receiver], fields[place].1.clone()))
     }
 
