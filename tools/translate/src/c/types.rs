@@ -63,9 +63,8 @@ impl Printer<'_> {
                 Type::Of(Form::Array { .. }, parts) => format!("{} *", self.name(&parts[0])?),
                 target => format!("{} *", self.name(target)?),
             },
-            Type::Marker | Type::Parameter(_) | Type::Variable { .. } => {
-                return Err(self.unknown(of));
-            }
+            Type::Parameter(_) | Type::Variable { .. } => return Err(self.unknown(of)),
+            of if self.world.is_zero(of) => return Err(self.unknown(of)),
             _ => {
                 let name = format!("tk_{}", short(self.world, of));
                 match self.known.insert(name.clone(), format!("{of:?}")) {

@@ -174,6 +174,7 @@ impl Lowering<'_, '_> {
         let then = Branch { condition: Some(condition), statements, value };
         let (statements, value) = self.apart(|it| match otherwise {
             Some(otherwise) => it.evaluate(otherwise, target),
+            None if target == Target::Value => it.refuse("this form has no rule"),
             None => Ok(it.unit()),
         })?;
         self.join(vec![then, Branch { condition: None, statements, value }], target)

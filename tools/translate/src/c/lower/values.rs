@@ -187,21 +187,16 @@ impl Lowering<'_, '_> {
     fn borrow(&mut self, is_mutable: bool, operand: &Expression) -> Done<Term> {
         let term = self.any(operand)?;
         Ok(match (self.known(&term.of), &term.kind) {
-            (of, _) if of.is_slice() && of.can_write() && !is_mutable => self.shared(term),
+            (Type::Of(Form::Slice { is_mutable: true }, parts), _) if !is_mutable => {
+                let of = Type::slice(parts[0].clone(), false);
+                self.make(Kind::Part("shared"), vec![term], of)
+            }
             (_, Kind::Elements) if !is_mutable => self.hold(term, "bytes", false),
             (of, _) if is_mutable && !of.can_write() => {
                 self.make(Kind::Address, vec![term], Type::pointer(of))
             }
             _ => term,
         })
-    }
-
-    fn shared(&mut self, slice: Term) -> Term {
-        let of = match self.known(&slice.of) {
-            Type::Of(_, parts) => Type::slice(parts[0].clone(), false),
-            of => of,
-        };
-        self.make(Kind::Part("shared"), vec![slice], of)
     }
 
     fn binary(
