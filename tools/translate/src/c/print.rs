@@ -271,8 +271,8 @@ pub fn qualifier(world: &World, function: &Function) -> &'static str {
         (AttributeKind::NeverInline, "TK_NOINLINE"),
         (AttributeKind::AlwaysInline, "TK_INLINE"),
     ];
-    let has =
-        |kind: &AttributeKind| world.item(id).notes.attributes.iter().any(|it| it.kind == *kind);
+    let attributes = &world.item(id).notes.attributes;
+    let has = |kind: &AttributeKind| attributes.iter().any(|it| it.kind == *kind);
     let found = qualifiers.into_iter().find(|(kind, _)| has(kind));
     found.map_or("TK_HINTED", |(_, qualifier)| qualifier)
 }
@@ -288,11 +288,10 @@ fn names(world: &World, functions: &[&Function]) -> Done<BTreeMap<Callee, String
     for (name, keys) in named {
         for key in &keys {
             let module = world.module(key.id);
-            let own = module.path.last().map_or(module.crate_name, String::as_str);
-            let own = if own == "calls" { module.crate_name } else { own };
+            let last = module.path.last().filter(|last| *last != "calls");
             let own = match keys.iter().filter(|it| it.id == key.id).count() {
                 _ if keys.len() == 1 => name.clone(),
-                1 => format!("{own}_{name}"),
+                1 => format!("{}_{name}", last.map_or(module.crate_name, String::as_str)),
                 _ => name.clone() + &chosen(world, key, true),
             };
             if !taken.insert(own.clone()) {
@@ -314,12 +313,10 @@ fn plain_name(world: &World, key: &Callee) -> Done<String> {
     let mut name = text::snake(world.name(key.id));
     if let ItemKind::Implementation { .. } = world.owner(key.id).kind {
         let place = world.place(key.id, &Bindings::new())?;
-        name = match &place.bindings["Self"] {
-            Type::Of(Form::Item(id), _) => {
-                let own = short(world, &Type::Of(Form::Item(*id), Vec::new()));
-                format!("{own}_{name}")
-            }
-            own => format!("{name}_{}", short(world, own)),
+        let own = short(world, &place.bindings["Self"]);
+        name = match place.bindings["Self"] {
+            Type::Of(Form::Item(_), _) => format!("{own}_{name}"),
+            _ => format!("{name}_{own}"),
         };
     }
     Ok(name + &chosen(world, key, false))
