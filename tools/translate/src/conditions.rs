@@ -95,12 +95,10 @@ impl Finder<'_> {
                     self.test(owner, method, it, it.body.as_ref())
                 })
             }
-            ItemKind::Struct { fields, ghosts } if !is_sealed(fields) => match ghosts.first() {
-                Some(ghost) => {
-                    self.refuse(*ghost, "a ghost item of a struct that users can write, or change")
-                }
-                None => Ok(()),
-            },
+            ItemKind::Struct { fields, ghosts } if !is_sealed(fields) => {
+                let reason = "a ghost item of a struct that users can write, or change";
+                ghosts.first().map_or(Ok(()), |ghost| self.refuse(*ghost, reason))
+            }
             _ => Ok(()),
         }
     }
@@ -147,13 +145,12 @@ impl Finder<'_> {
     fn is_about(&self, condition: &Condition, item: &Item, function: &Function) -> bool {
         let text = |it: &Parameter| self.module.source.at(it.name.span.to(it.annotation.span));
         let parameters: Vec<&str> = function.parameters.iter().map(text).collect();
-        let hides = |name: &str| {
-            let mut generics = item.generics.iter().map(|it| &it.name);
-            let mut parameters = function.parameters.iter().map(|it| &it.name);
-            generics.any(|it| it.text == name) || parameters.any(|it| it.text == name)
-        };
+        let own = function.parameters.iter().map(|it| &it.name);
+        let own = own.chain(item.generics.iter().map(|it| &it.name)).map(|name| &*name.text);
+        let own: Vec<&str> = own.collect();
+        let is_meant = |name: &str, from| !own.contains(&name) && self.imports(name, from);
         condition.parameters.iter().all(|parameter| parameters.contains(parameter))
-            && condition.names.iter().all(|(name, from)| !hides(name) && self.imports(name, from))
+            && condition.names.iter().all(|(name, from)| is_meant(name, from))
     }
 
     // Whether all `ghost use` lines of the module that import a name, and at least one, import it from here.

@@ -70,9 +70,8 @@ fn attribute(parser: &mut Parser) -> Done<bool> {
             "\"lanes\"" => needs_lanes = true,
             text => is_known &= !has(REFUSED, text),
         }
-        if !is_known || parser.kind() == Kind::End {
-            return parser.refuse_form(parser.span(), &format!("this attribute `{name}`"));
-        }
+        is_known &= parser.kind() != Kind::End;
+        parser.check_form(is_known, parser.span(), &format!("this attribute `{name}`"))?;
         parser.step();
     }
     Ok(needs_lanes)
@@ -90,12 +89,10 @@ fn item(
         let name = parser.name()?;
         let has_items = !parser.eat(";");
         // The proved crates are in one module alone.
-        if name.text == "proved" && !(is_top && !is_public && has_items) {
-            return parser.refuse_form(name.span, "a module `proved`");
-        }
-        if needs_lanes && !has(MODULES_OF_LANES, &name.text) {
-            return parser.refuse_form(start, "this module for the feature `lanes`");
-        }
+        let is_right = name.text != "proved" || is_top && !is_public && has_items;
+        parser.check_form(is_right, name.span, "a module `proved`")?;
+        let is_right = !needs_lanes || has(MODULES_OF_LANES, &name.text);
+        parser.check_form(is_right, start, "this module for the feature `lanes`")?;
         return if has_items {
             parser.expect("{")?;
             items(parser, false, exports)
@@ -103,9 +100,7 @@ fn item(
             Ok(())
         };
     }
-    if needs_lanes {
-        return parser.refuse_form(start, "this item for the feature `lanes`");
-    }
+    parser.check_form(!needs_lanes, start, "this item for the feature `lanes`")?;
     if is_public && parser.eat("use") {
         export(parser, start, exports)?;
     } else if parser.eat_all(&["compile_error", "!", "("]) {

@@ -41,9 +41,7 @@ impl Parser<'_> {
             Kind::Unary { operator, .. } => *operator == UnaryOperator::Dereference,
             kind => matches!(kind, Kind::Path(_) | Kind::Field { .. } | Kind::Index { .. }),
         };
-        if !is_place {
-            return self.refuse("an operator: nothing is assigned to this");
-        }
+        self.check(is_place, "an operator: nothing is assigned to this")?;
         self.step();
         let (place, value) = (Box::new(place), self.boxed()?);
         Ok(self.node(start, Kind::Assign { operator, place, value }))
@@ -90,9 +88,7 @@ impl Parser<'_> {
         let start = self.span();
         let mut value = self.unary()?;
         while self.eat("as") {
-            if !INTEGERS.contains(&self.text()) {
-                return self.refuse("a type of integers");
-            }
+            self.check(INTEGERS.contains(&self.text()), "a type of integers")?;
             let kind = Kind::Cast { value: Box::new(value), target: self.type_()? };
             value = self.node(start, kind);
         }
@@ -287,9 +283,8 @@ impl Parser<'_> {
         let mut arms = Vec::new();
         while !self.eat("}") {
             let arm = self.scope(Self::arm)?;
-            if !self.eat(",") && !self.is("}") && !is_block_like(&arm.body) {
-                return self.refuse("`,` or `}`");
-            }
+            let is_ended = self.eat(",") || self.is("}") || is_block_like(&arm.body);
+            self.check(is_ended, "`,` or `}`")?;
             arms.push(arm);
         }
         Ok(Kind::Match { value, arms })
@@ -304,9 +299,9 @@ impl Parser<'_> {
 
     // Reads `matches!(VALUE, PATTERN)`. No other macro has a rule.
     fn matches(&mut self) -> Done<Kind> {
-        if !self.eat_all(&["matches", "!", "("]) {
-            return self.refuse_form(self.span(), &format!("the macro `{}`", self.text()));
-        }
+        let (start, name) = (self.span(), self.text());
+        let is_known = self.eat_all(&["matches", "!", "("]);
+        self.check_form(is_known, start, &format!("the macro `{name}`"))?;
         let value = self.boxed()?;
         self.expect(",")?;
         let pattern = self.pattern()?;
@@ -345,10 +340,9 @@ impl Parser<'_> {
     // Reads what gives the other fields: a variable, a constant or `*self`. Rattle need not read more.
     fn base(&mut self) -> Done<Box<Expression>> {
         let is_self = self.is("*") && self.is_ahead(1, "self");
-        if is_self || self.is_name() && self.is_ahead(1, "}") {
-            return self.unary().map(Box::new);
-        }
-        self.refuse("the name of a variable")
+        let is_known = is_self || self.is_name() && self.is_ahead(1, "}");
+        self.check(is_known, "the name of a variable")?;
+        self.unary().map(Box::new)
     }
 
     // Reads a block. Items in it have no rule.

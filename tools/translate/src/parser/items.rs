@@ -25,9 +25,8 @@ impl<'a> Parser<'a> {
             let start = self.span();
             if self.eat_all(&["#", "!"]) {
                 let attribute = self.attribute(start)?;
-                if attribute.kind != AttributeKind::Tactic {
-                    return self.refuse_form(start, "this attribute of a whole module");
-                }
+                let is_hint = attribute.kind == AttributeKind::Tactic;
+                self.check_form(is_hint, start, "this attribute of a whole module")?;
                 tree.hints.push(attribute.span);
             } else {
                 tree.items.push(self.item(Place::Module)?);
@@ -74,17 +73,14 @@ impl<'a> Parser<'a> {
     }
 
     fn derived(&mut self) -> Done<String> {
-        if !has(DERIVED, self.text()) {
-            return self.refuse("a trait that Rust derives as Rattle does");
-        }
+        self.check(has(DERIVED, self.text()), "a trait that Rust derives as Rattle does")?;
         Ok(self.word().text)
     }
 
     // Steps over an argument of a hint to the prover: a path, which may have arguments itself.
     fn hint(&mut self) -> Done<()> {
-        if !self.eat_kind(Kind::Name) {
-            return self.refuse("a hint to the prover");
-        }
+        self.check(self.kind() == Kind::Name, "a hint to the prover")?;
+        self.step();
         if self.eat("::") {
             return self.hint();
         }
@@ -133,22 +129,19 @@ impl<'a> Parser<'a> {
             }
             _ => false,
         };
-        if !is_known {
-            return self.refuse("an item of this place");
-        }
+        self.check(is_known, "an item of this place")?;
         Ok(self.source.at(self.step()))
     }
 
     fn refuse_notes(&self, notes: &Notes, item: Span) -> Done<()> {
-        let is_noted = !notes.docs.is_empty() || !notes.attributes.is_empty();
-        if is_noted { self.refuse_form(item, "documentation of this item") } else { Ok(()) }
+        let is_plain = notes.docs.is_empty() && notes.attributes.is_empty();
+        self.check_form(is_plain, item, "documentation of this item")
     }
 
     // Steps over the generics of a `fmt`.
     fn writer(&mut self) -> Done<Vec<GenericParameter>> {
-        if !self.source.text[self.end..].starts_with(WRITER) {
-            return self.refuse(&format!("`{WRITER}`"));
-        }
+        let is_writer = self.source.text[self.end..].starts_with(WRITER);
+        self.check(is_writer, &format!("`{WRITER}`"))?;
         self.expect("<")?;
         self.local()?;
         while !self.eat(">") {
@@ -340,9 +333,7 @@ impl<'a> Parser<'a> {
 
     // Reads a clause, and returns what is between its braces.
     fn clause_text(&mut self) -> Done<Span> {
-        if self.kind() != Kind::Clause {
-            return self.refuse("a clause");
-        }
+        self.check(self.kind() == Kind::Clause, "a clause")?;
         let Span { start, end } = self.step();
         Ok(Span { start: start + 1, end: end - 1 })
     }
@@ -365,9 +356,8 @@ impl<'a> Parser<'a> {
         let (module, names) = path.unwrap_or_default();
         let names: Vec<String> = names.split(',').map(|name| name.trim().to_string()).collect();
         let is_name = |name: &str| !name.is_empty() && !name.contains([' ', '\n', '{', '}']);
-        if !is_name(module) || !names.iter().all(|name| is_name(name)) {
-            return self.refuse("`MODULE.{NAMES}`");
-        }
+        let are_names = is_name(module) && names.iter().all(|name| is_name(name));
+        self.check(are_names, "`MODULE.{NAMES}`")?;
         self.step();
         Ok(ItemKind::GhostUse { module: module.into(), names })
     }

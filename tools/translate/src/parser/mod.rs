@@ -111,8 +111,8 @@ impl<'a> Parser<'a> {
 
     /// Steps over a keyword or symbol, which must come next.
     pub fn expect(&mut self, text: &str) -> Done<Span> {
-        let span = self.span();
-        if self.eat(text) { Ok(span) } else { self.refuse(&format!("`{text}`")) }
+        self.check(self.is(text), &format!("`{text}`"))?;
+        Ok(self.step())
     }
 
     /// Refuses the next token, in whose place there should be something else.
@@ -122,6 +122,16 @@ impl<'a> Parser<'a> {
             _ => format!("`{}`", self.text().lines().next().unwrap_or_default()),
         };
         Err(self.source.fault(self.span(), format!("{found}, and not {expected}")))
+    }
+
+    // Refuses the next token if it is not right.
+    fn check(&self, is_right: bool, expected: &str) -> Done<()> {
+        if is_right { Ok(()) } else { self.refuse(expected) }
+    }
+
+    /// Refuses a form if it is not right.
+    pub fn check_form(&self, is_right: bool, span: Span, form: &str) -> Done<()> {
+        if is_right { Ok(()) } else { self.refuse_form(span, form) }
     }
 
     /// Refuses a form.
@@ -180,9 +190,8 @@ impl<'a> Parser<'a> {
             let mut items = Vec::new();
             while !parser.eat_sign(end) {
                 items.push(item(parser)?);
-                if !parser.eat(",") && !parser.text().starts_with(end) {
-                    return parser.refuse(&format!("`,` or `{end}`"));
-                }
+                let is_right = parser.eat(",") || parser.text().starts_with(end);
+                parser.check(is_right, &format!("`,` or `{end}`"))?;
             }
             Ok(items)
         })

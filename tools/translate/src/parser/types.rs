@@ -15,9 +15,7 @@ impl Parser<'_> {
             TypeKind::Reference { is_mutable, target: Box::new(self.type_()?) }
         } else if self.eat("(") {
             let types = self.list(")", Self::type_)?;
-            if types.len() == 1 {
-                return self.refuse_form(start, "a tuple of one type");
-            }
+            self.check_form(types.len() != 1, start, "a tuple of one type")?;
             TypeKind::Tuple(types)
         } else if self.eat("[") {
             let element = Box::new(self.type_()?);
