@@ -86,8 +86,9 @@ fn is_right(row: &str, made: &Done<String>, before: usize) -> bool {
 
 #[test]
 fn each_form_is_refused_or_keeps_its_meaning() {
-    let (mut repository, mut wrong) = (repository(), 0);
+    let (mut repository, mut forms, mut wrong) = (repository(), 0, 0);
     for row in include_str!("forms.txt").lines().filter(|row| !row.starts_with('#')) {
+        forms += 1;
         let [place, _, form] = row.split('\t').collect::<Vec<_>>().try_into().expect(row);
         let place = place.split(' ').next_back().unwrap();
         let (made, before) = made(&mut repository, place, &shown(form));
@@ -96,5 +97,5 @@ fn each_form_is_refused_or_keeps_its_meaning() {
             wrong += 1;
         }
     }
-    assert_eq!(wrong, 0, "forms have become something else");
+    assert!(forms > 400 && wrong == 0, "{wrong} of {forms} forms have become something else");
 }
