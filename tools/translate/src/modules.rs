@@ -57,11 +57,6 @@ impl Package {
             .iter()
             .position(|module| module.crate_name == crate_name && module.path == path)
     }
-
-    /// Returns the number of the module that another declares by a name.
-    pub fn below(&self, module: &Module, name: &str) -> Option<usize> {
-        self.find(module.crate_name, &[&*module.path, &[name.to_string()]].concat())
-    }
 }
 
 impl Module {

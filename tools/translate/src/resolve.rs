@@ -52,10 +52,11 @@ impl<'a> Scopes<'a> {
 
     fn declare_items(&mut self, number: usize, module: &Module) -> Done<()> {
         for (item, Item { name, kind, .. }) in module.tree.items.iter().enumerate() {
+            let below = || [&*module.path, std::slice::from_ref(&name.text)].concat();
             let definition = match kind {
                 ItemKind::Use(_) | ItemKind::Implementation { .. } => None,
                 ItemKind::Ghost | ItemKind::GhostUse { .. } => None,
-                ItemKind::Module => match self.package.below(module, &name.text) {
+                ItemKind::Module => match self.package.find(module.crate_name, &below()) {
                     None => return Err(module.source.fault(name.span, "a module without a file")),
                     Some(number) => Some(Definition::Module(number)),
                 },
