@@ -8,17 +8,14 @@ pub use items::WRITER;
 
 use crate::lexer::{Kind, Token, lex};
 use crate::source::{Done, Source, Span};
+use crate::std_names::has;
 use crate::tree::{Mention, Name, Node, Role, Tree};
 
 // Words that are no names: those of Rust, also for later use, and those of Rattle.
-const KEYWORDS: &[&str] = &[
-    "_", "as", "async", "await", "break", "const", "continue", "crate", "dyn", "else", "enum",
-    "extern", "false", "fn", "for", "if", "impl", "in", "let", "loop", "match", "mod", "move",
-    "mut", "pub", "ref", "return", "self", "Self", "static", "struct", "super", "trait", "true",
-    "type", "unsafe", "use", "where", "while", "abstract", "become", "box", "do", "final", "gen",
-    "macro", "override", "priv", "raw", "safe", "try", "typeof", "union", "unsized", "virtual",
-    "yield", "auto", "default", "ensures", "ghost", "requires",
-];
+const KEYWORDS: &str = "_ as async await break const continue crate dyn else enum extern false fn for if \
+    impl in let loop match mod move mut pub ref return self Self static struct super trait true type unsafe \
+    use where while abstract become box do final gen macro override priv raw safe try typeof union unsized \
+    virtual yield auto default ensures ghost requires";
 
 /// Reads the tree of a proved source.
 pub fn parse(source: &Source) -> Done<Tree> {
@@ -151,7 +148,7 @@ impl<'a> Parser<'a> {
 
     // Whether a name that is no keyword comes next.
     fn is_name(&self) -> bool {
-        self.kind() == Kind::Name && !KEYWORDS.contains(&self.text())
+        self.kind() == Kind::Name && !has(KEYWORDS, self.text())
     }
 
     /// Reads a name that is no keyword.
