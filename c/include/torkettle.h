@@ -2940,6 +2940,49 @@ static inline size_t torkettle_rest_length(size_t length, char separator) TORKET
         return TK_MAKE(torkettle_found##suffix, quick.value.first, 1);                                                 \
     }
 
+/* The parses of a type by the functions of another, or its own, of the same size and sign. */
+#define TORKETTLE_PARSES_(name, type, same)                                                                            \
+    static inline torkettle_status torkettle_parse##name(const char *text, size_t length, unsigned flags,              \
+                                                         type *value) TORKETTLE_NOEXCEPT                               \
+    {                                                                                                                  \
+        torkettle_found##same found = torkettle_of_whole##same(text, length, flags);                                   \
+        if (found.length == 0)                                                                                         \
+            return torkettle_refusal(TK_CAST(torkettle_status, found.value));                                          \
+        *value = found.value;                                                                                          \
+        return TORKETTLE_OK;                                                                                           \
+    }                                                                                                                  \
+                                                                                                                       \
+    TK_INLINE torkettle_status torkettle_parse_prefix##name(const char *text, size_t length, unsigned flags,           \
+                                                            type *value, size_t *count) TORKETTLE_NOEXCEPT             \
+    {                                                                                                                  \
+        torkettle_found##same found = torkettle_of_prefix##same(text, length, flags);                                  \
+        if (found.length == 0)                                                                                         \
+            return torkettle_refusal(TK_CAST(torkettle_status, found.value));                                          \
+        *value = found.value;                                                                                          \
+        *count = found.length;                                                                                         \
+        return TORKETTLE_OK;                                                                                           \
+    }                                                                                                                  \
+                                                                                                                       \
+    static inline bool torkettle_canonical##name(const char *text, size_t length, type *value) TORKETTLE_NOEXCEPT      \
+    {                                                                                                                  \
+        torkettle_found##same found = torkettle_whole_canonical##same(text, length);                                   \
+        if (found.length == 0)                                                                                         \
+            return false;                                                                                              \
+        *value = found.value;                                                                                          \
+        return true;                                                                                                   \
+    }                                                                                                                  \
+                                                                                                                       \
+    static inline bool torkettle_json_integer##name(const char *text, size_t length, type *value, size_t *count)       \
+        TORKETTLE_NOEXCEPT                                                                                             \
+    {                                                                                                                  \
+        torkettle_found##same found = torkettle_prefix_json##same(text, length);                                       \
+        if (found.length == 0)                                                                                         \
+            return false;                                                                                              \
+        *value = found.value;                                                                                          \
+        *count = found.length;                                                                                         \
+        return true;                                                                                                   \
+    }
+
 #define TORKETTLE_FUNCTIONS_(name, type)                                                                               \
     typedef struct torkettle_found_##name {                                                                            \
         type value;                                                                                                    \
@@ -3025,46 +3068,7 @@ static inline size_t torkettle_rest_length(size_t length, char separator) TORKET
     TORKETTLE_NEXT_(column, next, _##name)                                                                             \
     TORKETTLE_NEXT_(fields, next_field, _##name)                                                                       \
                                                                                                                        \
-    static inline torkettle_status torkettle_parse_##name(const char *text, size_t length, unsigned flags,             \
-                                                          type *value) TORKETTLE_NOEXCEPT                              \
-    {                                                                                                                  \
-        torkettle_found_##name found = torkettle_of_whole_##name(text, length, flags);                                 \
-        if (found.length == 0)                                                                                         \
-            return torkettle_refusal(TK_CAST(torkettle_status, found.value));                                          \
-        *value = found.value;                                                                                          \
-        return TORKETTLE_OK;                                                                                           \
-    }                                                                                                                  \
-                                                                                                                       \
-    TK_INLINE torkettle_status torkettle_parse_prefix_##name(const char *text, size_t length, unsigned flags,          \
-                                                             type *value, size_t *count) TORKETTLE_NOEXCEPT            \
-    {                                                                                                                  \
-        torkettle_found_##name found = torkettle_of_prefix_##name(text, length, flags);                                \
-        if (found.length == 0)                                                                                         \
-            return torkettle_refusal(TK_CAST(torkettle_status, found.value));                                          \
-        *value = found.value;                                                                                          \
-        *count = found.length;                                                                                         \
-        return TORKETTLE_OK;                                                                                           \
-    }                                                                                                                  \
-                                                                                                                       \
-    static inline bool torkettle_canonical_##name(const char *text, size_t length, type *value) TORKETTLE_NOEXCEPT     \
-    {                                                                                                                  \
-        torkettle_found_##name found = torkettle_whole_canonical_##name(text, length);                                 \
-        if (found.length == 0)                                                                                         \
-            return false;                                                                                              \
-        *value = found.value;                                                                                          \
-        return true;                                                                                                   \
-    }                                                                                                                  \
-                                                                                                                       \
-    static inline bool torkettle_json_integer_##name(const char *text, size_t length, type *value, size_t *count)      \
-        TORKETTLE_NOEXCEPT                                                                                             \
-    {                                                                                                                  \
-        torkettle_found_##name found = torkettle_prefix_json_##name(text, length);                                     \
-        if (found.length == 0)                                                                                         \
-            return false;                                                                                              \
-        *value = found.value;                                                                                          \
-        *count = found.length;                                                                                         \
-        return true;                                                                                                   \
-    }                                                                                                                  \
+    TORKETTLE_PARSES_(_##name, type, _##name)                                                                          \
                                                                                                                        \
     static inline bool torkettle_column_##name##_next(torkettle_column_##name *column, type *value) TORKETTLE_NOEXCEPT \
     {                                                                                                                  \
@@ -3127,60 +3131,15 @@ TORKETTLE_FUNCTIONS_(i128, torkettle_i128)
 TORKETTLE_FUNCTIONS_(u128, torkettle_u128)
 #endif
 
-/* The functions for another type of the same size and sign as that of `same`. */
-#define TORKETTLE_ALIASES_(name, type, same)                                                                           \
-    static inline torkettle_status torkettle_parse_##name(const char *text, size_t length, unsigned flags,             \
-                                                          type *value) TORKETTLE_NOEXCEPT                              \
-    {                                                                                                                  \
-        torkettle_found_##same found;                                                                                  \
-        torkettle_status status;                                                                                       \
-        found.value = 0;                                                                                               \
-        status = torkettle_parse_##same(text, length, flags, &found.value);                                            \
-        if (status == TORKETTLE_OK)                                                                                    \
-            *value = found.value;                                                                                      \
-        return status;                                                                                                 \
-    }                                                                                                                  \
-                                                                                                                       \
-    static inline torkettle_status torkettle_parse_prefix_##name(const char *text, size_t length, unsigned flags,      \
-                                                                 type *value, size_t *count) TORKETTLE_NOEXCEPT        \
-    {                                                                                                                  \
-        torkettle_found_##same found;                                                                                  \
-        torkettle_status status;                                                                                       \
-        found.value = 0;                                                                                               \
-        status = torkettle_parse_prefix_##same(text, length, flags, &found.value, count);                              \
-        if (status == TORKETTLE_OK)                                                                                    \
-            *value = found.value;                                                                                      \
-        return status;                                                                                                 \
-    }                                                                                                                  \
-                                                                                                                       \
-    static inline bool torkettle_canonical_##name(const char *text, size_t length, type *value) TORKETTLE_NOEXCEPT     \
-    {                                                                                                                  \
-        torkettle_found_##same found;                                                                                  \
-        bool is_canonical = torkettle_canonical_##same(text, length, &found.value);                                    \
-        if (is_canonical)                                                                                              \
-            *value = found.value;                                                                                      \
-        return is_canonical;                                                                                           \
-    }                                                                                                                  \
-                                                                                                                       \
-    static inline bool torkettle_json_integer_##name(const char *text, size_t length, type *value, size_t *count)      \
-        TORKETTLE_NOEXCEPT                                                                                             \
-    {                                                                                                                  \
-        torkettle_found_##same found;                                                                                  \
-        bool is_integer = torkettle_json_integer_##same(text, length, &found.value, count);                            \
-        if (is_integer)                                                                                                \
-            *value = found.value;                                                                                      \
-        return is_integer;                                                                                             \
-    }
-
 #if ULONG_MAX == UINT64_MAX
-TORKETTLE_ALIASES_(l, long, i64)
-TORKETTLE_ALIASES_(ul, unsigned long, u64)
+TORKETTLE_PARSES_(_l, long, _i64)
+TORKETTLE_PARSES_(_ul, unsigned long, _u64)
 #else
-TORKETTLE_ALIASES_(l, long, i32)
-TORKETTLE_ALIASES_(ul, unsigned long, u32)
+TORKETTLE_PARSES_(_l, long, _i32)
+TORKETTLE_PARSES_(_ul, unsigned long, _u32)
 #endif
-TORKETTLE_ALIASES_(ll, long long, i64)
-TORKETTLE_ALIASES_(ull, unsigned long long, u64)
+TORKETTLE_PARSES_(_ll, long long, _i64)
+TORKETTLE_PARSES_(_ull, unsigned long long, _u64)
 
 /* The size of a buffer into which every message of torkettle_error_text fits. */
 #define TORKETTLE_ERROR_TEXT_SIZE 333
@@ -3199,7 +3158,7 @@ size_t torkettle_error_text(char *buffer, size_t size, const torkettle_error *er
 /* Returns the version of the library, as TORKETTLE_VERSION has it. */
 const char *torkettle_version(void) TORKETTLE_SYMBOL_(version);
 
-#undef TORKETTLE_ALIASES_
+#undef TORKETTLE_PARSES_
 #undef TORKETTLE_FUNCTIONS_
 #undef TORKETTLE_NEXT_
 /* torkettle.c goes on with these. */
