@@ -147,7 +147,7 @@ static void put(char *out, int status, size_t index, size_t offset, const char *
 #else
 #define LONGS(some) some(l, i32, long, 32, I32) some(ul, u32, unsigned long, 32, U32)
 #endif
-#ifdef __SIZEOF_INT128__
+#if defined __SIZEOF_INT128__ && !defined TORKETTLE_NO_INT128
 #define LARGE(all)                                                                                                     \
     all(i128, i128, torkettle_i128, 128, "-170141183460469231731687303715884105728",                                   \
         "-170141183460469231731687303715884105729", "170141183460469231731687303715884105727",                         \

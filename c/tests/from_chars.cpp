@@ -1,5 +1,5 @@
-// Compares torkettle::from_chars, parse and canonical with std::from_chars and std::to_chars, for each integer type and,
-// of from_chars, for what it leaves to that. Tests what has to compile with torkettle.hpp, and what must not.
+// Compares torkettle::from_chars, parse and canonical with std::from_chars and std::to_chars for each integer type, and
+// what from_chars leaves to that. Tests what has to compile with torkettle.hpp, and what must not.
 //
 //     from_chars [TEXTS]
 #include "texts.hpp"
@@ -82,7 +82,7 @@ void compare_all(const std::string &all)
     compare<long long>(text, "long long");
     compare<unsigned long long>(text, "unsigned long long");
     // In strict C++, the library of gcc has no from_chars for 128 bits.
-#if defined(__GLIBCXX_TYPE_INT_N_0) && defined(__SIZEOF_INT128__)
+#if defined __GLIBCXX_TYPE_INT_N_0 && defined __SIZEOF_INT128__ && !defined TORKETTLE_NO_INT128
     compare<torkettle_i128>(text, "__int128");
     compare<torkettle_u128>(text, "unsigned __int128");
 #endif
@@ -238,10 +238,11 @@ constexpr Reading<T> reading(std::string_view text)
 }
 
 constexpr std::string_view constant_texts[] = {
-    "", "-", "+", "x", " 1", "--1", "+-5", "0", "-0", "+5", "5 ", "007", "12,34", "-7 ", "0000000000000000000000000042x",
+    "", "-", "+", "x", " 1", "--1", "+-5", "0", "-0", "+5", "5 ", "007", "12,34", "-7 ", "00000000000000000000000042x",
     "127", "128", "-128", "-129", "255", "256", "32767", "32768", "-32768", "-32769", "65535", "65536", "2147483647",
-    "2147483648", "-2147483648", "-2147483649", "4294967295", "4294967296", "9223372036854775807", "9223372036854775808",
-    "-9223372036854775808", "-9223372036854775809", "18446744073709551615", "18446744073709551616",
+    "2147483648", "-2147483648", "-2147483649", "4294967295", "4294967296", "9223372036854775807",
+    "9223372036854775808", "-9223372036854775808", "-9223372036854775809", "18446744073709551615",
+    "18446744073709551616",
     "170141183460469231731687303715884105727", "170141183460469231731687303715884105728",
     "-170141183460469231731687303715884105728", "-170141183460469231731687303715884105729",
     "340282366920938463463374607431768211455", "340282366920938463463374607431768211456", "00000000000000000007",
@@ -303,7 +304,7 @@ int main(int count, char **arguments)
 #if __cplusplus >= 202002L && defined __cpp_constexpr_dynamic_alloc
     compare_constants<char, signed char, unsigned char, short, unsigned short, int, unsigned, long, unsigned long>();
     compare_constants<long long, unsigned long long>();
-#ifdef __SIZEOF_INT128__
+#if defined __SIZEOF_INT128__ && !defined TORKETTLE_NO_INT128
     compare_constants<torkettle_i128, torkettle_u128>();
 #endif
 #endif

@@ -121,7 +121,7 @@ void columns(Test &test, Random &random, bool lines)
 #define SMALL_TYPES(call)                                                                                              \
     call(i8, int8_t) call(u8, uint8_t) call(i16, int16_t) call(u16, uint16_t) call(i32, int32_t) call(u32, uint32_t)   \
     call(i64, int64_t) call(u64, uint64_t)
-#ifdef __SIZEOF_INT128__
+#if defined __SIZEOF_INT128__ && !defined TORKETTLE_NO_INT128
 #define TYPES(call) SMALL_TYPES(call) call(i128, torkettle_i128) call(u128, torkettle_u128)
 #else
 #define TYPES(call) SMALL_TYPES(call)
