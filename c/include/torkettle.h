@@ -313,21 +313,18 @@ typedef struct torkettle_error {
 #define TK_HINTED static inline __attribute__((__unused__))
 #endif
 #define TK_FAR __attribute__((__noinline__))
-#define TK_FAR_COLD __attribute__((__noinline__, __cold__))
 #define TK_NOINLINE static __attribute__((__noinline__, __unused__))
 #define TK_COLD static __attribute__((__noinline__, __cold__, __unused__))
 #elif defined _MSC_VER
 #define TK_INLINE static __forceinline
 #define TK_HINTED static __forceinline
 #define TK_FAR __declspec(noinline)
-#define TK_FAR_COLD __declspec(noinline)
 #define TK_NOINLINE static __declspec(noinline)
 #define TK_COLD static __declspec(noinline)
 #else
 #define TK_INLINE static inline
 #define TK_HINTED static inline
 #define TK_FAR
-#define TK_FAR_COLD
 #define TK_NOINLINE static inline
 #define TK_COLD static inline
 #endif
@@ -3167,7 +3164,6 @@ const char *torkettle_version(void) TORKETTLE_SYMBOL_(version);
 #undef TK_COLD
 #undef TK_CONSTEXPR
 #undef TK_FAR
-#undef TK_FAR_COLD
 #undef TK_HINTED
 #undef TK_INLINE
 #undef TK_MAKE

@@ -23,21 +23,18 @@
 #define TK_HINTED static inline __attribute__((__unused__))
 #endif
 #define TK_FAR __attribute__((__noinline__))
-#define TK_FAR_COLD __attribute__((__noinline__, __cold__))
 #define TK_NOINLINE static __attribute__((__noinline__, __unused__))
 #define TK_COLD static __attribute__((__noinline__, __cold__, __unused__))
 #elif defined _MSC_VER
 #define TK_INLINE static __forceinline
 #define TK_HINTED static __forceinline
 #define TK_FAR __declspec(noinline)
-#define TK_FAR_COLD __declspec(noinline)
 #define TK_NOINLINE static __declspec(noinline)
 #define TK_COLD static __declspec(noinline)
 #else
 #define TK_INLINE static inline
 #define TK_HINTED static inline
 #define TK_FAR
-#define TK_FAR_COLD
 #define TK_NOINLINE static inline
 #define TK_COLD static inline
 #endif
