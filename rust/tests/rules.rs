@@ -1,4 +1,4 @@
-//! Compares the results of generated calls with the rules of `docs/SPECIFICATION.md`, which `tools/compare`
+//! Compares the results of generated calls with the rules of `docs/SPECIFICATION.md`, which `tools/common`
 //! states digit by digit, and with `str::parse`. With the feature `lanes`, the calls are those of
 //! `lanes`.
 //!
