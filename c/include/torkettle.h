@@ -360,6 +360,16 @@ TK_INLINE const uint8_t *tk_either_at(bool is_first, const uint8_t *first, const
 #endif
 }
 
+/* 1 or 0. As gcc 12 would set only a byte of a register, the processor would wait for what was last in it. */
+TK_INLINE uint64_t tk_bit(bool is_set)
+{
+    uint64_t one = 1;
+#if defined __GNUC__ && !defined __clang__
+    __asm__("" : "+r"(one));
+#endif
+    return is_set ? one : 0;
+}
+
 /* An index of so many elements. */
 TK_CONSTEXPR size_t tk_index(size_t index, size_t len)
 {
@@ -1416,8 +1426,7 @@ TK_HINTED uint64_t tk_sum_of(uint64_t digits)
 /* atoi_fast/src/in_range.rt:17 */
 TK_INLINE tk_option_i8 tk_number_in_range_i8(uint64_t most, bool minus, uint64_t magnitude)
 {
-    if (tk_u128_less(tk_u128_of(127), tk_u128_of(most))
-        && magnitude > tk_u128_low(tk_u128_of(127)) + TK_CAST(uint64_t, minus)) {
+    if (tk_u128_less(tk_u128_of(127), tk_u128_of(most)) && magnitude > tk_u128_low(tk_u128_of(127)) + tk_bit(minus)) {
         return tk_none_i8();
     }
     return tk_some_i8(tk_from_parts_i8(minus, tk_u128_of(magnitude)));
@@ -1457,8 +1466,7 @@ TK_HINTED uint64_t tk_power_of_ten(uint32_t digits)
 /* atoi_fast/src/in_range.rt:17 */
 TK_INLINE tk_option_u8 tk_number_in_range_u8(uint64_t most, bool minus, uint64_t magnitude)
 {
-    if (tk_u128_less(tk_u128_of(255), tk_u128_of(most))
-        && magnitude > tk_u128_low(tk_u128_of(255)) + TK_CAST(uint64_t, minus)) {
+    if (tk_u128_less(tk_u128_of(255), tk_u128_of(most)) && magnitude > tk_u128_low(tk_u128_of(255)) + tk_bit(minus)) {
         return tk_none_u8();
     }
     return tk_some_u8(tk_from_parts_u8(minus, tk_u128_of(magnitude)));
@@ -1468,7 +1476,7 @@ TK_INLINE tk_option_u8 tk_number_in_range_u8(uint64_t most, bool minus, uint64_t
 TK_INLINE tk_option_i16 tk_number_in_range_i16(uint64_t most, bool minus, uint64_t magnitude)
 {
     if (tk_u128_less(tk_u128_of(32767), tk_u128_of(most))
-        && magnitude > tk_u128_low(tk_u128_of(32767)) + TK_CAST(uint64_t, minus)) {
+        && magnitude > tk_u128_low(tk_u128_of(32767)) + tk_bit(minus)) {
         return tk_none_i16();
     }
     return tk_some_i16(tk_from_parts_i16(minus, tk_u128_of(magnitude)));
@@ -1478,7 +1486,7 @@ TK_INLINE tk_option_i16 tk_number_in_range_i16(uint64_t most, bool minus, uint64
 TK_INLINE tk_option_u16 tk_number_in_range_u16(uint64_t most, bool minus, uint64_t magnitude)
 {
     if (tk_u128_less(tk_u128_of(65535), tk_u128_of(most))
-        && magnitude > tk_u128_low(tk_u128_of(65535)) + TK_CAST(uint64_t, minus)) {
+        && magnitude > tk_u128_low(tk_u128_of(65535)) + tk_bit(minus)) {
         return tk_none_u16();
     }
     return tk_some_u16(tk_from_parts_u16(minus, tk_u128_of(magnitude)));
@@ -1488,7 +1496,7 @@ TK_INLINE tk_option_u16 tk_number_in_range_u16(uint64_t most, bool minus, uint64
 TK_INLINE tk_option_i32 tk_number_in_range_i32(uint64_t most, bool minus, uint64_t magnitude)
 {
     if (tk_u128_less(tk_u128_of(2147483647), tk_u128_of(most))
-        && magnitude > tk_u128_low(tk_u128_of(2147483647)) + TK_CAST(uint64_t, minus)) {
+        && magnitude > tk_u128_low(tk_u128_of(2147483647)) + tk_bit(minus)) {
         return tk_none_i32();
     }
     return tk_some_i32(tk_from_parts_i32(minus, tk_u128_of(magnitude)));
@@ -1498,7 +1506,7 @@ TK_INLINE tk_option_i32 tk_number_in_range_i32(uint64_t most, bool minus, uint64
 TK_INLINE tk_option_u32 tk_number_in_range_u32(uint64_t most, bool minus, uint64_t magnitude)
 {
     if (tk_u128_less(tk_u128_of(UINT64_C(4294967295)), tk_u128_of(most))
-        && magnitude > tk_u128_low(tk_u128_of(UINT64_C(4294967295))) + TK_CAST(uint64_t, minus)) {
+        && magnitude > tk_u128_low(tk_u128_of(UINT64_C(4294967295))) + tk_bit(minus)) {
         return tk_none_u32();
     }
     return tk_some_u32(tk_from_parts_u32(minus, tk_u128_of(magnitude)));
@@ -1508,7 +1516,7 @@ TK_INLINE tk_option_u32 tk_number_in_range_u32(uint64_t most, bool minus, uint64
 TK_INLINE tk_option_i64 tk_number_in_range_i64(uint64_t most, bool minus, uint64_t magnitude)
 {
     if (tk_u128_less(tk_u128_of(UINT64_C(9223372036854775807)), tk_u128_of(most))
-        && magnitude > tk_u128_low(tk_u128_of(UINT64_C(9223372036854775807))) + TK_CAST(uint64_t, minus)) {
+        && magnitude > tk_u128_low(tk_u128_of(UINT64_C(9223372036854775807))) + tk_bit(minus)) {
         return tk_none_i64();
     }
     return tk_some_i64(tk_from_parts_i64(minus, tk_u128_of(magnitude)));
@@ -1518,7 +1526,7 @@ TK_INLINE tk_option_i64 tk_number_in_range_i64(uint64_t most, bool minus, uint64
 TK_INLINE tk_option_u64 tk_number_in_range_u64(uint64_t most, bool minus, uint64_t magnitude)
 {
     if (tk_u128_less(tk_u128_of(UINT64_C(18446744073709551615)), tk_u128_of(most))
-        && magnitude > tk_u128_low(tk_u128_of(UINT64_C(18446744073709551615))) + TK_CAST(uint64_t, minus)) {
+        && magnitude > tk_u128_low(tk_u128_of(UINT64_C(18446744073709551615))) + tk_bit(minus)) {
         return tk_none_u64();
     }
     return tk_some_u64(tk_from_parts_u64(minus, tk_u128_of(magnitude)));
@@ -1529,7 +1537,7 @@ TK_INLINE tk_option_i128 tk_number_in_range_i128(uint64_t most, bool minus, uint
 {
     if (tk_u128_less(tk_u128_make(UINT64_C(9223372036854775807), UINT64_C(18446744073709551615)), tk_u128_of(most))
         && magnitude > tk_u128_low(tk_u128_make(UINT64_C(9223372036854775807),
-                                                UINT64_C(18446744073709551615))) + TK_CAST(uint64_t, minus)) {
+                                                UINT64_C(18446744073709551615))) + tk_bit(minus)) {
         return tk_none_i128();
     }
     return tk_some_i128(tk_from_parts_i128(minus, tk_u128_of(magnitude)));
@@ -1540,7 +1548,7 @@ TK_INLINE tk_option_u128 tk_number_in_range_u128(uint64_t most, bool minus, uint
 {
     if (tk_u128_less(tk_u128_make(UINT64_C(18446744073709551615), UINT64_C(18446744073709551615)), tk_u128_of(most))
         && magnitude > tk_u128_low(tk_u128_make(UINT64_C(18446744073709551615),
-                                                UINT64_C(18446744073709551615))) + TK_CAST(uint64_t, minus)) {
+                                                UINT64_C(18446744073709551615))) + tk_bit(minus)) {
         return tk_none_u128();
     }
     return tk_some_u128(tk_from_parts_u128(minus, tk_u128_of(magnitude)));
@@ -1614,7 +1622,7 @@ TK_INLINE tk_option_pair_i64_size tk_prefix_of_words_i64(tk_bytes s)
     }
     bool minus = true & (tk_lowest_byte(word) == '-');
     /* The digit of a `-` is 0, and takes the borrow back. */
-    uint64_t digits = below + 3 * TK_CAST(uint64_t, minus);
+    uint64_t digits = below + 3 * tk_bit(minus);
     if (tk_lowest_byte(digits) > 9) {
         return tk_none_pair_i64_size();
     }
@@ -1670,7 +1678,7 @@ TK_INLINE tk_option_pair_u64_size tk_prefix_of_words_u64(tk_bytes s)
     }
     bool minus = false & (tk_lowest_byte(word) == '-');
     /* The digit of a `-` is 0, and takes the borrow back. */
-    uint64_t digits = below + 3 * TK_CAST(uint64_t, minus);
+    uint64_t digits = below + 3 * tk_bit(minus);
     if (tk_lowest_byte(digits) > 9) {
         return tk_none_pair_u64_size();
     }
@@ -1725,7 +1733,7 @@ TK_INLINE tk_option_pair_i8_size tk_prefix_of_words_i8(tk_bytes s)
     }
     bool minus = true & (tk_lowest_byte(word) == '-');
     /* The digit of a `-` is 0, and takes the borrow back. */
-    uint64_t digits = below + 3 * TK_CAST(uint64_t, minus);
+    uint64_t digits = below + 3 * tk_bit(minus);
     if (tk_lowest_byte(digits) > 9) {
         return tk_none_pair_i8_size();
     }
@@ -1816,7 +1824,7 @@ TK_INLINE tk_option_pair_u8_size tk_prefix_of_words_u8(tk_bytes s)
     }
     bool minus = false & (tk_lowest_byte(word) == '-');
     /* The digit of a `-` is 0, and takes the borrow back. */
-    uint64_t digits = below + 3 * TK_CAST(uint64_t, minus);
+    uint64_t digits = below + 3 * tk_bit(minus);
     if (tk_lowest_byte(digits) > 9) {
         return tk_none_pair_u8_size();
     }
@@ -1902,7 +1910,7 @@ TK_INLINE tk_option_pair_i16_size tk_prefix_of_words_i16(tk_bytes s)
     }
     bool minus = true & (tk_lowest_byte(word) == '-');
     /* The digit of a `-` is 0, and takes the borrow back. */
-    uint64_t digits = below + 3 * TK_CAST(uint64_t, minus);
+    uint64_t digits = below + 3 * tk_bit(minus);
     if (tk_lowest_byte(digits) > 9) {
         return tk_none_pair_i16_size();
     }
@@ -1988,7 +1996,7 @@ TK_INLINE tk_option_pair_u16_size tk_prefix_of_words_u16(tk_bytes s)
     }
     bool minus = false & (tk_lowest_byte(word) == '-');
     /* The digit of a `-` is 0, and takes the borrow back. */
-    uint64_t digits = below + 3 * TK_CAST(uint64_t, minus);
+    uint64_t digits = below + 3 * tk_bit(minus);
     if (tk_lowest_byte(digits) > 9) {
         return tk_none_pair_u16_size();
     }
@@ -2074,7 +2082,7 @@ TK_INLINE tk_option_pair_i32_size tk_prefix_of_words_i32(tk_bytes s)
     }
     bool minus = true & (tk_lowest_byte(word) == '-');
     /* The digit of a `-` is 0, and takes the borrow back. */
-    uint64_t digits = below + 3 * TK_CAST(uint64_t, minus);
+    uint64_t digits = below + 3 * tk_bit(minus);
     if (tk_lowest_byte(digits) > 9) {
         return tk_none_pair_i32_size();
     }
@@ -2160,7 +2168,7 @@ TK_INLINE tk_option_pair_u32_size tk_prefix_of_words_u32(tk_bytes s)
     }
     bool minus = false & (tk_lowest_byte(word) == '-');
     /* The digit of a `-` is 0, and takes the borrow back. */
-    uint64_t digits = below + 3 * TK_CAST(uint64_t, minus);
+    uint64_t digits = below + 3 * tk_bit(minus);
     if (tk_lowest_byte(digits) > 9) {
         return tk_none_pair_u32_size();
     }
@@ -2308,7 +2316,7 @@ TK_INLINE tk_option_pair_i128_size tk_prefix_of_words_i128(tk_bytes s)
     }
     bool minus = true & (tk_lowest_byte(word) == '-');
     /* The digit of a `-` is 0, and takes the borrow back. */
-    uint64_t digits = below + 3 * TK_CAST(uint64_t, minus);
+    uint64_t digits = below + 3 * tk_bit(minus);
     if (tk_lowest_byte(digits) > 9) {
         return tk_none_pair_i128_size();
     }
@@ -2394,7 +2402,7 @@ TK_INLINE tk_option_pair_u128_size tk_prefix_of_words_u128(tk_bytes s)
     }
     bool minus = false & (tk_lowest_byte(word) == '-');
     /* The digit of a `-` is 0, and takes the borrow back. */
-    uint64_t digits = below + 3 * TK_CAST(uint64_t, minus);
+    uint64_t digits = below + 3 * tk_bit(minus);
     if (tk_lowest_byte(digits) > 9) {
         return tk_none_pair_u128_size();
     }
@@ -2911,7 +2919,13 @@ TK_INLINE tk_bytes tk_text(const char *text, size_t length) TORKETTLE_NOEXCEPT
  */
 static inline torkettle_status torkettle_refusal(torkettle_status status) TORKETTLE_NOEXCEPT
 {
+#if defined __GNUC__ || defined __clang__
+    if (status == TORKETTLE_OK)
+        __builtin_unreachable();
+    return status;
+#else
     return status == TORKETTLE_OK ? TORKETTLE_EMPTY : status;
+#endif
 }
 
 /* How many bytes of a text are fields: none if the separator is a digit, `+` or `-`, and so no field is found. */

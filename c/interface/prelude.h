@@ -70,6 +70,16 @@ TK_INLINE const uint8_t *tk_either_at(bool is_first, const uint8_t *first, const
 #endif
 }
 
+/* 1 or 0. As gcc 12 would set only a byte of a register, the processor would wait for what was last in it. */
+TK_INLINE uint64_t tk_bit(bool is_set)
+{
+    uint64_t one = 1;
+#if defined __GNUC__ && !defined __clang__
+    __asm__("" : "+r"(one));
+#endif
+    return is_set ? one : 0;
+}
+
 /* An index of so many elements. */
 TK_CONSTEXPR size_t tk_index(size_t index, size_t len)
 {

@@ -301,7 +301,13 @@ TK_INLINE tk_bytes tk_text(const char *text, size_t length) TORKETTLE_NOEXCEPT
  */
 static inline torkettle_status torkettle_refusal(torkettle_status status) TORKETTLE_NOEXCEPT
 {
+#if defined __GNUC__ || defined __clang__
+    if (status == TORKETTLE_OK)
+        __builtin_unreachable();
+    return status;
+#else
     return status == TORKETTLE_OK ? TORKETTLE_EMPTY : status;
+#endif
 }
 
 /* How many bytes of a text are fields: none if the separator is a digit, `+` or `-`, and so no field is found. */

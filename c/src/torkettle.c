@@ -1579,7 +1579,7 @@ TK_INLINE tk_option_i8 tk_short_slice_i8(tk_bytes s)
 {
     bool minus = true & (s.at[tk_index(0, s.len)] == '-');
     /* A `-` that is flipped once more is the digit 0, without a branch. */
-    uint64_t flipped = tk_load_flipped(s) ^ (tk_factor_of(s.len) * (0x1D * TK_CAST(uint64_t, minus)));
+    uint64_t flipped = tk_load_flipped(s) ^ (tk_factor_of(s.len) * (0x1D * tk_bit(minus)));
     if (tk_leading_digits_flipped(flipped) != 8) {
         return tk_none_i8();
     }
@@ -1613,7 +1613,7 @@ TK_INLINE tk_option_i8 tk_slice_of_two_words_i8(tk_bytes s)
     uint64_t word = tk_load_full(s);
     bool minus = true & (s.at[tk_index(0, s.len)] == '-');
     /* A `-` plus 3 is a `0`. */
-    uint64_t first = word + 3 * TK_CAST(uint64_t, minus);
+    uint64_t first = word + 3 * tk_bit(minus);
     uint64_t last = tk_load_last(s);
     if (tk_leading_digits(first) != 8 || tk_leading_digits(last) != 8) {
         return tk_none_i8();
@@ -1641,7 +1641,7 @@ TK_INLINE tk_option_u8 tk_short_slice_u8(tk_bytes s)
 {
     bool minus = false & (s.at[tk_index(0, s.len)] == '-');
     /* A `-` that is flipped once more is the digit 0, without a branch. */
-    uint64_t flipped = tk_load_flipped(s) ^ (tk_factor_of(s.len) * (0x1D * TK_CAST(uint64_t, minus)));
+    uint64_t flipped = tk_load_flipped(s) ^ (tk_factor_of(s.len) * (0x1D * tk_bit(minus)));
     if (tk_leading_digits_flipped(flipped) != 8) {
         return tk_none_u8();
     }
@@ -1654,7 +1654,7 @@ TK_INLINE tk_option_u8 tk_slice_of_two_words_u8(tk_bytes s)
     uint64_t word = tk_load_full(s);
     bool minus = false & (s.at[tk_index(0, s.len)] == '-');
     /* A `-` plus 3 is a `0`. */
-    uint64_t first = word + 3 * TK_CAST(uint64_t, minus);
+    uint64_t first = word + 3 * tk_bit(minus);
     uint64_t last = tk_load_last(s);
     if (tk_leading_digits(first) != 8 || tk_leading_digits(last) != 8) {
         return tk_none_u8();
@@ -1681,7 +1681,7 @@ TK_INLINE tk_option_i16 tk_short_slice_i16(tk_bytes s)
 {
     bool minus = true & (s.at[tk_index(0, s.len)] == '-');
     /* A `-` that is flipped once more is the digit 0, without a branch. */
-    uint64_t flipped = tk_load_flipped(s) ^ (tk_factor_of(s.len) * (0x1D * TK_CAST(uint64_t, minus)));
+    uint64_t flipped = tk_load_flipped(s) ^ (tk_factor_of(s.len) * (0x1D * tk_bit(minus)));
     if (tk_leading_digits_flipped(flipped) != 8) {
         return tk_none_i16();
     }
@@ -1694,7 +1694,7 @@ TK_INLINE tk_option_i16 tk_slice_of_two_words_i16(tk_bytes s)
     uint64_t word = tk_load_full(s);
     bool minus = true & (s.at[tk_index(0, s.len)] == '-');
     /* A `-` plus 3 is a `0`. */
-    uint64_t first = word + 3 * TK_CAST(uint64_t, minus);
+    uint64_t first = word + 3 * tk_bit(minus);
     uint64_t last = tk_load_last(s);
     if (tk_leading_digits(first) != 8 || tk_leading_digits(last) != 8) {
         return tk_none_i16();
@@ -1721,7 +1721,7 @@ TK_INLINE tk_option_u16 tk_short_slice_u16(tk_bytes s)
 {
     bool minus = false & (s.at[tk_index(0, s.len)] == '-');
     /* A `-` that is flipped once more is the digit 0, without a branch. */
-    uint64_t flipped = tk_load_flipped(s) ^ (tk_factor_of(s.len) * (0x1D * TK_CAST(uint64_t, minus)));
+    uint64_t flipped = tk_load_flipped(s) ^ (tk_factor_of(s.len) * (0x1D * tk_bit(minus)));
     if (tk_leading_digits_flipped(flipped) != 8) {
         return tk_none_u16();
     }
@@ -1734,7 +1734,7 @@ TK_INLINE tk_option_u16 tk_slice_of_two_words_u16(tk_bytes s)
     uint64_t word = tk_load_full(s);
     bool minus = false & (s.at[tk_index(0, s.len)] == '-');
     /* A `-` plus 3 is a `0`. */
-    uint64_t first = word + 3 * TK_CAST(uint64_t, minus);
+    uint64_t first = word + 3 * tk_bit(minus);
     uint64_t last = tk_load_last(s);
     if (tk_leading_digits(first) != 8 || tk_leading_digits(last) != 8) {
         return tk_none_u16();
@@ -1761,7 +1761,7 @@ TK_INLINE tk_option_i32 tk_short_slice_i32(tk_bytes s)
 {
     bool minus = true & (s.at[tk_index(0, s.len)] == '-');
     /* A `-` that is flipped once more is the digit 0, without a branch. */
-    uint64_t flipped = tk_load_flipped(s) ^ (tk_factor_of(s.len) * (0x1D * TK_CAST(uint64_t, minus)));
+    uint64_t flipped = tk_load_flipped(s) ^ (tk_factor_of(s.len) * (0x1D * tk_bit(minus)));
     if (tk_leading_digits_flipped(flipped) != 8) {
         return tk_none_i32();
     }
@@ -1774,7 +1774,7 @@ TK_INLINE tk_option_i32 tk_slice_of_two_words_i32(tk_bytes s)
     uint64_t word = tk_load_full(s);
     bool minus = true & (s.at[tk_index(0, s.len)] == '-');
     /* A `-` plus 3 is a `0`. */
-    uint64_t first = word + 3 * TK_CAST(uint64_t, minus);
+    uint64_t first = word + 3 * tk_bit(minus);
     uint64_t last = tk_load_last(s);
     if (tk_leading_digits(first) != 8 || tk_leading_digits(last) != 8) {
         return tk_none_i32();
@@ -1801,7 +1801,7 @@ TK_INLINE tk_option_u32 tk_short_slice_u32(tk_bytes s)
 {
     bool minus = false & (s.at[tk_index(0, s.len)] == '-');
     /* A `-` that is flipped once more is the digit 0, without a branch. */
-    uint64_t flipped = tk_load_flipped(s) ^ (tk_factor_of(s.len) * (0x1D * TK_CAST(uint64_t, minus)));
+    uint64_t flipped = tk_load_flipped(s) ^ (tk_factor_of(s.len) * (0x1D * tk_bit(minus)));
     if (tk_leading_digits_flipped(flipped) != 8) {
         return tk_none_u32();
     }
@@ -1814,7 +1814,7 @@ TK_INLINE tk_option_u32 tk_slice_of_two_words_u32(tk_bytes s)
     uint64_t word = tk_load_full(s);
     bool minus = false & (s.at[tk_index(0, s.len)] == '-');
     /* A `-` plus 3 is a `0`. */
-    uint64_t first = word + 3 * TK_CAST(uint64_t, minus);
+    uint64_t first = word + 3 * tk_bit(minus);
     uint64_t last = tk_load_last(s);
     if (tk_leading_digits(first) != 8 || tk_leading_digits(last) != 8) {
         return tk_none_u32();
@@ -1841,7 +1841,7 @@ TK_INLINE tk_option_i64 tk_short_slice_i64(tk_bytes s)
 {
     bool minus = true & (s.at[tk_index(0, s.len)] == '-');
     /* A `-` that is flipped once more is the digit 0, without a branch. */
-    uint64_t flipped = tk_load_flipped(s) ^ (tk_factor_of(s.len) * (0x1D * TK_CAST(uint64_t, minus)));
+    uint64_t flipped = tk_load_flipped(s) ^ (tk_factor_of(s.len) * (0x1D * tk_bit(minus)));
     if (tk_leading_digits_flipped(flipped) != 8) {
         return tk_none_i64();
     }
@@ -1854,7 +1854,7 @@ TK_INLINE tk_option_i64 tk_slice_of_two_words_i64(tk_bytes s)
     uint64_t word = tk_load_full(s);
     bool minus = true & (s.at[tk_index(0, s.len)] == '-');
     /* A `-` plus 3 is a `0`. */
-    uint64_t first = word + 3 * TK_CAST(uint64_t, minus);
+    uint64_t first = word + 3 * tk_bit(minus);
     uint64_t last = tk_load_last(s);
     if (tk_leading_digits(first) != 8 || tk_leading_digits(last) != 8) {
         return tk_none_i64();
@@ -1881,7 +1881,7 @@ TK_INLINE tk_option_u64 tk_short_slice_u64(tk_bytes s)
 {
     bool minus = false & (s.at[tk_index(0, s.len)] == '-');
     /* A `-` that is flipped once more is the digit 0, without a branch. */
-    uint64_t flipped = tk_load_flipped(s) ^ (tk_factor_of(s.len) * (0x1D * TK_CAST(uint64_t, minus)));
+    uint64_t flipped = tk_load_flipped(s) ^ (tk_factor_of(s.len) * (0x1D * tk_bit(minus)));
     if (tk_leading_digits_flipped(flipped) != 8) {
         return tk_none_u64();
     }
@@ -1894,7 +1894,7 @@ TK_INLINE tk_option_u64 tk_slice_of_two_words_u64(tk_bytes s)
     uint64_t word = tk_load_full(s);
     bool minus = false & (s.at[tk_index(0, s.len)] == '-');
     /* A `-` plus 3 is a `0`. */
-    uint64_t first = word + 3 * TK_CAST(uint64_t, minus);
+    uint64_t first = word + 3 * tk_bit(minus);
     uint64_t last = tk_load_last(s);
     if (tk_leading_digits(first) != 8 || tk_leading_digits(last) != 8) {
         return tk_none_u64();
@@ -1921,7 +1921,7 @@ TK_INLINE tk_option_i128 tk_short_slice_i128(tk_bytes s)
 {
     bool minus = true & (s.at[tk_index(0, s.len)] == '-');
     /* A `-` that is flipped once more is the digit 0, without a branch. */
-    uint64_t flipped = tk_load_flipped(s) ^ (tk_factor_of(s.len) * (0x1D * TK_CAST(uint64_t, minus)));
+    uint64_t flipped = tk_load_flipped(s) ^ (tk_factor_of(s.len) * (0x1D * tk_bit(minus)));
     if (tk_leading_digits_flipped(flipped) != 8) {
         return tk_none_i128();
     }
@@ -1934,7 +1934,7 @@ TK_INLINE tk_option_i128 tk_slice_of_two_words_i128(tk_bytes s)
     uint64_t word = tk_load_full(s);
     bool minus = true & (s.at[tk_index(0, s.len)] == '-');
     /* A `-` plus 3 is a `0`. */
-    uint64_t first = word + 3 * TK_CAST(uint64_t, minus);
+    uint64_t first = word + 3 * tk_bit(minus);
     uint64_t last = tk_load_last(s);
     if (tk_leading_digits(first) != 8 || tk_leading_digits(last) != 8) {
         return tk_none_i128();
@@ -1961,7 +1961,7 @@ TK_INLINE tk_option_u128 tk_short_slice_u128(tk_bytes s)
 {
     bool minus = false & (s.at[tk_index(0, s.len)] == '-');
     /* A `-` that is flipped once more is the digit 0, without a branch. */
-    uint64_t flipped = tk_load_flipped(s) ^ (tk_factor_of(s.len) * (0x1D * TK_CAST(uint64_t, minus)));
+    uint64_t flipped = tk_load_flipped(s) ^ (tk_factor_of(s.len) * (0x1D * tk_bit(minus)));
     if (tk_leading_digits_flipped(flipped) != 8) {
         return tk_none_u128();
     }
@@ -1974,7 +1974,7 @@ TK_INLINE tk_option_u128 tk_slice_of_two_words_u128(tk_bytes s)
     uint64_t word = tk_load_full(s);
     bool minus = false & (s.at[tk_index(0, s.len)] == '-');
     /* A `-` plus 3 is a `0`. */
-    uint64_t first = word + 3 * TK_CAST(uint64_t, minus);
+    uint64_t first = word + 3 * tk_bit(minus);
     uint64_t last = tk_load_last(s);
     if (tk_leading_digits(first) != 8 || tk_leading_digits(last) != 8) {
         return tk_none_u128();
@@ -2284,7 +2284,7 @@ TK_INLINE tk_window tk_window_9_to_15(tk_bytes s)
 }
 
 /* atoi_fast/src/swar.rt:29 */
-TK_INLINE tk_window tk_swar_window(tk_bytes s)
+TK_NOINLINE tk_window tk_swar_window(tk_bytes s)
 {
     /* Long slices first: rustc 1.95 then puts no jump before them. */
     if (s.len >= 16) {
@@ -2380,7 +2380,7 @@ TK_HINTED uint32_t tk_limit_64(bool is_signed)
 }
 
 /* atoi_fast/src/swar.rt:123 */
-TK_INLINE tk_window tk_swar_without_parsers_window(tk_bytes s)
+TK_NOINLINE tk_window tk_swar_without_parsers_window(tk_bytes s)
 {
     return tk_swar_window(s);
 }

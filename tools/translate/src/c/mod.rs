@@ -61,13 +61,14 @@ const CONSTANT: [&str; 2] = ["prefix_by_digits", "whole_by_digits"];
 const FAR: [&str; 1] = ["prefix_of_three_words"];
 
 /// What C calls where Rust inlines it: long functions that few numbers need. Each type would have a copy.
-const CALLED: [(&str, &str); 7] = [
+const CALLED: [(&str, &str); 8] = [
     ("atoi_core", "narrow_prefix"),
     ("atoi_core", "whole_64"),
     ("atoi_core", "whole_128"),
     ("atoi_fast", "loaded_slice"),
     ("atoi_fast", "prefix_64"),
     ("atoi_fast", "prefix_128"),
+    ("atoi_fast", "window"),
     ("atoi_simd", "atoi_simd_parse_prefix"),
 ];
 

@@ -195,6 +195,7 @@ fn cast(printer: &Printer, inner: &Term, text: &Text, of: &Type) -> Done<Text> {
     let Some(from) = inner.of.integer() else {
         return match (&inner.of, to.bits) {
             (Type::Boolean, 128) => Ok(Text::atom(format!("tk_{name}_of({value})"))),
+            (Type::Boolean, 64) if name == "u64" => Ok(Text::atom(format!("tk_bit({value})"))),
             (Type::Boolean, _) => Ok(cast_to(to, text)),
             _ => Err(refuse(printer, inner, "a cast of this type")),
         };
