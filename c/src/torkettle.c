@@ -4382,11 +4382,28 @@ TK_INLINE tk_result_u128 tk_atoi_simd_parse_pos_u128(tk_bytes s, bool skip)
     return tk_called_whole_pos_u128(skip, s);
 }
 
-/* `prefix_of_words`, which counts its load. */
+/* atoi_fast/src/short_prefix.rt:136 */
+TK_INLINE tk_option_pair_i8_size tk_unsigned_prefix_i8(tk_bytes s)
+{
+    uint64_t word = tk_load_full(s);
+    uint32_t len = tk_leading_digits(word);
+    if (len == 0 || len == 8) {
+        return tk_none_pair_i8_size();
+    }
+    uint64_t magnitude = tk_value_by_product(word - TK_ZEROS, len);
+    tk_option_i8 number_found = tk_number_in_range_i8(TK_MOST_IN_WORD, false, magnitude);
+    if (!number_found.is_some) {
+        return tk_none_pair_i8_size();
+    }
+    int8_t number = number_found.value;
+    return tk_some_pair_i8_size(tk_new_pair_i8_size(number, TK_CAST(size_t, len)));
+}
+
+/* `unsigned_prefix`, which counts its load. */
 /* atoi_fast/src/short_prefix.rt:32 */
 TK_INLINE tk_option_pair_i8_size tk_loaded_prefix_i8(tk_bytes s)
 {
-    return tk_prefix_of_words_i8(s);
+    return tk_unsigned_prefix_i8(s);
 }
 
 /*
@@ -4422,7 +4439,7 @@ TK_INLINE tk_result_pair_i8_size tk_atoi_simd_parse_prefix_pos_i8(tk_bytes s, bo
 /* atoi_fast/src/short_prefix.rt:32 */
 TK_INLINE tk_option_pair_u8_size tk_loaded_prefix_u8(tk_bytes s)
 {
-    return tk_prefix_of_words_u8(s);
+    return tk_unsigned_prefix_u8(s);
 }
 
 /* atoi_core/src/calls.rt:102 */
@@ -4450,10 +4467,27 @@ TK_INLINE tk_result_pair_u8_size tk_atoi_simd_parse_prefix_pos_u8(tk_bytes s, bo
     return tk_called_prefix_pos_u8(skip, s);
 }
 
+/* atoi_fast/src/short_prefix.rt:136 */
+TK_INLINE tk_option_pair_i16_size tk_unsigned_prefix_i16(tk_bytes s)
+{
+    uint64_t word = tk_load_full(s);
+    uint32_t len = tk_leading_digits(word);
+    if (len == 0 || len == 8) {
+        return tk_none_pair_i16_size();
+    }
+    uint64_t magnitude = tk_value_by_product(word - TK_ZEROS, len);
+    tk_option_i16 number_found = tk_number_in_range_i16(TK_MOST_IN_WORD, false, magnitude);
+    if (!number_found.is_some) {
+        return tk_none_pair_i16_size();
+    }
+    int16_t number = number_found.value;
+    return tk_some_pair_i16_size(tk_new_pair_i16_size(number, TK_CAST(size_t, len)));
+}
+
 /* atoi_fast/src/short_prefix.rt:32 */
 TK_INLINE tk_option_pair_i16_size tk_loaded_prefix_i16(tk_bytes s)
 {
-    return tk_prefix_of_words_i16(s);
+    return tk_unsigned_prefix_i16(s);
 }
 
 /* atoi_core/src/calls.rt:102 */
@@ -4484,7 +4518,7 @@ TK_INLINE tk_result_pair_i16_size tk_atoi_simd_parse_prefix_pos_i16(tk_bytes s, 
 /* atoi_fast/src/short_prefix.rt:32 */
 TK_INLINE tk_option_pair_u16_size tk_loaded_prefix_u16(tk_bytes s)
 {
-    return tk_prefix_of_words_u16(s);
+    return tk_unsigned_prefix_u16(s);
 }
 
 /* atoi_core/src/calls.rt:102 */
@@ -4512,10 +4546,27 @@ TK_INLINE tk_result_pair_u16_size tk_atoi_simd_parse_prefix_pos_u16(tk_bytes s, 
     return tk_called_prefix_pos_u16(skip, s);
 }
 
+/* atoi_fast/src/short_prefix.rt:136 */
+TK_INLINE tk_option_pair_i32_size tk_unsigned_prefix_i32(tk_bytes s)
+{
+    uint64_t word = tk_load_full(s);
+    uint32_t len = tk_leading_digits(word);
+    if (len == 0 || len == 8) {
+        return tk_none_pair_i32_size();
+    }
+    uint64_t magnitude = tk_value_by_product(word - TK_ZEROS, len);
+    tk_option_i32 number_found = tk_number_in_range_i32(TK_MOST_IN_WORD, false, magnitude);
+    if (!number_found.is_some) {
+        return tk_none_pair_i32_size();
+    }
+    int32_t number = number_found.value;
+    return tk_some_pair_i32_size(tk_new_pair_i32_size(number, TK_CAST(size_t, len)));
+}
+
 /* atoi_fast/src/short_prefix.rt:32 */
 TK_INLINE tk_option_pair_i32_size tk_loaded_prefix_i32(tk_bytes s)
 {
-    return tk_prefix_of_words_i32(s);
+    return tk_unsigned_prefix_i32(s);
 }
 
 /* atoi_core/src/calls.rt:102 */
@@ -4546,7 +4597,7 @@ TK_INLINE tk_result_pair_i32_size tk_atoi_simd_parse_prefix_pos_i32(tk_bytes s, 
 /* atoi_fast/src/short_prefix.rt:32 */
 TK_INLINE tk_option_pair_u32_size tk_loaded_prefix_u32(tk_bytes s)
 {
-    return tk_prefix_of_words_u32(s);
+    return tk_unsigned_prefix_u32(s);
 }
 
 /* atoi_core/src/calls.rt:102 */
@@ -4574,10 +4625,27 @@ TK_INLINE tk_result_pair_u32_size tk_atoi_simd_parse_prefix_pos_u32(tk_bytes s, 
     return tk_called_prefix_pos_u32(skip, s);
 }
 
+/* atoi_fast/src/short_prefix.rt:136 */
+TK_INLINE tk_option_pair_i64_size tk_unsigned_prefix_i64(tk_bytes s)
+{
+    uint64_t word = tk_load_full(s);
+    uint32_t len = tk_leading_digits(word);
+    if (len == 0 || len == 8) {
+        return tk_none_pair_i64_size();
+    }
+    uint64_t magnitude = tk_value_by_product(word - TK_ZEROS, len);
+    tk_option_i64 number_found = tk_number_in_range_i64(TK_MOST_IN_WORD, false, magnitude);
+    if (!number_found.is_some) {
+        return tk_none_pair_i64_size();
+    }
+    int64_t number = number_found.value;
+    return tk_some_pair_i64_size(tk_new_pair_i64_size(number, TK_CAST(size_t, len)));
+}
+
 /* atoi_fast/src/short_prefix.rt:32 */
 TK_INLINE tk_option_pair_i64_size tk_loaded_prefix_i64(tk_bytes s)
 {
-    return tk_prefix_of_words_i64(s);
+    return tk_unsigned_prefix_i64(s);
 }
 
 /* atoi_core/src/calls.rt:102 */
@@ -4608,7 +4676,7 @@ TK_INLINE tk_result_pair_i64_size tk_atoi_simd_parse_prefix_pos_i64(tk_bytes s, 
 /* atoi_fast/src/short_prefix.rt:32 */
 TK_INLINE tk_option_pair_u64_size tk_loaded_prefix_u64(tk_bytes s)
 {
-    return tk_prefix_of_words_u64(s);
+    return tk_unsigned_prefix_u64(s);
 }
 
 /* atoi_core/src/calls.rt:102 */
@@ -4636,10 +4704,27 @@ TK_INLINE tk_result_pair_u64_size tk_atoi_simd_parse_prefix_pos_u64(tk_bytes s, 
     return tk_called_prefix_pos_u64(skip, s);
 }
 
+/* atoi_fast/src/short_prefix.rt:136 */
+TK_INLINE tk_option_pair_i128_size tk_unsigned_prefix_i128(tk_bytes s)
+{
+    uint64_t word = tk_load_full(s);
+    uint32_t len = tk_leading_digits(word);
+    if (len == 0 || len == 8) {
+        return tk_none_pair_i128_size();
+    }
+    uint64_t magnitude = tk_value_by_product(word - TK_ZEROS, len);
+    tk_option_i128 number_found = tk_number_in_range_i128(TK_MOST_IN_WORD, false, magnitude);
+    if (!number_found.is_some) {
+        return tk_none_pair_i128_size();
+    }
+    tk_i128 number = number_found.value;
+    return tk_some_pair_i128_size(tk_new_pair_i128_size(number, TK_CAST(size_t, len)));
+}
+
 /* atoi_fast/src/short_prefix.rt:32 */
 TK_INLINE tk_option_pair_i128_size tk_loaded_prefix_i128(tk_bytes s)
 {
-    return tk_prefix_of_words_i128(s);
+    return tk_unsigned_prefix_i128(s);
 }
 
 /* atoi_core/src/calls.rt:102 */
@@ -4670,7 +4755,7 @@ TK_INLINE tk_result_pair_i128_size tk_atoi_simd_parse_prefix_pos_i128(tk_bytes s
 /* atoi_fast/src/short_prefix.rt:32 */
 TK_INLINE tk_option_pair_u128_size tk_loaded_prefix_u128(tk_bytes s)
 {
-    return tk_prefix_of_words_u128(s);
+    return tk_unsigned_prefix_u128(s);
 }
 
 /* atoi_core/src/calls.rt:102 */

@@ -27,7 +27,7 @@ pub(crate) fn short_prefix<T: Number>(s: &[u8], steps: &mut Steps) -> Option<(T,
     }
 }
 
-/// `prefix_of_words`, which counts its load.
+/// `unsigned_prefix`, which counts its load.
 #[inline(always)]
 pub(crate) fn loaded_prefix<T: Number>(s: &[u8], steps: &mut Steps) -> Option<(T, usize)>
     // requires { 16 ≤ length s.now }
@@ -36,7 +36,7 @@ pub(crate) fn loaded_prefix<T: Number>(s: &[u8], steps: &mut Steps) -> Option<(T
     // ensures one_step { steps.new ≡ steps.old + 1 }
 {
     steps.tick();
-    prefix_of_words(s)
+    unsigned_prefix(s)
 }
 
 /// Returns the number at the start of `s` and its length, if that is below 16 or, for `i64` and `u64`, at most 19
