@@ -1623,7 +1623,7 @@ TK_INLINE tk_option_i8 tk_slice_of_two_words_i8(tk_bytes s)
     return tk_number_in_range_i8(TK_MOST_IN_TWO_WORDS, minus, magnitude);
 }
 
-/* Returns the number of a slice of 2 to 15 bytes, if all are digits after at most a minus, which takes no branch. */
+/* Returns the number of a slice of 2 to 15 bytes, if all are digits after at most a minus, which needs no branch. */
 /* atoi_fast/src/quick.rt:25 */
 TK_INLINE tk_option_i8 tk_quick_slice_i8(tk_bytes s)
 {
