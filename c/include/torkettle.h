@@ -1202,10 +1202,10 @@ TK_CONSTEXPR tk_bytes tk_bytes_from(tk_bytes s, size_t low)
 
 #define TK_MOST_IN_WORD 1000000000
 
-TK_FAR tk_option_pair_i64_size tk_prefix_of_three_words_i64(bool minus, uint64_t high,
+TK_FAR tk_option_pair_i64_size tk_prefix_of_three_words_i64(bool minus, uint64_t high, uint64_t second,
                                                             tk_bytes s) TK_SYMBOL(tk_prefix_of_three_words_i64);
 
-TK_FAR tk_option_pair_u64_size tk_prefix_of_three_words_u64(bool minus, uint64_t high,
+TK_FAR tk_option_pair_u64_size tk_prefix_of_three_words_u64(bool minus, uint64_t high, uint64_t second,
                                                             tk_bytes s) TK_SYMBOL(tk_prefix_of_three_words_u64);
 
 /* atoi_core/src/number.rt:87 */
@@ -1423,7 +1423,7 @@ TK_HINTED uint64_t tk_sum_of(uint64_t digits)
  * Returns the number of this sign and magnitude, if the type has it. The magnitude is at most `most`, a
  * constant: a type that has all numbers up to it needs no other test.
  */
-/* atoi_fast/src/in_range.rt:17 */
+/* atoi_fast/src/in_range.rt:20 */
 TK_INLINE tk_option_i8 tk_number_in_range_i8(uint64_t most, bool minus, uint64_t magnitude)
 {
     if (tk_u128_less(tk_u128_of(127), tk_u128_of(most)) && magnitude > tk_u128_low(tk_u128_of(127)) + tk_bit(minus)) {
@@ -1463,7 +1463,7 @@ TK_HINTED uint64_t tk_power_of_ten(uint32_t digits)
     return tk_powers[tk_index(TK_CAST(size_t, digits), 17)];
 }
 
-/* atoi_fast/src/in_range.rt:17 */
+/* atoi_fast/src/in_range.rt:20 */
 TK_INLINE tk_option_u8 tk_number_in_range_u8(uint64_t most, bool minus, uint64_t magnitude)
 {
     if (tk_u128_less(tk_u128_of(255), tk_u128_of(most)) && magnitude > tk_u128_low(tk_u128_of(255)) + tk_bit(minus)) {
@@ -1472,7 +1472,7 @@ TK_INLINE tk_option_u8 tk_number_in_range_u8(uint64_t most, bool minus, uint64_t
     return tk_some_u8(tk_from_parts_u8(minus, tk_u128_of(magnitude)));
 }
 
-/* atoi_fast/src/in_range.rt:17 */
+/* atoi_fast/src/in_range.rt:20 */
 TK_INLINE tk_option_i16 tk_number_in_range_i16(uint64_t most, bool minus, uint64_t magnitude)
 {
     if (tk_u128_less(tk_u128_of(32767), tk_u128_of(most))
@@ -1482,7 +1482,7 @@ TK_INLINE tk_option_i16 tk_number_in_range_i16(uint64_t most, bool minus, uint64
     return tk_some_i16(tk_from_parts_i16(minus, tk_u128_of(magnitude)));
 }
 
-/* atoi_fast/src/in_range.rt:17 */
+/* atoi_fast/src/in_range.rt:20 */
 TK_INLINE tk_option_u16 tk_number_in_range_u16(uint64_t most, bool minus, uint64_t magnitude)
 {
     if (tk_u128_less(tk_u128_of(65535), tk_u128_of(most))
@@ -1492,7 +1492,7 @@ TK_INLINE tk_option_u16 tk_number_in_range_u16(uint64_t most, bool minus, uint64
     return tk_some_u16(tk_from_parts_u16(minus, tk_u128_of(magnitude)));
 }
 
-/* atoi_fast/src/in_range.rt:17 */
+/* atoi_fast/src/in_range.rt:20 */
 TK_INLINE tk_option_i32 tk_number_in_range_i32(uint64_t most, bool minus, uint64_t magnitude)
 {
     if (tk_u128_less(tk_u128_of(2147483647), tk_u128_of(most))
@@ -1502,7 +1502,7 @@ TK_INLINE tk_option_i32 tk_number_in_range_i32(uint64_t most, bool minus, uint64
     return tk_some_i32(tk_from_parts_i32(minus, tk_u128_of(magnitude)));
 }
 
-/* atoi_fast/src/in_range.rt:17 */
+/* atoi_fast/src/in_range.rt:20 */
 TK_INLINE tk_option_u32 tk_number_in_range_u32(uint64_t most, bool minus, uint64_t magnitude)
 {
     if (tk_u128_less(tk_u128_of(UINT64_C(4294967295)), tk_u128_of(most))
@@ -1512,7 +1512,7 @@ TK_INLINE tk_option_u32 tk_number_in_range_u32(uint64_t most, bool minus, uint64
     return tk_some_u32(tk_from_parts_u32(minus, tk_u128_of(magnitude)));
 }
 
-/* atoi_fast/src/in_range.rt:17 */
+/* atoi_fast/src/in_range.rt:20 */
 TK_INLINE tk_option_i64 tk_number_in_range_i64(uint64_t most, bool minus, uint64_t magnitude)
 {
     if (tk_u128_less(tk_u128_of(UINT64_C(9223372036854775807)), tk_u128_of(most))
@@ -1522,7 +1522,7 @@ TK_INLINE tk_option_i64 tk_number_in_range_i64(uint64_t most, bool minus, uint64
     return tk_some_i64(tk_from_parts_i64(minus, tk_u128_of(magnitude)));
 }
 
-/* atoi_fast/src/in_range.rt:17 */
+/* atoi_fast/src/in_range.rt:20 */
 TK_INLINE tk_option_u64 tk_number_in_range_u64(uint64_t most, bool minus, uint64_t magnitude)
 {
     if (tk_u128_less(tk_u128_of(UINT64_C(18446744073709551615)), tk_u128_of(most))
@@ -1532,7 +1532,7 @@ TK_INLINE tk_option_u64 tk_number_in_range_u64(uint64_t most, bool minus, uint64
     return tk_some_u64(tk_from_parts_u64(minus, tk_u128_of(magnitude)));
 }
 
-/* atoi_fast/src/in_range.rt:17 */
+/* atoi_fast/src/in_range.rt:20 */
 TK_INLINE tk_option_i128 tk_number_in_range_i128(uint64_t most, bool minus, uint64_t magnitude)
 {
     if (tk_u128_less(tk_u128_make(UINT64_C(9223372036854775807), UINT64_C(18446744073709551615)), tk_u128_of(most))
@@ -1543,7 +1543,7 @@ TK_INLINE tk_option_i128 tk_number_in_range_i128(uint64_t most, bool minus, uint
     return tk_some_i128(tk_from_parts_i128(minus, tk_u128_of(magnitude)));
 }
 
-/* atoi_fast/src/in_range.rt:17 */
+/* atoi_fast/src/in_range.rt:20 */
 TK_INLINE tk_option_u128 tk_number_in_range_u128(uint64_t most, bool minus, uint64_t magnitude)
 {
     if (tk_u128_less(tk_u128_make(UINT64_C(18446744073709551615), UINT64_C(18446744073709551615)), tk_u128_of(most))
@@ -1554,7 +1554,7 @@ TK_INLINE tk_option_u128 tk_number_in_range_u128(uint64_t most, bool minus, uint
     return tk_some_u128(tk_from_parts_u128(minus, tk_u128_of(magnitude)));
 }
 
-/* atoi_fast/src/short_prefix.rt:78 */
+/* atoi_fast/src/short_prefix.rt:79 */
 TK_HINTED uint8_t tk_lowest_byte(uint64_t word)
 {
     return TK_CAST(uint8_t, word & 0xFF);
@@ -1570,22 +1570,14 @@ TK_HINTED uint64_t tk_value_by_product(uint64_t digits, uint32_t len)
     return tk_sum_of_product(digits * tk_factors[tk_index(TK_CAST(size_t, len), 8)]);
 }
 
-/* Returns the magnitude of `T::MIN` if `minus` is set, otherwise `T::MAX`. */
-/* atoi_core/src/number.rt:71 */
-TK_CONSTEXPR tk_u128 tk_greatest_magnitude(tk_u128 greatest, bool minus)
-{
-    return tk_u128_add(greatest, tk_u128_of(minus));
-}
-
 /* The number of 8 to 15 bytes, of which the first eight spell `high`, with a zero for a minus. */
-/* atoi_fast/src/short_prefix.rt:86 */
+/* atoi_fast/src/short_prefix.rt:87 */
 TK_INLINE tk_option_pair_i64_size tk_prefix_of_two_words_i64(bool minus, uint64_t high, tk_bytes s)
 {
     uint64_t next = tk_load_full(tk_bytes_from(s, 8));
     uint32_t more = tk_leading_digits(next);
     if (more == 8) {
-        uint64_t high_2 = high * 100000000 + tk_sum_of(next - TK_ZEROS);
-        return tk_prefix_of_three_words_i64(minus, high_2, s);
+        return tk_prefix_of_three_words_i64(minus, high, next, s);
     }
     uint64_t low = tk_value_by_product(next - TK_ZEROS, more);
     uint64_t magnitude = high * tk_power_of_ten(more) + low;
@@ -1601,7 +1593,7 @@ TK_INLINE tk_option_pair_i64_size tk_prefix_of_two_words_i64(bool minus, uint64_
  * Returns the number at the start of `s` and its length, if that is below 16 or, for `i64` and `u64`, at most 19
  * digits. Others may be `None`, too.
  */
-/* atoi_fast/src/short_prefix.rt:45 */
+/* atoi_fast/src/short_prefix.rt:46 */
 TK_INLINE tk_option_pair_i64_size tk_prefix_of_words_i64(tk_bytes s)
 {
     uint64_t word = tk_load_full(s);
@@ -1638,14 +1630,13 @@ TK_INLINE tk_option_pair_i64_size tk_prefix_of_words_i64(tk_bytes s)
     return tk_some_pair_i64_size(tk_new_pair_i64_size(number, TK_CAST(size_t, len)));
 }
 
-/* atoi_fast/src/short_prefix.rt:86 */
+/* atoi_fast/src/short_prefix.rt:87 */
 TK_INLINE tk_option_pair_u64_size tk_prefix_of_two_words_u64(bool minus, uint64_t high, tk_bytes s)
 {
     uint64_t next = tk_load_full(tk_bytes_from(s, 8));
     uint32_t more = tk_leading_digits(next);
     if (more == 8) {
-        uint64_t high_2 = high * 100000000 + tk_sum_of(next - TK_ZEROS);
-        return tk_prefix_of_three_words_u64(minus, high_2, s);
+        return tk_prefix_of_three_words_u64(minus, high, next, s);
     }
     uint64_t low = tk_value_by_product(next - TK_ZEROS, more);
     uint64_t magnitude = high * tk_power_of_ten(more) + low;
@@ -1657,7 +1648,7 @@ TK_INLINE tk_option_pair_u64_size tk_prefix_of_two_words_u64(bool minus, uint64_
     return tk_some_pair_u64_size(tk_new_pair_u64_size(number, 8 + TK_CAST(size_t, more)));
 }
 
-/* atoi_fast/src/short_prefix.rt:45 */
+/* atoi_fast/src/short_prefix.rt:46 */
 TK_INLINE tk_option_pair_u64_size tk_prefix_of_words_u64(tk_bytes s)
 {
     uint64_t word = tk_load_full(s);
@@ -1694,7 +1685,7 @@ TK_INLINE tk_option_pair_u64_size tk_prefix_of_words_u64(tk_bytes s)
     return tk_some_pair_u64_size(tk_new_pair_u64_size(number, TK_CAST(size_t, len)));
 }
 
-/* atoi_fast/src/short_prefix.rt:86 */
+/* atoi_fast/src/short_prefix.rt:87 */
 TK_INLINE tk_option_pair_i8_size tk_prefix_of_two_words_i8(bool minus, uint64_t high, tk_bytes s)
 {
     uint64_t next = tk_load_full(tk_bytes_from(s, 8));
@@ -1712,7 +1703,7 @@ TK_INLINE tk_option_pair_i8_size tk_prefix_of_two_words_i8(bool minus, uint64_t 
     return tk_some_pair_i8_size(tk_new_pair_i8_size(number, 8 + TK_CAST(size_t, more)));
 }
 
-/* atoi_fast/src/short_prefix.rt:45 */
+/* atoi_fast/src/short_prefix.rt:46 */
 TK_INLINE tk_option_pair_i8_size tk_prefix_of_words_i8(tk_bytes s)
 {
     uint64_t word = tk_load_full(s);
@@ -1785,7 +1776,7 @@ TK_INLINE tk_option_pair_i8_size tk_quick_prefix_i8(tk_bytes s)
     return tk_digit_prefix_i8(s);
 }
 
-/* atoi_fast/src/short_prefix.rt:86 */
+/* atoi_fast/src/short_prefix.rt:87 */
 TK_INLINE tk_option_pair_u8_size tk_prefix_of_two_words_u8(bool minus, uint64_t high, tk_bytes s)
 {
     uint64_t next = tk_load_full(tk_bytes_from(s, 8));
@@ -1803,7 +1794,7 @@ TK_INLINE tk_option_pair_u8_size tk_prefix_of_two_words_u8(bool minus, uint64_t 
     return tk_some_pair_u8_size(tk_new_pair_u8_size(number, 8 + TK_CAST(size_t, more)));
 }
 
-/* atoi_fast/src/short_prefix.rt:45 */
+/* atoi_fast/src/short_prefix.rt:46 */
 TK_INLINE tk_option_pair_u8_size tk_prefix_of_words_u8(tk_bytes s)
 {
     uint64_t word = tk_load_full(s);
@@ -1871,7 +1862,7 @@ TK_INLINE tk_option_pair_u8_size tk_quick_prefix_u8(tk_bytes s)
     return tk_digit_prefix_u8(s);
 }
 
-/* atoi_fast/src/short_prefix.rt:86 */
+/* atoi_fast/src/short_prefix.rt:87 */
 TK_INLINE tk_option_pair_i16_size tk_prefix_of_two_words_i16(bool minus, uint64_t high, tk_bytes s)
 {
     uint64_t next = tk_load_full(tk_bytes_from(s, 8));
@@ -1889,7 +1880,7 @@ TK_INLINE tk_option_pair_i16_size tk_prefix_of_two_words_i16(bool minus, uint64_
     return tk_some_pair_i16_size(tk_new_pair_i16_size(number, 8 + TK_CAST(size_t, more)));
 }
 
-/* atoi_fast/src/short_prefix.rt:45 */
+/* atoi_fast/src/short_prefix.rt:46 */
 TK_INLINE tk_option_pair_i16_size tk_prefix_of_words_i16(tk_bytes s)
 {
     uint64_t word = tk_load_full(s);
@@ -1957,7 +1948,7 @@ TK_INLINE tk_option_pair_i16_size tk_quick_prefix_i16(tk_bytes s)
     return tk_digit_prefix_i16(s);
 }
 
-/* atoi_fast/src/short_prefix.rt:86 */
+/* atoi_fast/src/short_prefix.rt:87 */
 TK_INLINE tk_option_pair_u16_size tk_prefix_of_two_words_u16(bool minus, uint64_t high, tk_bytes s)
 {
     uint64_t next = tk_load_full(tk_bytes_from(s, 8));
@@ -1975,7 +1966,7 @@ TK_INLINE tk_option_pair_u16_size tk_prefix_of_two_words_u16(bool minus, uint64_
     return tk_some_pair_u16_size(tk_new_pair_u16_size(number, 8 + TK_CAST(size_t, more)));
 }
 
-/* atoi_fast/src/short_prefix.rt:45 */
+/* atoi_fast/src/short_prefix.rt:46 */
 TK_INLINE tk_option_pair_u16_size tk_prefix_of_words_u16(tk_bytes s)
 {
     uint64_t word = tk_load_full(s);
@@ -2043,7 +2034,7 @@ TK_INLINE tk_option_pair_u16_size tk_quick_prefix_u16(tk_bytes s)
     return tk_digit_prefix_u16(s);
 }
 
-/* atoi_fast/src/short_prefix.rt:86 */
+/* atoi_fast/src/short_prefix.rt:87 */
 TK_INLINE tk_option_pair_i32_size tk_prefix_of_two_words_i32(bool minus, uint64_t high, tk_bytes s)
 {
     uint64_t next = tk_load_full(tk_bytes_from(s, 8));
@@ -2061,7 +2052,7 @@ TK_INLINE tk_option_pair_i32_size tk_prefix_of_two_words_i32(bool minus, uint64_
     return tk_some_pair_i32_size(tk_new_pair_i32_size(number, 8 + TK_CAST(size_t, more)));
 }
 
-/* atoi_fast/src/short_prefix.rt:45 */
+/* atoi_fast/src/short_prefix.rt:46 */
 TK_INLINE tk_option_pair_i32_size tk_prefix_of_words_i32(tk_bytes s)
 {
     uint64_t word = tk_load_full(s);
@@ -2129,7 +2120,7 @@ TK_INLINE tk_option_pair_i32_size tk_quick_prefix_i32(tk_bytes s)
     return tk_digit_prefix_i32(s);
 }
 
-/* atoi_fast/src/short_prefix.rt:86 */
+/* atoi_fast/src/short_prefix.rt:87 */
 TK_INLINE tk_option_pair_u32_size tk_prefix_of_two_words_u32(bool minus, uint64_t high, tk_bytes s)
 {
     uint64_t next = tk_load_full(tk_bytes_from(s, 8));
@@ -2147,7 +2138,7 @@ TK_INLINE tk_option_pair_u32_size tk_prefix_of_two_words_u32(bool minus, uint64_
     return tk_some_pair_u32_size(tk_new_pair_u32_size(number, 8 + TK_CAST(size_t, more)));
 }
 
-/* atoi_fast/src/short_prefix.rt:45 */
+/* atoi_fast/src/short_prefix.rt:46 */
 TK_INLINE tk_option_pair_u32_size tk_prefix_of_words_u32(tk_bytes s)
 {
     uint64_t word = tk_load_full(s);
@@ -2277,7 +2268,7 @@ TK_INLINE tk_option_pair_u64_size tk_quick_prefix_u64(tk_bytes s)
     return tk_digit_prefix_u64(s);
 }
 
-/* atoi_fast/src/short_prefix.rt:86 */
+/* atoi_fast/src/short_prefix.rt:87 */
 TK_INLINE tk_option_pair_i128_size tk_prefix_of_two_words_i128(bool minus, uint64_t high, tk_bytes s)
 {
     uint64_t next = tk_load_full(tk_bytes_from(s, 8));
@@ -2295,7 +2286,7 @@ TK_INLINE tk_option_pair_i128_size tk_prefix_of_two_words_i128(bool minus, uint6
     return tk_some_pair_i128_size(tk_new_pair_i128_size(number, 8 + TK_CAST(size_t, more)));
 }
 
-/* atoi_fast/src/short_prefix.rt:45 */
+/* atoi_fast/src/short_prefix.rt:46 */
 TK_INLINE tk_option_pair_i128_size tk_prefix_of_words_i128(tk_bytes s)
 {
     uint64_t word = tk_load_full(s);
@@ -2363,7 +2354,7 @@ TK_INLINE tk_option_pair_i128_size tk_quick_prefix_i128(tk_bytes s)
     return tk_digit_prefix_i128(s);
 }
 
-/* atoi_fast/src/short_prefix.rt:86 */
+/* atoi_fast/src/short_prefix.rt:87 */
 TK_INLINE tk_option_pair_u128_size tk_prefix_of_two_words_u128(bool minus, uint64_t high, tk_bytes s)
 {
     uint64_t next = tk_load_full(tk_bytes_from(s, 8));
@@ -2381,7 +2372,7 @@ TK_INLINE tk_option_pair_u128_size tk_prefix_of_two_words_u128(bool minus, uint6
     return tk_some_pair_u128_size(tk_new_pair_u128_size(number, 8 + TK_CAST(size_t, more)));
 }
 
-/* atoi_fast/src/short_prefix.rt:45 */
+/* atoi_fast/src/short_prefix.rt:46 */
 TK_INLINE tk_option_pair_u128_size tk_prefix_of_words_u128(tk_bytes s)
 {
     uint64_t word = tk_load_full(s);
@@ -2465,6 +2456,13 @@ TK_CONSTEXPR tk_pair_bool_bytes tk_take_sign(bool signed_, bool skip_plus, tk_by
         return tk_new_pair_bool_bytes(true, body);
     }
     return tk_new_pair_bool_bytes(false, s);
+}
+
+/* Returns the magnitude of `T::MIN` if `minus` is set, otherwise `T::MAX`. */
+/* atoi_core/src/number.rt:71 */
+TK_CONSTEXPR tk_u128 tk_greatest_magnitude(tk_u128 greatest, bool minus)
+{
+    return tk_u128_add(greatest, tk_u128_of(minus));
 }
 
 /* Returns the value of the digits of `number` and one more digit, unless that is above `bound`. */

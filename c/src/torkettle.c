@@ -1376,6 +1376,8 @@ static const uint8_t tk_short[9][8] = {
 
 #define TK_FOUR_ZEROS 0x30303030
 
+#define TK_MOST_IN_THREE_WORDS UINT64_C(9999999999999999999)
+
 TK_CONSTEXPR tk_room_u8 tk_room_u8_between(tk_room_u8 s, size_t low, size_t high)
 {
     TORKETTLE_CHECK(low <= high && high <= s.len);
@@ -2059,32 +2061,37 @@ TK_INLINE uint64_t tk_load_from(tk_bytes s, size_t at)
     return 0;
 }
 
-/*
- * Returns the number of a row of digits that spells `high`, followed by at most 16 more `digits`
- * that spell `low`.
- */
-/* atoi_core/src/powers.rt:37 */
-TK_HINTED tk_u128 tk_append_digits(uint64_t high, uint32_t digits, uint64_t low)
+/* `value_by_product` for at most four bytes. */
+/* atoi_fast/src/digits.rt:157 */
+TK_HINTED uint64_t tk_four_by_product(uint64_t digits, uint32_t len)
 {
-    return tk_u128_add(tk_u128_mul(tk_u128_of(high), tk_u128_of(tk_power_of_ten(digits))), tk_u128_of(low));
+    uint64_t product = digits * tk_factors[tk_index(TK_CAST(size_t, len), 8)];
+    uint64_t tens = (product >> 8) & UINT64_C(0x00FF00FF00FF00FF);
+    return (tens * 0x640001) >> 48;
 }
 
-/* The number of 16 to 20 bytes, of which the first sixteen spell `high`, with a zero for a minus. */
-/* atoi_fast/src/short_prefix.rt:112 */
-TK_FAR tk_option_pair_i64_size tk_prefix_of_three_words_i64(bool minus, uint64_t high, tk_bytes s)
+/*
+ * The number of 16 to 20 bytes, of which the first eight spell `high`, with a zero for a minus, and the next
+ * eight are `second`.
+ */
+/* atoi_fast/src/short_prefix.rt:114 */
+TK_FAR tk_option_pair_i64_size tk_prefix_of_three_words_i64(bool minus, uint64_t high, uint64_t second, tk_bytes s)
 {
-    uint64_t next = tk_load_from(s, 16);
-    uint32_t more = tk_leading_digits(next);
+    uint64_t high_2 = high * tk_power_of_ten(8) + tk_sum_of(second - TK_ZEROS);
+    uint64_t third = tk_load_from(s, 16);
+    uint32_t more = tk_leading_digits(third);
     /* Not more than 19 digits, which no limit refuses. */
     if (more > 3 + TK_CAST(uint32_t, minus)) {
         return tk_none_pair_i64_size();
     }
-    uint64_t low = tk_value_by_product(next - TK_ZEROS, more);
-    tk_u128 magnitude = tk_append_digits(high, more, low);
-    if (tk_u128_less(tk_greatest_magnitude(tk_u128_of(UINT64_C(9223372036854775807)), minus), magnitude)) {
+    uint64_t low = tk_four_by_product(third - TK_ZEROS, more);
+    uint64_t magnitude = high_2 * tk_power_of_ten(more) + low;
+    tk_option_i64 number_found = tk_number_in_range_i64(TK_MOST_IN_THREE_WORDS, minus, magnitude);
+    if (!number_found.is_some) {
         return tk_none_pair_i64_size();
     }
-    return tk_some_pair_i64_size(tk_new_pair_i64_size(tk_from_parts_i64(minus, magnitude), 16 + TK_CAST(size_t, more)));
+    int64_t number = number_found.value;
+    return tk_some_pair_i64_size(tk_new_pair_i64_size(number, 16 + TK_CAST(size_t, more)));
 }
 
 /* atoi_fast/src/quick.rt:37 */
@@ -2105,21 +2112,24 @@ TK_INLINE tk_option_i64 tk_long_slice_i64(tk_bytes s)
     return tk_none_i64();
 }
 
-/* atoi_fast/src/short_prefix.rt:112 */
-TK_FAR tk_option_pair_u64_size tk_prefix_of_three_words_u64(bool minus, uint64_t high, tk_bytes s)
+/* atoi_fast/src/short_prefix.rt:114 */
+TK_FAR tk_option_pair_u64_size tk_prefix_of_three_words_u64(bool minus, uint64_t high, uint64_t second, tk_bytes s)
 {
-    uint64_t next = tk_load_from(s, 16);
-    uint32_t more = tk_leading_digits(next);
+    uint64_t high_2 = high * tk_power_of_ten(8) + tk_sum_of(second - TK_ZEROS);
+    uint64_t third = tk_load_from(s, 16);
+    uint32_t more = tk_leading_digits(third);
     /* Not more than 19 digits, which no limit refuses. */
     if (more > 3 + TK_CAST(uint32_t, minus)) {
         return tk_none_pair_u64_size();
     }
-    uint64_t low = tk_value_by_product(next - TK_ZEROS, more);
-    tk_u128 magnitude = tk_append_digits(high, more, low);
-    if (tk_u128_less(tk_greatest_magnitude(tk_u128_of(UINT64_C(18446744073709551615)), minus), magnitude)) {
+    uint64_t low = tk_four_by_product(third - TK_ZEROS, more);
+    uint64_t magnitude = high_2 * tk_power_of_ten(more) + low;
+    tk_option_u64 number_found = tk_number_in_range_u64(TK_MOST_IN_THREE_WORDS, minus, magnitude);
+    if (!number_found.is_some) {
         return tk_none_pair_u64_size();
     }
-    return tk_some_pair_u64_size(tk_new_pair_u64_size(tk_from_parts_u64(minus, magnitude), 16 + TK_CAST(size_t, more)));
+    uint64_t number = number_found.value;
+    return tk_some_pair_u64_size(tk_new_pair_u64_size(number, 16 + TK_CAST(size_t, more)));
 }
 
 /* atoi_fast/src/quick.rt:37 */
@@ -2413,6 +2423,16 @@ TK_INLINE tk_window tk_swar_window_8(tk_bytes s)
 }
 
 /*
+ * Returns the number of a row of digits that spells `high`, followed by at most 16 more `digits`
+ * that spell `low`.
+ */
+/* atoi_core/src/powers.rt:37 */
+TK_HINTED tk_u128 tk_append_digits(uint64_t high, uint32_t digits, uint64_t low)
+{
+    return tk_u128_add(tk_u128_mul(tk_u128_of(high), tk_u128_of(tk_power_of_ten(digits))), tk_u128_of(low));
+}
+
+/*
  * Returns the answer of `prefix_64` for `s`, which starts with `skipped` zeros and then
  * `significant` digits that spell `number`. The errors are `Empty`, `Size` and `Overflow`.
  */
@@ -2461,7 +2481,7 @@ TK_INLINE tk_result_pair_u64_size tk_found_or_empty_u64(uint64_t number, size_t 
 }
 
 /* `leading_digits` for a word of four bytes. */
-/* atoi_fast/src/digits.rt:158 */
+/* atoi_fast/src/digits.rt:170 */
 TK_HINTED uint32_t tk_leading_digits_of_four(uint32_t word)
 {
     uint32_t above = word + 0x46464646;
@@ -2482,7 +2502,7 @@ TK_HINTED uint32_t tk_sum_of_four(uint32_t digits)
 }
 
 /* Returns the number that a word of four digits spells after its first `skipped` bytes. */
-/* atoi_fast/src/digits.rt:192 */
+/* atoi_fast/src/digits.rt:204 */
 TK_HINTED uint32_t tk_value_after(uint32_t word, size_t skipped)
 {
     size_t bits = 8 * skipped;
@@ -2510,14 +2530,14 @@ TK_HINTED tk_result_pair_u64_size tk_after_16_within_bound(tk_u128 bound, size_t
     return tk_ok_pair_u64_size(tk_new_pair_u64_size(tk_u128_low(number), len));
 }
 
-/* atoi_fast/src/digits.rt:173 */
+/* atoi_fast/src/digits.rt:185 */
 TK_HINTED bool tk_starts_with_digit_of_four(uint32_t word)
 {
     return tk_u8_is_digit(TK_CAST(uint8_t, word & 0xFF));
 }
 
 /* `value_of` for a word of four bytes. */
-/* atoi_fast/src/digits.rt:181 */
+/* atoi_fast/src/digits.rt:193 */
 TK_HINTED uint32_t tk_value_up_to_4(uint32_t word, uint32_t len)
 {
     return tk_sum_of_four((word - TK_FOUR_ZEROS) << (32 - 8 * len));
@@ -3346,7 +3366,7 @@ TK_INLINE tk_result_u128 tk_atoi_simd_parse_u128(tk_bytes s, bool skip, bool ski
  * Returns the number at the start of `s` and its length, if that is below 8, or for signed types below 16.
  * For `i64`, also that of up to 19 digits. Others may be `None`, too.
  */
-/* atoi_fast/src/short_prefix.rt:16 */
+/* atoi_fast/src/short_prefix.rt:17 */
 TK_INLINE tk_option_pair_i8_size tk_short_prefix_i8(tk_bytes s)
 {
     return tk_prefix_of_words_i8(s);
@@ -3487,7 +3507,7 @@ TK_NOINLINE tk_result_pair_i8_size tk_atoi_simd_parse_prefix_i8(tk_bytes s, bool
     return tk_called_parse_prefix_text_i8(skip, skip_plus, s);
 }
 
-/* atoi_fast/src/short_prefix.rt:136 */
+/* atoi_fast/src/short_prefix.rt:144 */
 TK_INLINE tk_option_pair_u8_size tk_unsigned_prefix_u8(tk_bytes s)
 {
     uint64_t word = tk_load_full(s);
@@ -3504,7 +3524,7 @@ TK_INLINE tk_option_pair_u8_size tk_unsigned_prefix_u8(tk_bytes s)
     return tk_some_pair_u8_size(tk_new_pair_u8_size(number, TK_CAST(size_t, len)));
 }
 
-/* atoi_fast/src/short_prefix.rt:16 */
+/* atoi_fast/src/short_prefix.rt:17 */
 TK_INLINE tk_option_pair_u8_size tk_short_prefix_u8(tk_bytes s)
 {
     return tk_unsigned_prefix_u8(s);
@@ -3565,7 +3585,7 @@ TK_NOINLINE tk_result_pair_u8_size tk_atoi_simd_parse_prefix_u8(tk_bytes s, bool
     return tk_called_parse_prefix_text_u8(skip, skip_plus, s);
 }
 
-/* atoi_fast/src/short_prefix.rt:16 */
+/* atoi_fast/src/short_prefix.rt:17 */
 TK_INLINE tk_option_pair_i16_size tk_short_prefix_i16(tk_bytes s)
 {
     return tk_prefix_of_words_i16(s);
@@ -3626,7 +3646,7 @@ TK_NOINLINE tk_result_pair_i16_size tk_atoi_simd_parse_prefix_i16(tk_bytes s, bo
     return tk_called_parse_prefix_text_i16(skip, skip_plus, s);
 }
 
-/* atoi_fast/src/short_prefix.rt:136 */
+/* atoi_fast/src/short_prefix.rt:144 */
 TK_INLINE tk_option_pair_u16_size tk_unsigned_prefix_u16(tk_bytes s)
 {
     uint64_t word = tk_load_full(s);
@@ -3643,7 +3663,7 @@ TK_INLINE tk_option_pair_u16_size tk_unsigned_prefix_u16(tk_bytes s)
     return tk_some_pair_u16_size(tk_new_pair_u16_size(number, TK_CAST(size_t, len)));
 }
 
-/* atoi_fast/src/short_prefix.rt:16 */
+/* atoi_fast/src/short_prefix.rt:17 */
 TK_INLINE tk_option_pair_u16_size tk_short_prefix_u16(tk_bytes s)
 {
     return tk_unsigned_prefix_u16(s);
@@ -3704,7 +3724,7 @@ TK_NOINLINE tk_result_pair_u16_size tk_atoi_simd_parse_prefix_u16(tk_bytes s, bo
     return tk_called_parse_prefix_text_u16(skip, skip_plus, s);
 }
 
-/* atoi_fast/src/short_prefix.rt:16 */
+/* atoi_fast/src/short_prefix.rt:17 */
 TK_INLINE tk_option_pair_i32_size tk_short_prefix_i32(tk_bytes s)
 {
     return tk_prefix_of_words_i32(s);
@@ -3765,7 +3785,7 @@ TK_NOINLINE tk_result_pair_i32_size tk_atoi_simd_parse_prefix_i32(tk_bytes s, bo
     return tk_called_parse_prefix_text_i32(skip, skip_plus, s);
 }
 
-/* atoi_fast/src/short_prefix.rt:136 */
+/* atoi_fast/src/short_prefix.rt:144 */
 TK_INLINE tk_option_pair_u32_size tk_unsigned_prefix_u32(tk_bytes s)
 {
     uint64_t word = tk_load_full(s);
@@ -3782,7 +3802,7 @@ TK_INLINE tk_option_pair_u32_size tk_unsigned_prefix_u32(tk_bytes s)
     return tk_some_pair_u32_size(tk_new_pair_u32_size(number, TK_CAST(size_t, len)));
 }
 
-/* atoi_fast/src/short_prefix.rt:16 */
+/* atoi_fast/src/short_prefix.rt:17 */
 TK_INLINE tk_option_pair_u32_size tk_short_prefix_u32(tk_bytes s)
 {
     return tk_unsigned_prefix_u32(s);
@@ -3843,7 +3863,7 @@ TK_NOINLINE tk_result_pair_u32_size tk_atoi_simd_parse_prefix_u32(tk_bytes s, bo
     return tk_called_parse_prefix_text_u32(skip, skip_plus, s);
 }
 
-/* atoi_fast/src/short_prefix.rt:16 */
+/* atoi_fast/src/short_prefix.rt:17 */
 TK_INLINE tk_option_pair_i64_size tk_short_prefix_i64(tk_bytes s)
 {
     return tk_prefix_of_words_i64(s);
@@ -3905,7 +3925,7 @@ TK_NOINLINE tk_result_pair_i64_size tk_atoi_simd_parse_prefix_i64(tk_bytes s, bo
     return tk_called_parse_prefix_text_i64(skip, skip_plus, s);
 }
 
-/* atoi_fast/src/short_prefix.rt:136 */
+/* atoi_fast/src/short_prefix.rt:144 */
 TK_INLINE tk_option_pair_u64_size tk_unsigned_prefix_u64(tk_bytes s)
 {
     uint64_t word = tk_load_full(s);
@@ -3922,7 +3942,7 @@ TK_INLINE tk_option_pair_u64_size tk_unsigned_prefix_u64(tk_bytes s)
     return tk_some_pair_u64_size(tk_new_pair_u64_size(number, TK_CAST(size_t, len)));
 }
 
-/* atoi_fast/src/short_prefix.rt:16 */
+/* atoi_fast/src/short_prefix.rt:17 */
 TK_INLINE tk_option_pair_u64_size tk_short_prefix_u64(tk_bytes s)
 {
     return tk_unsigned_prefix_u64(s);
@@ -3984,7 +4004,7 @@ TK_NOINLINE tk_result_pair_u64_size tk_atoi_simd_parse_prefix_u64(tk_bytes s, bo
     return tk_called_parse_prefix_text_u64(skip, skip_plus, s);
 }
 
-/* atoi_fast/src/short_prefix.rt:16 */
+/* atoi_fast/src/short_prefix.rt:17 */
 TK_INLINE tk_option_pair_i128_size tk_short_prefix_i128(tk_bytes s)
 {
     return tk_prefix_of_words_i128(s);
@@ -4047,7 +4067,7 @@ TK_NOINLINE tk_result_pair_i128_size tk_atoi_simd_parse_prefix_i128(tk_bytes s, 
     return tk_called_parse_prefix_text_i128(skip, skip_plus, s);
 }
 
-/* atoi_fast/src/short_prefix.rt:136 */
+/* atoi_fast/src/short_prefix.rt:144 */
 TK_INLINE tk_option_pair_u128_size tk_unsigned_prefix_u128(tk_bytes s)
 {
     uint64_t word = tk_load_full(s);
@@ -4064,7 +4084,7 @@ TK_INLINE tk_option_pair_u128_size tk_unsigned_prefix_u128(tk_bytes s)
     return tk_some_pair_u128_size(tk_new_pair_u128_size(number, TK_CAST(size_t, len)));
 }
 
-/* atoi_fast/src/short_prefix.rt:16 */
+/* atoi_fast/src/short_prefix.rt:17 */
 TK_INLINE tk_option_pair_u128_size tk_short_prefix_u128(tk_bytes s)
 {
     return tk_unsigned_prefix_u128(s);
@@ -4382,7 +4402,7 @@ TK_INLINE tk_result_u128 tk_atoi_simd_parse_pos_u128(tk_bytes s, bool skip)
     return tk_called_whole_pos_u128(skip, s);
 }
 
-/* atoi_fast/src/short_prefix.rt:136 */
+/* atoi_fast/src/short_prefix.rt:144 */
 TK_INLINE tk_option_pair_i8_size tk_unsigned_prefix_i8(tk_bytes s)
 {
     uint64_t word = tk_load_full(s);
@@ -4400,7 +4420,7 @@ TK_INLINE tk_option_pair_i8_size tk_unsigned_prefix_i8(tk_bytes s)
 }
 
 /* `unsigned_prefix`, which counts its load. */
-/* atoi_fast/src/short_prefix.rt:32 */
+/* atoi_fast/src/short_prefix.rt:33 */
 TK_INLINE tk_option_pair_i8_size tk_loaded_prefix_i8(tk_bytes s)
 {
     return tk_unsigned_prefix_i8(s);
@@ -4436,7 +4456,7 @@ TK_INLINE tk_result_pair_i8_size tk_atoi_simd_parse_prefix_pos_i8(tk_bytes s, bo
     return tk_called_prefix_pos_i8(skip, s);
 }
 
-/* atoi_fast/src/short_prefix.rt:32 */
+/* atoi_fast/src/short_prefix.rt:33 */
 TK_INLINE tk_option_pair_u8_size tk_loaded_prefix_u8(tk_bytes s)
 {
     return tk_unsigned_prefix_u8(s);
@@ -4467,7 +4487,7 @@ TK_INLINE tk_result_pair_u8_size tk_atoi_simd_parse_prefix_pos_u8(tk_bytes s, bo
     return tk_called_prefix_pos_u8(skip, s);
 }
 
-/* atoi_fast/src/short_prefix.rt:136 */
+/* atoi_fast/src/short_prefix.rt:144 */
 TK_INLINE tk_option_pair_i16_size tk_unsigned_prefix_i16(tk_bytes s)
 {
     uint64_t word = tk_load_full(s);
@@ -4484,7 +4504,7 @@ TK_INLINE tk_option_pair_i16_size tk_unsigned_prefix_i16(tk_bytes s)
     return tk_some_pair_i16_size(tk_new_pair_i16_size(number, TK_CAST(size_t, len)));
 }
 
-/* atoi_fast/src/short_prefix.rt:32 */
+/* atoi_fast/src/short_prefix.rt:33 */
 TK_INLINE tk_option_pair_i16_size tk_loaded_prefix_i16(tk_bytes s)
 {
     return tk_unsigned_prefix_i16(s);
@@ -4515,7 +4535,7 @@ TK_INLINE tk_result_pair_i16_size tk_atoi_simd_parse_prefix_pos_i16(tk_bytes s, 
     return tk_called_prefix_pos_i16(skip, s);
 }
 
-/* atoi_fast/src/short_prefix.rt:32 */
+/* atoi_fast/src/short_prefix.rt:33 */
 TK_INLINE tk_option_pair_u16_size tk_loaded_prefix_u16(tk_bytes s)
 {
     return tk_unsigned_prefix_u16(s);
@@ -4546,7 +4566,7 @@ TK_INLINE tk_result_pair_u16_size tk_atoi_simd_parse_prefix_pos_u16(tk_bytes s, 
     return tk_called_prefix_pos_u16(skip, s);
 }
 
-/* atoi_fast/src/short_prefix.rt:136 */
+/* atoi_fast/src/short_prefix.rt:144 */
 TK_INLINE tk_option_pair_i32_size tk_unsigned_prefix_i32(tk_bytes s)
 {
     uint64_t word = tk_load_full(s);
@@ -4563,7 +4583,7 @@ TK_INLINE tk_option_pair_i32_size tk_unsigned_prefix_i32(tk_bytes s)
     return tk_some_pair_i32_size(tk_new_pair_i32_size(number, TK_CAST(size_t, len)));
 }
 
-/* atoi_fast/src/short_prefix.rt:32 */
+/* atoi_fast/src/short_prefix.rt:33 */
 TK_INLINE tk_option_pair_i32_size tk_loaded_prefix_i32(tk_bytes s)
 {
     return tk_unsigned_prefix_i32(s);
@@ -4594,7 +4614,7 @@ TK_INLINE tk_result_pair_i32_size tk_atoi_simd_parse_prefix_pos_i32(tk_bytes s, 
     return tk_called_prefix_pos_i32(skip, s);
 }
 
-/* atoi_fast/src/short_prefix.rt:32 */
+/* atoi_fast/src/short_prefix.rt:33 */
 TK_INLINE tk_option_pair_u32_size tk_loaded_prefix_u32(tk_bytes s)
 {
     return tk_unsigned_prefix_u32(s);
@@ -4625,7 +4645,7 @@ TK_INLINE tk_result_pair_u32_size tk_atoi_simd_parse_prefix_pos_u32(tk_bytes s, 
     return tk_called_prefix_pos_u32(skip, s);
 }
 
-/* atoi_fast/src/short_prefix.rt:136 */
+/* atoi_fast/src/short_prefix.rt:144 */
 TK_INLINE tk_option_pair_i64_size tk_unsigned_prefix_i64(tk_bytes s)
 {
     uint64_t word = tk_load_full(s);
@@ -4642,7 +4662,7 @@ TK_INLINE tk_option_pair_i64_size tk_unsigned_prefix_i64(tk_bytes s)
     return tk_some_pair_i64_size(tk_new_pair_i64_size(number, TK_CAST(size_t, len)));
 }
 
-/* atoi_fast/src/short_prefix.rt:32 */
+/* atoi_fast/src/short_prefix.rt:33 */
 TK_INLINE tk_option_pair_i64_size tk_loaded_prefix_i64(tk_bytes s)
 {
     return tk_unsigned_prefix_i64(s);
@@ -4673,7 +4693,7 @@ TK_INLINE tk_result_pair_i64_size tk_atoi_simd_parse_prefix_pos_i64(tk_bytes s, 
     return tk_called_prefix_pos_i64(skip, s);
 }
 
-/* atoi_fast/src/short_prefix.rt:32 */
+/* atoi_fast/src/short_prefix.rt:33 */
 TK_INLINE tk_option_pair_u64_size tk_loaded_prefix_u64(tk_bytes s)
 {
     return tk_unsigned_prefix_u64(s);
@@ -4704,7 +4724,7 @@ TK_INLINE tk_result_pair_u64_size tk_atoi_simd_parse_prefix_pos_u64(tk_bytes s, 
     return tk_called_prefix_pos_u64(skip, s);
 }
 
-/* atoi_fast/src/short_prefix.rt:136 */
+/* atoi_fast/src/short_prefix.rt:144 */
 TK_INLINE tk_option_pair_i128_size tk_unsigned_prefix_i128(tk_bytes s)
 {
     uint64_t word = tk_load_full(s);
@@ -4721,7 +4741,7 @@ TK_INLINE tk_option_pair_i128_size tk_unsigned_prefix_i128(tk_bytes s)
     return tk_some_pair_i128_size(tk_new_pair_i128_size(number, TK_CAST(size_t, len)));
 }
 
-/* atoi_fast/src/short_prefix.rt:32 */
+/* atoi_fast/src/short_prefix.rt:33 */
 TK_INLINE tk_option_pair_i128_size tk_loaded_prefix_i128(tk_bytes s)
 {
     return tk_unsigned_prefix_i128(s);
@@ -4752,7 +4772,7 @@ TK_INLINE tk_result_pair_i128_size tk_atoi_simd_parse_prefix_pos_i128(tk_bytes s
     return tk_called_prefix_pos_i128(skip, s);
 }
 
-/* atoi_fast/src/short_prefix.rt:32 */
+/* atoi_fast/src/short_prefix.rt:33 */
 TK_INLINE tk_option_pair_u128_size tk_loaded_prefix_u128(tk_bytes s)
 {
     return tk_unsigned_prefix_u128(s);

@@ -1,14 +1,15 @@
 //! Prefixes of few digits: their sign is read together with the digits, from one word.
-ghost use Rattle.std.specs.Prelude.{◌≡◌, ◌+◌, ◌%◌, ◌≤◌, IfSome, length, take, true};
+ghost use Rattle.std.specs.Prelude.{◌≡◌, ◌+◌, ◌%◌, ◌≤◌, IfSome, length, take, drop, true};
 ghost use Rattle.atoi_core.specs.Digit.{decimal_table};
 ghost use Rattle.atoi_core.specs.Run.{run_len, value};
+ghost use Rattle.atoi_core.specs.Words.{word_of};
 ghost use Rattle.atoi_fast.specs.Short.{BeginsWithNumber, HasMinus, zero_for_minus};
 
-use crate::digits::{ZEROS, leading_digits, sum_of, value_by_product};
-use crate::in_range::{MOST_IN_TWO_WORDS, MOST_IN_WORD, number_in_range};
+use crate::digits::{ZEROS, four_by_product, leading_digits, sum_of, value_by_product};
+use crate::in_range::{MOST_IN_THREE_WORDS, MOST_IN_TWO_WORDS, MOST_IN_WORD, number_in_range};
 use crate::loads::{load_from, load_full};
-use atoi_core::powers::{append_digits, power_of_ten};
-use atoi_core::{Number, Steps, greatest_magnitude};
+use atoi_core::powers::power_of_ten;
+use atoi_core::{Number, Steps};
 
 /// Returns the number at the start of `s` and its length, if that is below 8, or for signed types below 16.
 /// For `i64`, also that of up to 19 digits. Others may be `None`, too.
@@ -95,11 +96,11 @@ fn prefix_of_two_words<T: Number>(minus: bool, high: u64, s: &[u8]) -> Option<(T
     let next = load_full(&s[8..]);
     let more = leading_digits(next);
     if more == 8 {
-        if T::BITS != 64 {
-            return None;
-        }
-        let high = high * 100_000_000 + sum_of(next.wrapping_sub(ZEROS));
-        return prefix_of_three_words(minus, high, s);
+        return if T::BITS == 64 {
+            prefix_of_three_words(minus, high, next, s)
+        } else {
+            None
+        };
     }
     let low = value_by_product(next.wrapping_sub(ZEROS), more);
     let magnitude = high * power_of_ten(more) + low;
@@ -107,29 +108,36 @@ fn prefix_of_two_words<T: Number>(minus: bool, high: u64, s: &[u8]) -> Option<(T
     Some((number, 8 + more as usize))
 }
 
-// The number of 16 to 20 bytes, of which the first sixteen spell `high`, with a zero for a minus.
+// The number of 16 to 20 bytes, of which the first eight spell `high`, with a zero for a minus, and the next
+// eight are `second`.
 #[inline(always)]
-fn prefix_of_three_words<T: Number>(minus: bool, high: u64, s: &[u8]) -> Option<(T, usize)>
+fn prefix_of_three_words<T: Number>(
+    minus: bool,
+    high: u64,
+    second: u64,
+    s: &[u8],
+) -> Option<(T, usize)>
     requires wide { T.BITS ≡ 64 }
     requires minus { minus ≡ true → HasMinus T.SIGNED s.now }
     requires enough { 16 ≤ length s.now }
     requires full { 16 ≤ run_len decimal_table (zero_for_minus minus s.now) }
-    requires high { high ≡ value decimal_table (take 16 (zero_for_minus minus s.now)) }
+    requires high { high ≡ value decimal_table (take 8 (zero_for_minus minus s.now)) }
+    requires most { high ≤ 166666665 }
+    requires second { second ≡ word_of (take 8 (drop 8 s.now)) }
     ensures answer { IfSome result (λ found. BeginsWithNumber T.int_type s.now (T.number found.0) found.1) }
     ensures short { IfSome result (λ found. found.1 ≤ 20) }
 {
-    let next = load_from(s, 16);
-    let more = leading_digits(next);
+    let high = high * power_of_ten(8) + sum_of(second.wrapping_sub(ZEROS));
+    let third = load_from(s, 16);
+    let more = leading_digits(third);
     // Not more than 19 digits, which no limit refuses.
     if more > 3 + u32::from(minus) {
         return None;
     }
-    let low = value_by_product(next.wrapping_sub(ZEROS), more);
-    let magnitude = append_digits(high, more, low);
-    if magnitude > greatest_magnitude::<T>(minus) {
-        return None;
-    }
-    Some((T::from_parts(minus, magnitude), 16 + more as usize))
+    let low = four_by_product(third.wrapping_sub(ZEROS), more);
+    let magnitude = high * power_of_ten(more) + low;
+    let number = number_in_range::<T>(MOST_IN_THREE_WORDS, minus, magnitude)?;
+    Some((number, 16 + more as usize))
 }
 
 #[inline(always)]

@@ -2,8 +2,8 @@
 use Rattle.std.proofs.Common.{zero, suc, ◌≡◌, ◌≢◌, ℕ, ◌+◌, ◌*◌, ◌%◌, ◌^◌, ◌<◌, ◌≤◌, Bool, true, false, List, [], ◌∷◌, length, take, drop, get_or, refl, sym, ap, ◌∙◌, arith, min, if◌then◌else◌}
 use Rattle.std.specs.Int.Bits.{bit_and}
 use Rattle.std.specs.Simd.Lanes.{digits_l}
-use Rattle.std.proofs.Math.Nat.{add-zero}
-use Rattle.std.proofs.lemmas.List.{drop-drop}
+use Rattle.std.proofs.Math.Nat.{add-zero, pow-le-pow_right}
+use Rattle.std.proofs.lemmas.List.{drop-drop, length-take}
 use Rattle.std.proofs.lemmas.List.Sums.{prefix_len-le-length}
 use Rattle.std.proofs.lemmas.Bool.Decides.{nat_tests}
 use Rattle.atoi_core.specs.Digit.{decimal_table, is_digit}
@@ -13,7 +13,7 @@ use Rattle.atoi_core.specs.IntType.{IntType, bound_of}
 use Rattle.atoi_core.specs.Sign.{with_sign}
 use Rattle.atoi_core.proofs.lemmas.LoweredWords.{without_48}
 use Rattle.atoi_core.proofs.lemmas.LoadedWords.{loaded_part, loaded_run, fits_after}
-use Rattle.atoi_core.proofs.lemmas.Runs.{prefix_len-drop, prefix_len-take, value-take-add}
+use Rattle.atoi_core.proofs.lemmas.Runs.{prefix_len-drop, prefix_len-take, value-take-add, value-below, decimal_below_ten}
 use Rattle.atoi_core.proofs.lemmas.WordWindows.{first_run}
 use Rattle.atoi_fast.specs.Short.{BeginsWithNumber, HasMinus, zero_for_minus}
 use Rattle.atoi_fast.proofs.lemmas.ShortNumbers.{most_digits, sixteen_fit, prefix_is}
@@ -87,6 +87,9 @@ module _ (minus : Bool) (s : List ℕ) (front : ℕ) (some : 0 < front) (fits : 
   pub full_word : more ≡ 8 → front + 8 ≤ run_len decimal_table signed
   full_word all = omega (arith, run_is, more_is, all)
 
+  pub all_digits : front + 8 ≤ run_len decimal_table signed → more ≡ 8
+  all_digits enough = omega (arith, run_is, more_is, enough)
+
   -- The run ends in the word.
   pub next_word_prefix : (int : IntType) → (minus ≡ true → HasMinus int.signed s) → 1 < front → (high low : ℕ)
       → high ≡ value decimal_table (take front signed) → more < 8 → front + more ≤ most_digits int + (if minus then 1 else 0)
@@ -109,3 +112,16 @@ one_digit_prefix int s some fits word digit word_is digit_is small ended in_rang
     let number_is : digit ≡ low_value (digits_l 256 1 (zeroed false word)) = omega arith in
     one_word_prefix false s some fits word word_is (λ no. absurd (cc no)) int 1 digit (λ no. absurd (cc no)) (rw add-zero (sym run))
     (omega arith) (omega arith) number_is in_range
+
+nineteen : (s : List ℕ) (len : ℕ) → len ≤ 19 → value decimal_table (take len s) < 10 ^ 19
+nineteen s len few =
+    let most : length (take len s) ≤ 19 = omega (arith, length-take len s) in
+    let power : 10 ^ length (take len s) ≤ 10 ^ 19 = pow-le-pow_right {n = 10} (omega arith) most in
+    omega (arith, value-below decimal_table decimal_below_ten (take len s))
+
+-- At most 19 digits after a zero for a minus spell less than 10^19.
+pub nineteen_digits : (minus : Bool) (s : List ℕ) (len : ℕ) → len ≤ 19 + (if minus then 1 else 0)
+    → value decimal_table (take len (zero_for_minus minus s)) < 10 ^ 19
+nineteen_digits false s len few = nineteen s len few
+nineteen_digits true s zero few = omega arith
+nineteen_digits true s (suc len) few = omega (arith, nineteen (drop 1 s) len (omega arith))

@@ -1,7 +1,7 @@
 -- How many digits and zeros a word begins with, and their sum.
 use Rattle.std.proofs.Common.{◌≡◌, ℕ, zero, suc, ◌+◌, ◌-◌, ◌*◌, ◌/◌, ◌%◌, ◌^◌, ◌<◌, ◌≤◌, refl, sym, ◌∙◌, arith, lit<, mod-lt, nat_lt, drop, ap, ap₂}
-use Rattle.std.proofs.Math.Nat.{div-div-eq-div-mul, suc-add, zero-add, mod-eq_of_lt, div-one, div-mul-le_self}
-use Rattle.std.proofs.lemmas.Nat.{pow_pos, and_mask, and_block, shr_split, and_shr, and_mod, or_shr, or_mod, xor_shr, xor_mod, and_assoc, mul-mod_first, mul-mod_second}
+use Rattle.std.proofs.Math.Nat.{div-div-eq-div-mul, suc-add, zero-add, mod-eq_of_lt, div-one, div-mul-le_self, mul_assoc}
+use Rattle.std.proofs.lemmas.Nat.{pow_pos, pow-add, and_mask, and_block, shr_split, and_shr, and_mod, or_shr, or_mod, xor_shr, xor_mod, and_assoc, mul-mod_first, mul-mod_second}
 use Rattle.std.specs.Int.Bits.{bit_and, bit_or, bit_xor, and_zero_l, and_zero_r, xor_assoc, xor_self, xor_zero_r, xor_lt, xor_disjoint}
 use Rattle.std.specs.Simd.Lanes.{digits_l}
 use Rattle.atoi_core.specs.Words.{low_bytes, low_value}
@@ -13,7 +13,7 @@ use Rattle.atoi_core.specs.Digit.{decimal_table, is_digit, is_zero}
 use Rattle.atoi_core.specs.Run.{run_len, zeros}
 use Rattle.atoi_core.proofs.lemmas.WordFields.{repeated, digits_cut, low_value_shifted, byte_more, round, spelled_by_bytes, one_field}
 use Rattle.atoi_core.proofs.lemmas.WordRuns.{Change, unchanged, constant, cut, both, counted, zero_is_digit}
-use Rattle.atoi_core.proofs.lemmas.LoweredWords.{without_48, lowered, marks_in, marks_counted, lowered_digits, masked, lowered_bytes, lowered_value, shift_cut}
+use Rattle.atoi_core.proofs.lemmas.LoweredWords.{without_48, lowered, marks_in, marks_counted, lowered_digits, masked, lowered_bytes, lowered_value, shift_cut, sum_of_fields}
 use Rattle.atoi_fast.specs.Short.{at_top}
 
 -- ---- Counting digits and zeros
@@ -110,6 +110,33 @@ sum_at_top len word few =
     let moved : at_top len word ≡ word % 2 ^ (len * 8) * 2 ^ (z * 8) =
     ap₂ (λ s b. word * 2 ^ s % 2 ^ b) shift bits ∙ shift_cut word (len * 8) (z * 8) in
     rw moved (rw top at (low_value_shifted z len (word % 2 ^ (len * 8))) ∙ ap low_value (digits_cut 8 len word))
+
+-- At most four bytes, moved to the top, leave the other four 0.
+low_half_of_top : (len word : ℕ) → len ≤ 4 → at_top len word % 2 ^ 32 ≡ 0
+low_half_of_top len word few =
+    let shift : 64 - 8 * len ≡ 32 - 8 * len + 32 = omega arith in
+    let regroup : word * 2 ^ (64 - 8 * len) ≡ word * 2 ^ (32 - 8 * len) * 2 ^ 32 =
+    ap (λ k. word * 2 ^ k) shift ∙ ap (λ p. word * p) (pow-add 2 (32 - 8 * len) 32) ∙ sym (mul_assoc word (2 ^ (32 - 8 * len)) (2 ^ 32)) in
+    omega (arith, ap (λ x. x % 2 ^ 64) regroup, shift_cut (word * 2 ^ (32 - 8 * len)) 32 32)
+
+-- The mask of the first round keeps them 0.
+masked_top : (x : ℕ) → x % 2 ^ 24 ≡ 0 → bit_and x 0x00FF_00FF_00FF_00FF % 2 ^ 32 ≡ 0
+masked_top x none =
+    let y = x / 2 ^ 24 in
+    let split : x ≡ y * 2 ^ 24 + 0 = omega arith in
+    let block = and_block 24 y 0xFF_00FF_00 0 0xFF_00FF (lit< tt) (lit< tt) in
+    omega (arith, ap (λ n. bit_and n 0x00FF_00FF_00FF_00FF) split, block, and_zero_l 0xFF_00FF, and_mod y 0xFF_00FF_00 8, and_zero_r (y % 256))
+
+-- So the upper field alone is their sum.
+pub sum_of_high_field : (len word : ℕ) → len ≤ 4 → bit_and (at_top len word) 0x0F0F_0F0F_0F0F_0F0F ≡ at_top len word
+    → bit_and (at_top len word * 0xA01 % 2 ^ 64 / 2 ^ 8) 0x00FF_00FF_00FF_00FF * 0x64_0001 % 2 ^ 64 / 2 ^ 48 ≡ low_value (low_bytes len word)
+sum_of_high_field len word few halves =
+    let x = at_top len word * 0xA01 % 2 ^ 64 / 2 ^ 8 in
+    let hundreds = bit_and x 0x00FF_00FF_00FF_00FF * 0x64_0001 % 2 ^ 64 in
+    let bytes : x % 2 ^ 24 ≡ 0 = omega (arith, low_half_of_top len word few) in
+    let field : hundreds / 2 ^ 16 % 2 ^ 16 ≡ 0 = omega (arith, masked_top x bytes) in
+    omega (arith, and_mask (hundreds / 2 ^ 16) 16, sum_of_fields (at_top len word) (omega arith) halves)
+    ∙ sum_at_top len word (omega arith)
 
 -- A product by a shifted factor is one after the shift.
 pub factor_shifted : (a p k factor : ℕ) → factor ≡ p * 2 ^ k % 2 ^ 64 → a * factor % 2 ^ 64 ≡ a * 2 ^ k % 2 ^ 64 * p % 2 ^ 64

@@ -153,6 +153,18 @@ const FACTORS: [u64; 8] = [
     sum_of_product(digits.wrapping_mul(FACTORS[len as usize]))
 }
 
+/// `value_by_product` for at most four bytes.
+#[inline] pub(crate) fn four_by_product(digits: u64, len: u32) -> u64
+    // requires few { len ≤ 4 }
+    // requires halves { bit_and (at_top len digits) 0x0F0F_0F0F_0F0F_0F0F ≡ at_top len digits }
+    // ensures sum { result ≡ low_value (low_bytes len digits) }
+    // ensures most { result ≤ 16666 }
+{
+    let product = digits.wrapping_mul(FACTORS[len as usize]);
+    let tens = (product >> 8) & 0x00FF_00FF_00FF_00FF;
+    tens.wrapping_mul(0x64_0001) >> 48
+}
+
 /// `leading_digits` for a word of four bytes.
 // #[tactic(auto, using(crate::proofs::lemmas::WordRuns::marks_of_4, crate::proofs::lemmas::WordRuns::none_marked_of_4))]
 #[inline] pub(crate) fn leading_digits_of_four(word: u32) -> u32

@@ -11,6 +11,9 @@ pub(crate) const MOST_IN_WORD: u64 = 1_000_000_000;
 /// No two words of digits spell more.
 pub(crate) const MOST_IN_TWO_WORDS: u64 = 1_000_000_000_000_000_000;
 
+/// No 19 digits spell more.
+pub(crate) const MOST_IN_THREE_WORDS: u64 = 9_999_999_999_999_999_999;
+
 /// Returns the number of this sign and magnitude, if the type has it. The magnitude is at most `most`, a
 /// constant: a type that has all numbers up to it needs no other test.
 #[inline(always)]

@@ -1,14 +1,10 @@
 -- The digits of the second word follow those of the first.
-use Rattle.std.proofs.Common.{◌≡◌, ◌∙◌, refl, arith}
+use Rattle.std.proofs.Common.{◌∙◌, refl, arith}
 use Rattle.std.proofs.lemmas.List.{take_rest}
 use Rattle.std.proofs.lemmas.Nat.{mul-le}
-use Rattle.atoi_core.specs.Digit.{decimal_table}
-use Rattle.atoi_core.specs.Run.{run_len}
-use Rattle.atoi_core.specs.Words.{low_bytes}
 use Rattle.atoi_fast.proofs.lemmas.SignedWords.{lowered_at_top}
 use Rattle.atoi_fast.proofs.lemmas.ShortNumbers.{sixteen_fit}
-use Rattle.atoi_fast.proofs.lemmas.ShortPrefixes.{joined_value, full_word, next_word_prefix}
-use Rattle.atoi_fast.proofs.lemmas.WordRuns.{lowered_eight}
+use Rattle.atoi_fast.proofs.lemmas.ShortPrefixes.{full_word, next_word_prefix}
 use Rattle.atoi_fast.proofs.short_prefix.prefix_of_two_words.Goals as goal
 
 pub value_by_product-low-requires-clause-halves : goal.value_by_product-low-requires-clause-halves
@@ -33,19 +29,10 @@ returns-clause-answer g c =
     (at_8 c.args.high _ r.high (omega arith) (omega (arith, sixteen_fit int)) (rw c.leading_digits-more.ensures.len at low_is)
     (rw c.leading_digits-more.ensures.len at in_range))
 
--- The second word is digits.
-pub sum_of-requires : goal.sum_of-requires
-sum_of-requires g c = (lowered_eight c.load_full-next.result _ (omega arith) refl).0
-
 pub prefix_of_three_words-requires-clause-full : goal.prefix_of_three_words-requires-clause-full
 prefix_of_three_words-requires-clause-full g c =
     full_word c.args.minus c.args.s.now 8 (omega arith) (λ i. (c.type_inv.s i).fits) c.requires.full c.load_full-next.result
     (rw take_rest at c.load_full-next.ensures) (omega arith)
 
-pub prefix_of_three_words-requires-clause-high : goal.prefix_of_three_words-requires-clause-high
-prefix_of_three_words-requires-clause-high g c =
-    let next = c.load_full-next.result in
-    let more : run_len decimal_table (low_bytes 8 next) ≡ 8 = omega arith in
-    let low_is = c.sum_of.ensures.sum ∙ (lowered_eight next _ (omega arith) refl).1 in
-    rw more at (joined_value c.args.minus c.args.s.now 8 (omega arith) (λ i. (c.type_inv.s i).fits) c.requires.full next
-    (rw take_rest at c.load_full-next.ensures) c.args.high c.sum_of.result c.requires.high (rw more low_is))
+pub prefix_of_three_words-requires-clause-second : goal.prefix_of_three_words-requires-clause-second
+prefix_of_three_words-requires-clause-second g c = rw take_rest at c.load_full-next.ensures
