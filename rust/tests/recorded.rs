@@ -1,16 +1,21 @@
 //! The recorded calls of the original crate, as `crates/atoi_vectors` has them: each line is
-//! `ANSWER | w CALL TYPE FLAGS TEXT`, with the original's answer in between where it differs.
+//! `ANSWER | w CALL TYPE FLAGS TEXT`, with the original's answer in between where it differs. With the
+//! feature `lanes`, the calls are those of `lanes`.
 
+use calls::{AtoiSimdError, Parse, ParseNeg};
 use std::fmt::Display;
 use std::fs;
-use std::path::Path;
-use torkettle::{AtoiSimdError, Parse, ParseNeg};
 
-// How many lines each file has.
-const FILES: [(&str, usize); 2] = [("original.rt", 665), ("differences.rt", 55)];
+mod calls {
+    #[cfg(feature = "lanes")]
+    pub use torkettle::lanes::*;
+    #[cfg(not(feature = "lanes"))]
+    pub use torkettle::*;
+}
 
 struct Row {
     answer: String,
+    original: String,
     call: String,
     integer: String,
     skip_zeroes: bool,
@@ -20,27 +25,46 @@ struct Row {
 
 #[test]
 fn each_recorded_call_has_its_answer() {
-    for (name, expected) in FILES {
-        let file = format!("{}/crates/atoi_vectors/src/{name}", env!("CARGO_MANIFEST_DIR"));
-        let rows = rows(Path::new(&file));
-        assert_eq!(rows.len(), expected, "rows in {name}");
-        for row in rows {
-            let (call, integer) = (&row.call, &row.integer);
-            let shown = row.text.escape_ascii();
-            assert_eq!(answer(&row), row.answer, "{call} {integer} of \"{shown}\"");
-        }
+    for row in rows("original.rt", 665).into_iter().chain(rows("differences.rt", 55)) {
+        let (call, integer) = (&row.call, &row.integer);
+        let shown = row.text.escape_ascii();
+        assert_eq!(answer(&row), row.answer, "{call} {integer} of \"{shown}\"");
     }
 }
 
-fn rows(file: &Path) -> Vec<Row> {
+// An error prints the text after the comma.
+fn before_comma(answer: &str) -> Option<&str> {
+    answer.split(',').next()
+}
+
+#[test]
+fn the_original_counts_no_plus_and_reads_16_digits_of_a_narrow_prefix() {
+    for row in rows("differences.rt", 55) {
+        let is_narrow = matches!(&row.integer[1..], "8" | "16" | "32") && !row.skip_zeroes;
+        let body = row.text.strip_prefix(b"+").unwrap_or(&row.text);
+        let longest = if is_narrow { 16 } else { usize::MAX };
+        let text = body[..body.len().min(longest)].to_vec();
+        let (original, shown) = (row.original.clone(), text.escape_ascii().to_string());
+        assert_ne!(row.answer, original, "{shown}");
+        let found = answer(&Row { text, ..row });
+        assert_eq!(before_comma(&found), before_comma(&original), "{shown}");
+    }
+}
+
+// The rows of a file, of which there are `count`.
+fn rows(name: &str, count: usize) -> Vec<Row> {
+    let file = format!("{}/crates/atoi_vectors/src/{name}", env!("CARGO_MANIFEST_DIR"));
     let text = fs::read_to_string(file).expect("the file of the recorded calls can be read");
-    let is_answer = |line: &str| line.starts_with("ok ") || line.starts_with("err ");
-    text.lines().filter(|line| is_answer(line)).map(|line| row(line).expect(line)).collect()
+    let is_answer = |line: &&str| line.starts_with("ok ") || line.starts_with("err ");
+    let rows: Vec<Row> =
+        text.lines().filter(is_answer).map(|line| row(line).expect(line)).collect();
+    assert_eq!(rows.len(), count, "rows in {name}");
+    rows
 }
 
 fn row(line: &str) -> Option<Row> {
     let (answer, rest) = line.split_once(" | ")?;
-    let (_, row) = rest.rsplit_once(" | ").unwrap_or(("", rest));
+    let (original, row) = rest.rsplit_once(" | ").unwrap_or((answer, rest));
     let row = unescaped(row)?;
     let mut words = row.splitn(5, |&byte| byte == b' ');
     let mut word = || words.next().map(<[u8]>::to_vec);
@@ -49,6 +73,7 @@ fn row(line: &str) -> Option<Row> {
     let flags = word()?;
     (engine == "w").then_some(Row {
         answer: answer.to_string(),
+        original: original.to_string(),
         call,
         integer,
         skip_zeroes: flags.starts_with(b"z"),
@@ -91,10 +116,10 @@ fn of_any<T: Parse + Display>(row: &Row) -> String {
     match row.call.as_str() {
         "parse" => whole(T::atoi_simd_parse(text, row.skip_zeroes, row.skip_plus)),
         "prefix" => prefix(T::atoi_simd_parse_prefix(text, row.skip_zeroes, row.skip_plus)),
-        "pos" if row.skip_zeroes => whole(torkettle::parse_pos::<T, true>(text)),
-        "pos" => whole(torkettle::parse_pos::<T, false>(text)),
-        "prefix_pos" if row.skip_zeroes => prefix(torkettle::parse_prefix_pos::<T, true>(text)),
-        "prefix_pos" => prefix(torkettle::parse_prefix_pos::<T, false>(text)),
+        "pos" if row.skip_zeroes => whole(calls::parse_pos::<T, true>(text)),
+        "pos" => whole(calls::parse_pos::<T, false>(text)),
+        "prefix_pos" if row.skip_zeroes => prefix(calls::parse_prefix_pos::<T, true>(text)),
+        "prefix_pos" => prefix(calls::parse_prefix_pos::<T, false>(text)),
         other => panic!("no call {other} of an unsigned type"),
     }
 }
