@@ -94,6 +94,15 @@ fn lines_are_those_of_std() {
     }
 }
 
+// The error of a column for a bad field: it is about the input from the field on.
+fn column_error<'a>(input: &'a str, bad: &FieldError<'_>) -> ColumnError<'a> {
+    let FieldError { index, place, .. } = *bad;
+    match torkettle::parse_prefix::<i8, true, true>(&input.as_bytes()[place..]) {
+        Ok((_, length)) => ColumnError::Trailing { index, place: place + length },
+        Err(cause) => ColumnError::Field { index, place, cause },
+    }
+}
+
 #[test]
 fn a_column_ends_with_its_first_error() {
     for text in COLUMNS {
@@ -104,14 +113,11 @@ fn a_column_ends_with_its_first_error() {
         for (item, field) in column.iter().zip(&all) {
             match (item, field) {
                 (Ok(value), Ok(expected)) => assert_eq!(value, expected),
-                (Err(error), Err(bad)) => assert_eq!(error.index(), bad.index, "{text:?}"),
+                (Err(error), Err(bad)) => assert_eq!(*error, column_error(text, bad), "{text:?}"),
                 _ => panic!("{item:?} of a column, {field:?} of the fields of {text:?}"),
             }
         }
     }
-    let error = Column::<u8>::new(b"1,256,3", b',').find_map(Result::err);
-    let cause = AtoiSimdError::Overflow(b"256,3");
-    assert_eq!(error, Some(ColumnError::Field { index: 1, place: 2, cause }));
 }
 
 #[test]

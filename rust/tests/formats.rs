@@ -87,14 +87,6 @@ fn formats_are_those_of_std() {
 }
 
 #[test]
-fn the_byte_is_there() {
-    assert_eq!(strip_byte(b".5", b'.'), Some(&b"5"[..]));
-    assert_eq!(strip_byte(b"..5", b'.'), Some(&b".5"[..]));
-    assert_eq!(strip_byte(b"5.", b'.'), None);
-    assert_eq!(strip_byte(b"", b'.'), None);
-}
-
-#[test]
 fn no_digit_ends_a_number() {
     std::panic::set_hook(Box::new(|_| {}));
     for byte in 0..=255_u8 {

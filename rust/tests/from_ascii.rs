@@ -107,13 +107,8 @@ fn generated_texts_are_read_as_by_std() {
 #[test]
 fn an_error_outlives_its_text() {
     fn is_plain<E: Error + Copy + Eq + Send + Sync + 'static>() {}
-    fn port(text: String) -> Result<u16, Box<dyn Error + Send + Sync>> {
-        Ok(from_ascii(text.trim_ascii().as_bytes())?)
-    }
     is_plain::<IntError>();
     assert_eq!(size_of::<IntError>(), 16);
-    assert_eq!(port(" 8080 ".to_string()).unwrap(), 8080);
-    assert_eq!(port("80x".to_string()).unwrap_err().to_string(), "unexpected byte at byte 2");
 }
 
 #[test]
