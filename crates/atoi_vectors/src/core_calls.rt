@@ -53,9 +53,8 @@ fn parts_of(window: Window) -> Parts {
     )
 }
 
-/// Checks the parses over an engine. `body` is the slice, with the number of bytes at its start
-/// that are digits of that engine.
-pub(crate) fn check_engine<E: Engine>(rt: &impl Abort, body: Body<'_>) {
+// Checks the parses over an engine.
+fn check_engine<E: Engine>(rt: &impl Abort, body: Body<'_>) {
     for skip in [false, true] {
         check_narrow::<E>(rt, skip, body);
         check_64::<E>(rt, skip, body);
@@ -112,8 +111,8 @@ fn check_128<E: Engine>(rt: &impl Abort, skip: bool, body: Body<'_>) {
     }
 }
 
-/// Checks the core calls of each type over an engine. `body` is as for `check_engine`.
-pub(crate) fn check_types<E: Engine>(rt: &impl Abort, body: Body<'_>) {
+// Checks the core calls of each type over an engine.
+fn check_types<E: Engine>(rt: &impl Abort, body: Body<'_>) {
     let (unsigned, signed) = (Class::Wide64(20), Class::Wide64(19));
     for skip in [false, true] {
         check_pos::<E, u8>(rt, Class::Narrow, 255, skip, body);
@@ -228,4 +227,9 @@ fn check_both<E: Engine, T: Signed>(
         prefix_parts(prefix_neg::<E, T>(skip, body.bytes, &mut steps))
             => body.prefix(class, magnitude, skip).map(|(number, len)| (number > 0, number, len));
     );
+}
+
+#[test]
+fn steps_have_no_bytes(rt: HostRuntime) {
+    gives(&rt, std::mem::size_of::<Steps>(), 0);
 }

@@ -1,18 +1,21 @@
 //! What `Display` writes for errors, and how errors compare. No clause says that `Display` returns `Ok`.
 
 use crate::checks::{gives, printed};
-use atoi_simd::AtoiSimdError::{self, Empty, Invalid64, Invalid128, Overflow, Size};
+use atoi_column::{ColumnError, FieldError};
+use atoi_formats::from_ascii;
+use atoi_simd::AtoiSimdError::{Empty, Invalid64, Invalid128, Overflow, Size};
 use std::alloc::{AllocError, Global};
 use std::cmp::Ordering;
+use std::error::Error;
 use std::process::Abort;
 
-fn displays(
+fn displays<E: Error>(
     rt: &impl Abort,
     alloc: Global,
-    error: AtoiSimdError<'_>,
+    error: &E,
     text: &str,
 ) -> Result<(), AllocError> {
-    gives(rt, printed(alloc, &error)?.as_str(), text);
+    gives(rt, printed(alloc, error)?.as_str(), text);
     Ok(())
 }
 
@@ -23,10 +26,6 @@ fn short_texts(rt: HostRuntime) -> Result<(), AllocError> {
         (Size(27, b"11"), "atoi_simd wrong size: 27 input: [31, 31]"),
         (Overflow(b"129"), "atoi_simd overflow, input: [31, 32, 39]"),
         (
-            Invalid64(12, 2, b"12a"),
-            "atoi_simd invalid at index: 2 it must contain only digits, starting with: 12  input: [31, 32, 61]",
-        ),
-        (
             Invalid64(255, 3, b"255\r"),
             "atoi_simd invalid at index: 3 it must contain only digits, starting with: 255  input: [32, 35, 35, D]",
         ),
@@ -34,18 +33,9 @@ fn short_texts(rt: HostRuntime) -> Result<(), AllocError> {
             Invalid128(12, 2, b"12a"),
             "atoi_simd invalid at index: 2 it must contain only digits, starting with: 12 input: [31, 32, 61]",
         ),
-        (Size(0, b""), "atoi_simd wrong size: 0 input: []"),
         (Overflow(b""), "atoi_simd overflow, input: []"),
-        (
-            Invalid64(0, 0, b""),
-            "atoi_simd invalid at index: 0 it must contain only digits, starting with: 0  input: []",
-        ),
-        (
-            Invalid128(0, 0, b"\0"),
-            "atoi_simd invalid at index: 0 it must contain only digits, starting with: 0 input: [0]",
-        ),
     ] {
-        displays(&rt, rt.alloc(), error, text)?;
+        displays(&rt, rt.alloc(), &error, text)?;
     }
     Ok(())
 }
@@ -70,26 +60,7 @@ fn the_longest_slices_and_the_largest_numbers(rt: HostRuntime) -> Result<(), All
             "atoi_simd invalid at index: 18446744073709551615 it must contain only digits, starting with: 340282366920938463463374607431768211455 input: [FF, FF, FF, FF, FF, FF, FF, FF, FF, FF, FF, FF, FF, FF, FF, FF, FF, FF, FF, FF, FF, FF, FF, FF, FF, FF, FF, FF, FF, FF, FF, FF, FF, FF, FF, FF, FF, FF, FF, FF, FF, FF, FF, FF, FF, FF, FF, FF]",
         ),
     ] {
-        displays(&rt, rt.alloc(), error, text)?;
-    }
-    Ok(())
-}
-
-#[test]
-fn bytes_in_hexadecimal(rt: HostRuntime) -> Result<(), AllocError> {
-    let bytes =
-        b"\x00\x01\x02\x03\x04\x05\x06\x07\x08\x09\x0A\x0B\x0C\x0D\x0E\x0F\x10\x7F\x80\xA9\xFE";
-    for (error, text) in [
-        (
-            Overflow(bytes),
-            "atoi_simd overflow, input: [0, 1, 2, 3, 4, 5, 6, 7, 8, 9, A, B, C, D, E, F, 10, 7F, 80, A9, FE]",
-        ),
-        (
-            Overflow(&[10; 50]),
-            "atoi_simd overflow, input: [A, A, A, A, A, A, A, A, A, A, A, A, A, A, A, A, A, A, A, A, A, A, A, A, A, A, A, A, A, A, A, A, A, A, A, A, A, A, A, A, A, A, A, A, A, A, A, A]",
-        ),
-    ] {
-        displays(&rt, rt.alloc(), error, text)?;
+        displays(&rt, rt.alloc(), &error, text)?;
     }
     Ok(())
 }
@@ -109,18 +80,51 @@ fn the_same_text_in_every_format(rt: HostRuntime) -> Result<(), AllocError> {
 }
 
 #[test]
-fn errors_are_ordered_by_variant_then_numbers_then_slice(rt: HostRuntime) {
-    gives(&rt, Size(9, b"b") < Overflow(b"a"), true);
-    gives(&rt, Overflow(b"1") < Overflow(b"11"), true);
-    gives(&rt, Invalid64(1, 2, b"a") < Invalid64(2, 1, b"a"), true);
+fn errors_of_columns(rt: HostRuntime) -> Result<(), AllocError> {
+    let (index, place, alloc) = (usize::MAX, usize::MAX, rt.alloc());
+    let cause = Invalid128(u128::MAX, usize::MAX, b"2xy");
+    let trailing = ColumnError::Trailing { index, place };
+    let column = ColumnError::Field {
+        index,
+        place,
+        cause,
+    };
+    let field = FieldError {
+        index,
+        place,
+        text: b"2x",
+        cause,
+    };
+    let fault = "field 18446744073709551615 at byte 18446744073709551615 has an unexpected byte";
+    let byte = "field 18446744073709551615 has an unexpected byte at byte 18446744073709551615";
+    let sum =
+        "field 18446744073709551615 at byte 18446744073709551615 has an unexpected byte at byte 36893488147419103230";
+    displays(&rt, alloc, &trailing, byte)?;
+    displays(&rt, alloc, &column, fault)?;
+    displays(&rt, alloc, &field, sum)
+}
+
+fn message(rt: &impl Abort, alloc: Global, text: &[u8], expected: &str) -> Result<(), AllocError> {
+    match from_ascii::<u8>(text) {
+        Ok(number) => gives(rt, Ok(number), Err(expected)),
+        Err(error) => displays(rt, alloc, &error, expected)?,
+    }
+    Ok(())
 }
 
 #[test]
-fn the_methods_compare_as_the_operators(rt: HostRuntime) {
-    let size = Size(9, b"b");
-    let overflow = Overflow(b"a");
+fn errors_of_from_ascii(rt: HostRuntime) -> Result<(), AllocError> {
+    gives(&rt, from_ascii::<u8>(b"+00255").ok(), Some(255));
+    message(&rt, rt.alloc(), b"+", "no digit at byte 1")?;
+    message(&rt, rt.alloc(), b"+12x", "unexpected byte at byte 3")?;
+    message(&rt, rt.alloc(), b"256", "number out of range")
+}
+
+#[test]
+fn errors_compare(rt: HostRuntime) {
+    let (size, overflow) = (Size(9, b"b"), Overflow(b"a"));
+    gives(&rt, size < overflow, true);
     gives(&rt, size.order(&overflow), Ordering::Less);
     gives(&rt, overflow.partial_order(&size), Some(Ordering::Greater));
-    gives(&rt, size.is_same_as(&Size(9, b"b")), true);
     gives(&rt, size.is_same_as(&overflow), false);
 }

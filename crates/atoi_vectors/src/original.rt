@@ -669,14 +669,3 @@ ok 7 1 | w prefix_pos isize -- 7\xFF9
 err atoi_simd string is empty | w prefix u8 zp -0x
 err atoi_simd string is empty | w prefix u64 -- -0x
 ";
-
-/// Splits a line into the answer and the row. In `differences`, a column separates the two.
-pub fn answer_and_row(line: &[u8]) -> Option<(&[u8], &[u8])> {
-    let mut columns = line.split(|byte| *byte == b'|');
-    let answer = columns.next()?.trim_ascii_end();
-    let row = columns.last()?.trim_ascii_start();
-    Some((answer, row))
-}
-
-#[cfg(test)]
-mod tests;

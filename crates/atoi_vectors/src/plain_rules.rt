@@ -9,8 +9,8 @@ fn count_digits(s: &[u8]) -> usize {
         .unwrap_or(s.len())
 }
 
-/// Returns how many zeros `s` begins with.
-pub(crate) fn count_zeros(s: &[u8]) -> usize {
+// Returns how many zeros `s` begins with.
+fn count_zeros(s: &[u8]) -> usize {
     s.iter().position(|byte| *byte != b'0').unwrap_or(s.len())
 }
 
@@ -47,12 +47,12 @@ pub(crate) enum Class {
 #[derive(Clone, Copy)]
 pub(crate) struct Body<'a> {
     pub bytes: &'a [u8],
-    /// How many zeros it begins with.
-    pub zeros: usize,
-    /// How many digits it begins with, including these zeros.
-    pub digits: usize,
-    /// The value of the digits, or `None` if it is above `u128::MAX`.
-    pub number: Option<u128>,
+    // How many zeros it begins with.
+    zeros: usize,
+    // How many digits it begins with, including these zeros.
+    digits: usize,
+    // The value of the digits, or `None` if it is above `u128::MAX`.
+    number: Option<u128>,
 }
 
 impl<'a> Body<'a> {

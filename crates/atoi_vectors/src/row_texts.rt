@@ -2,12 +2,12 @@
 
 use crate::core_calls::check_all;
 use crate::differences::{LONG_ROWS, PLUS_ROWS};
-use crate::original::{ROWS, answer_and_row};
+use crate::original::ROWS;
 use std::process::Abort;
 use std::test::Fail;
 
-// Slices of worked examples, without their signs, and slices of the tests of windows, one on each
-// line, except those that are texts of rows.
+// Slices of worked examples, without their signs, and slices in which a window of 8 or 16 bytes ends, one
+// on each line, except those that are texts of rows.
 const WORKED: &[u8] = b"\
 000000000000000000001234
 1234
@@ -69,11 +69,14 @@ fn on_every_worked_slice(rt: HostRuntime) {
     }
 }
 
-// Checks the text of each row. The text follows the first four words of the row.
+// Checks the text of each row. The text follows the first four words of the last column.
 fn check_texts(rt: &impl Abort, lines: &[u8]) -> Result<(), Fail> {
     for line in lines.split(is_end).filter(|line| !line.is_empty()) {
-        let (_, row) = answer_and_row(line).ok_or("no columns")?;
-        let text = row.splitn(5, |byte| *byte == b' ').nth(4);
+        let row = line.split(|byte| *byte == b'|').last().ok_or("no column")?;
+        let text = row
+            .trim_ascii_start()
+            .splitn(5, |byte| *byte == b' ')
+            .nth(4);
         check_all(rt, text.ok_or("no text")?);
     }
     Ok(())

@@ -1,8 +1,11 @@
-//! Runs of up to 49 digits, and runs with each of the 256 bytes at each offset: every engine answers as
-//! the plain rules.
+//! Runs of up to 49 digits, a million zeros, and runs with each of the 256 bytes at each offset: every
+//! engine answers as the plain rules.
 
+use crate::checks::{give, on_each_engine};
 use crate::core_calls::check;
+use atoi_core::{Engine, Steps, narrow_prefix};
 use std::process::Abort;
+use std::test::Fail;
 
 // Zeros, ones, zeros before a seven, and all digits in turn.
 #[test]
@@ -16,6 +19,24 @@ fn of_every_length(rt: HostRuntime) {
         check(&rt, &seven[48 - len..]);
         check(&rt, &digits[..len]);
     }
+}
+
+fn after_zeros<E: Engine>(rt: &impl Abort, text: &[u8]) {
+    let mut steps = Steps::new();
+    give!(rt;
+        narrow_prefix::<E>(255, true, text, &mut steps) => Ok((7, 1_000_001));
+        E::prefix_64(u64::MAX, 20, true, text, &mut steps) => Ok((7, 1_000_001));
+        E::prefix_128(u128::MAX, true, text, &mut steps) => Ok((7, 1_000_001));
+    );
+}
+
+// A call inside another for each block of zeros would overflow the stack.
+#[test]
+fn after_a_million_zeros(rt: HostRuntime) -> Result<(), Fail> {
+    let mut text = vec![in rt.alloc(); b'0'; 1_000_000]?;
+    text.push(b'7')?;
+    on_each_engine!(after_zeros(&rt, &text));
+    Ok(())
 }
 
 // A run of `len` ones, then a byte that carries into the next one when a constant is added to a

@@ -40,6 +40,7 @@ fn the_functions_that_take_no_sign(rt: HostRuntime) {
     on_both!(rt;
         parse_pos::<u128, true>(b"0012") => Ok(12);
         parse_neg::<i8, false>(b"128") => Ok(-128);
+        parse_neg::<isize, true>(b"007") => Ok(-7);
         parse_prefix_pos::<u16, false>(b"80/tcp") => Ok((80, 2));
         parse_prefix_neg::<i32, false>(b"12a") => Ok((-12, 2));
         parse_any_pos::<u8>(b"255.") => Ok((255, 3));
@@ -158,6 +159,7 @@ fn the_ends_of_128_bits(rt: HostRuntime) {
         parse::<u128, false, false>(greatest) => Ok(u128::MAX);
         parse::<u128, false, false>(above) => Err(Overflow(above));
         parse_any_neg::<i128>(least) => Ok((i128::MIN, 39));
+        parse::<i128, false, false>(&greatest[..38]) => Ok(34028236692093846346337460743176821145);
         parse::<u128, false, false>(&zeros[..39]) => Ok(0);
         parse::<u128, false, false>(zeros) => Err(Size(40, zeros));
     );
