@@ -21,7 +21,7 @@ pub fn check(package: &Package, scopes: &Scopes) -> Done<()> {
     for (module, found) in package.modules.iter().enumerate() {
         let (source, members, locals) = (&found.source, &members, Vec::new());
         let mut names = Names { scopes, module, source, members, locals };
-        found.tree.items.iter().try_for_each(|item| names.item(item))?;
+        found.items.iter().try_for_each(|item| names.item(item))?;
     }
     Ok(())
 }
@@ -41,7 +41,7 @@ impl<'a> Members<'a> {
         let mut members = Members::default();
         for is_trait in [false, true] {
             for module in &package.modules {
-                let items = module.tree.items.iter().filter(|item| match item.kind {
+                let items = module.items.iter().filter(|item| match item.kind {
                     ItemKind::Trait { .. } => is_trait,
                     ItemKind::Implementation { of: None, .. } => !is_trait,
                     _ => false,
@@ -152,9 +152,8 @@ impl<'a> Names<'a> {
     // a trait of ours itself, which no type of theirs has.
     fn implementation(&self, item: &Item) -> Done<()> {
         let is_own = |path: &Path| self.is_own_trait(&path.names());
-        let is_open = |parameter: &&GenericParameter| match &parameter.kind {
-            GenericKind::Type(bound) => !bound.as_ref().is_some_and(is_own),
-            GenericKind::Constant(_) => false,
+        let is_open = |it: &&GenericParameter| {
+            it.constant.is_none() && !it.bound.as_ref().is_some_and(is_own)
         };
         let reason = "an `impl` for types that users can make";
         let open = item.generics.iter().find(is_open);

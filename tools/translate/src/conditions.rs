@@ -66,7 +66,7 @@ const INNER_CRATES: &str = "atoi_core atoi_fast atoi_lanes";
 pub fn tests(package: &Package, exported: &[&str]) -> Done<Vec<Tests>> {
     let tests = package.modules.iter().map(|module| {
         let mut finder = Finder { module, exported, tests: Tests::new() };
-        module.tree.items.iter().try_for_each(|item| finder.item(item))?;
+        module.items.iter().try_for_each(|item| finder.item(item))?;
         Ok(finder.tests)
     });
     tests.collect()
@@ -121,7 +121,7 @@ impl Finder<'_> {
         owner: &str,
         item: &Item,
         function: &Function,
-        body: Option<&Block>,
+        body: Option<&Expression>,
     ) -> Done<()> {
         let Module { crate_name, path, source, .. } = self.module;
         let path = format!("{crate_name}::{}::{owner}::{}", path.join("::"), item.name.text);
@@ -155,7 +155,7 @@ impl Finder<'_> {
 
     // Whether all `ghost use` lines of the module that import a name, and at least one, import it from here.
     fn imports(&self, name: &str, from: &str) -> bool {
-        let items = self.module.tree.items.iter();
+        let items = self.module.items.iter();
         let items = items.flat_map(|item| std::iter::once(item).chain(item.members()));
         let mut modules = items.filter_map(|item| match &item.kind {
             ItemKind::GhostUse { module, names } => {
@@ -170,7 +170,7 @@ impl Finder<'_> {
     // or change.
     fn model(&self, item: &Item, target: &Type) -> Done<()> {
         let is_target = |item: &&Item| item.name.text == name_of(target);
-        let found = self.module.tree.items.iter().find(is_target);
+        let found = self.module.items.iter().find(is_target);
         let is_sealed = found.is_some_and(
             |found| matches!(&found.kind, ItemKind::Struct { fields, .. } if is_sealed(fields)),
         );
@@ -192,7 +192,7 @@ impl Finder<'_> {
 
 // The name of a type, or of the module that it is in.
 fn name_of(target: &Type) -> &str {
-    if let TypeKind::Path(path) = &target.kind { &path.segments[0].name.text } else { "" }
+    if let Kind::Path(path) = &target.kind { &path.segments[0].name.text } else { "" }
 }
 
 fn functions(item: &Item) -> impl Iterator<Item = (&Item, &Function)> {

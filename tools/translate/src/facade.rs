@@ -2,7 +2,7 @@
 //! no export may be a module, all names of one, or another name of something. What is proved of a trait holds
 //! for our own types alone, so users must not be able to implement one.
 
-use crate::lexer::Kind;
+use crate::lexer::TokenKind;
 use crate::modules::CRATES;
 use crate::parser::Parser;
 use crate::resolve::{Definition, Scopes};
@@ -37,7 +37,7 @@ pub fn exports(source: &Source) -> Done<Vec<Export>> {
 fn items(parser: &mut Parser, is_top: bool, exports: &mut Vec<Export>) -> Done<()> {
     loop {
         let needs_lanes = attributes(parser)?;
-        if is_top && parser.kind() == Kind::End || !is_top && parser.eat("}") {
+        if is_top && parser.kind() == TokenKind::End || !is_top && parser.eat("}") {
             return Ok(());
         }
         item(parser, is_top, needs_lanes, exports)?;
@@ -52,7 +52,7 @@ fn attributes(parser: &mut Parser) -> Done<bool> {
             attribute(parser)?;
         } else if parser.eat("#") {
             needs_lanes |= attribute(parser)?;
-        } else if !parser.eat_kind(Kind::Doc) {
+        } else if !parser.eat_kind(TokenKind::Doc) {
             return Ok(needs_lanes);
         }
     }
@@ -70,7 +70,7 @@ fn attribute(parser: &mut Parser) -> Done<bool> {
             "\"lanes\"" => needs_lanes = true,
             text => is_known &= !has(REFUSED, text),
         }
-        is_known &= parser.kind() != Kind::End;
+        is_known &= parser.kind() != TokenKind::End;
         parser.check_form(is_known, parser.span(), &format!("this attribute `{name}`"))?;
         parser.step();
     }

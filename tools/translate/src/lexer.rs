@@ -3,7 +3,7 @@
 use crate::source::{Done, Source, Span};
 
 #[derive(Clone, Copy, Debug, PartialEq, Eq)]
-pub enum Kind {
+pub enum TokenKind {
     /// A name or a keyword.
     Name,
     Lifetime,
@@ -26,7 +26,7 @@ pub enum Kind {
 /// A token, and the comments between it and the token before.
 #[derive(Clone, Debug)]
 pub struct Token {
-    pub kind: Kind,
+    pub kind: TokenKind,
     pub span: Span,
     pub comments: Vec<Span>,
 }
@@ -69,7 +69,7 @@ impl<'a> Lexer<'a> {
                 _ => {}
             }
         }
-        self.push(Kind::End, 0);
+        self.push(TokenKind::End, 0);
         Ok(self.tokens)
     }
 
@@ -94,7 +94,7 @@ impl<'a> Lexer<'a> {
     }
 
     // Adds the next `length` bytes as a token, and returns its text.
-    fn push(&mut self, kind: Kind, length: usize) -> &'a str {
+    fn push(&mut self, kind: TokenKind, length: usize) -> &'a str {
         let span = Span { start: self.at, end: self.at + length };
         self.at = span.end;
         self.tokens.push(Token { kind, span, comments: std::mem::take(&mut self.comments) });
@@ -126,16 +126,16 @@ impl<'a> Lexer<'a> {
             return self.refuse("a raw text, a raw name or a text of C");
         }
         Ok(match rest.as_bytes() {
-            [b'/', b'/', ..] => self.push(Kind::Doc, line_length(rest)),
+            [b'/', b'/', ..] => self.push(TokenKind::Doc, line_length(rest)),
             [b'/', b'*', ..] => return self.refuse("a comment between `/*` and `*/`"),
-            [b'"', ..] => self.quoted(Kind::Text, 0)?,
-            [b'b', b'"', ..] => self.quoted(Kind::Text, 1)?,
-            [b'b', b'\'', ..] => self.quoted(Kind::Byte, 1)?,
+            [b'"', ..] => self.quoted(TokenKind::Text, 0)?,
+            [b'b', b'"', ..] => self.quoted(TokenKind::Text, 1)?,
+            [b'b', b'\'', ..] => self.quoted(TokenKind::Byte, 1)?,
             [b'\'', ..] if name_length(&rest[1..]) > 0 => {
-                self.push(Kind::Lifetime, 1 + name_length(&rest[1..]))
+                self.push(TokenKind::Lifetime, 1 + name_length(&rest[1..]))
             }
-            [b'0'..=b'9', ..] => self.push(Kind::Integer, name),
-            _ if name > 0 => self.push(Kind::Name, name),
+            [b'0'..=b'9', ..] => self.push(TokenKind::Integer, name),
+            _ if name > 0 => self.push(TokenKind::Name, name),
             _ => self.symbol()?,
         })
     }
@@ -143,16 +143,16 @@ impl<'a> Lexer<'a> {
     fn symbol(&mut self) -> Done<&'a str> {
         let rest = self.rest();
         if let Some(symbol) = SYMBOLS.iter().find(|symbol| rest.starts_with(**symbol)) {
-            return Ok(self.push(Kind::Symbol, symbol.len()));
+            return Ok(self.push(TokenKind::Symbol, symbol.len()));
         }
         match rest.chars().next() {
-            Some(first) if SINGLE.contains(first) => Ok(self.push(Kind::Symbol, 1)),
+            Some(first) if SINGLE.contains(first) => Ok(self.push(TokenKind::Symbol, 1)),
             first => self.refuse(format!("`{}` outside of a clause", first.unwrap_or(' '))),
         }
     }
 
     // Reads a text or byte whose first quote is at `from`.
-    fn quoted(&mut self, kind: Kind, from: usize) -> Done<&'a str> {
+    fn quoted(&mut self, kind: TokenKind, from: usize) -> Done<&'a str> {
         let rest = self.rest().as_bytes();
         let mut bytes = rest.iter().enumerate().skip(from + 1);
         while let Some((offset, byte)) = bytes.next() {
@@ -170,7 +170,7 @@ impl<'a> Lexer<'a> {
     fn contract(&mut self) -> Done<()> {
         let name = name_length(self.skip_space());
         if name > 0 {
-            self.push(Kind::Name, name);
+            self.push(TokenKind::Name, name);
         }
         self.clause()
     }
@@ -178,13 +178,13 @@ impl<'a> Lexer<'a> {
     // Reads what follows `ghost`: `use PATH;`, `NAME: {..}` or `NAME = {..}`.
     fn ghost(&mut self) -> Done<()> {
         let name = name_length(self.skip_space());
-        if self.push(Kind::Name, name) == "use" {
+        if self.push(TokenKind::Name, name) == "use" {
             return self.ghost_path();
         }
         if name == 0 || !self.skip_space().starts_with([':', '=']) {
             return self.refuse("a ghost item without `:` or `=`");
         }
-        self.push(Kind::Symbol, 1);
+        self.push(TokenKind::Symbol, 1);
         self.clause()
     }
 
@@ -196,7 +196,7 @@ impl<'a> Lexer<'a> {
         if path.contains('"') || HIDING.iter().any(|sign| path.contains(sign)) {
             return self.refuse("a comment or a text in a `ghost use`");
         }
-        self.push(Kind::GhostPath, path.len());
+        self.push(TokenKind::GhostPath, path.len());
         Ok(())
     }
 
@@ -220,7 +220,7 @@ impl<'a> Lexer<'a> {
                 _ => {}
             }
             if depth == 0 {
-                self.push(Kind::Clause, offset + 1);
+                self.push(TokenKind::Clause, offset + 1);
                 return Ok(());
             }
         }

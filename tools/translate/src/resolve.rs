@@ -41,7 +41,7 @@ impl<'a> Scopes<'a> {
         }
         for (number, module) in package.modules.iter().enumerate() {
             scopes.check_declaration(number, module)?;
-            for item in &module.tree.items {
+            for item in &module.items {
                 if let ItemKind::Use(imports) = &item.kind {
                     imports.iter().try_for_each(|import| scopes.import(number, import))?;
                 }
@@ -51,7 +51,7 @@ impl<'a> Scopes<'a> {
     }
 
     fn declare_items(&mut self, number: usize, module: &Module) -> Done<()> {
-        for (item, Item { name, kind, .. }) in module.tree.items.iter().enumerate() {
+        for (item, Item { name, kind, .. }) in module.items.iter().enumerate() {
             let below = || [&*module.path, std::slice::from_ref(&name.text)].concat();
             let definition = match kind {
                 ItemKind::Use(_) | ItemKind::Implementation { .. } => None,
@@ -145,7 +145,7 @@ impl<'a> Scopes<'a> {
     /// Returns the item that a definition is.
     pub fn item(&self, definition: &Definition) -> Option<&'a Item> {
         match definition {
-            Definition::Item { module, item } => Some(&self.module(*module).tree.items[*item]),
+            Definition::Item { module, item } => Some(&self.module(*module).items[*item]),
             _ => None,
         }
     }
@@ -167,7 +167,7 @@ impl<'a> Scopes<'a> {
 
     // Returns a variant, if the item is an `enum` that has it.
     fn variant(&self, module: usize, item: usize, name: &str) -> Option<Definition> {
-        let ItemKind::Enum(variants) = &self.module(module).tree.items[item].kind else {
+        let ItemKind::Enum(variants) = &self.module(module).items[item].kind else {
             return None;
         };
         let variant = variants.iter().position(|it| it.name.text == name)?;

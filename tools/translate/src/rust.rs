@@ -5,7 +5,7 @@
 use crate::conditions::Tests;
 use crate::engines;
 use crate::modules::{CRATES, Module};
-use crate::parser::WRITER;
+use crate::parser::{TACTIC, WRITER};
 use crate::source::{Done, Fault, Span};
 use crate::tree::*;
 
@@ -28,10 +28,9 @@ struct Printer<'a> {
 
 impl Printer<'_> {
     fn run(&mut self) {
-        let Module { tree, left_out, crate_name, path, .. } = self.module;
-        let left_out = left_out.iter().map(|item| &item.span);
-        tree.hints.iter().chain(left_out).for_each(|span| self.comment(*span));
-        for item in &tree.items {
+        let Module { items, left_out, crate_name, path, .. } = self.module;
+        left_out.iter().for_each(|item| self.comment(item.span));
+        for item in items {
             if path.is_empty() && engines::needs_lanes(crate_name, item) {
                 self.insert(item.span.start, "#[cfg(feature = \"lanes\")] ");
             }
@@ -82,10 +81,10 @@ impl Printer<'_> {
     }
 
     fn attribute(&mut self, attribute: &Attribute, item: &Item) {
-        match &attribute.kind {
-            AttributeKind::Tactic => self.comment(attribute.span),
-            AttributeKind::Derive(names) => self.derive(attribute.span, names),
-            AttributeKind::AlwaysInline if is_compiled_once(item) => {
+        match attribute.text {
+            TACTIC => self.comment(attribute.span),
+            "derive" => self.derive(attribute.span, &attribute.derived),
+            "inline(always)" if is_compiled_once(item) => {
                 let text = "#[cfg_attr(not(debug_assertions), inline(always))]";
                 self.replace(attribute.span, text);
             }
@@ -135,11 +134,7 @@ impl Printer<'_> {
         }
         let Some(body) = &function.body else { return };
         // rustc compiles crates apart, and inlines only what has a hint across them.
-        let is_hint = |it: &Attribute| {
-            use AttributeKind::{AlwaysInline, Inline, NeverInline};
-            matches!(it.kind, Inline | AlwaysInline | NeverInline)
-        };
-        if !item.notes.attributes.iter().any(is_hint) {
+        if !["inline", "inline(always)", "inline(never)"].iter().any(|hint| item.has(hint)) {
             self.insert(item.span.start, "#[inline] ");
         }
         if let Some(test) = self.tests.get(&body.span.start) {

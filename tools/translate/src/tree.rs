@@ -3,25 +3,6 @@
 
 use crate::source::Span;
 
-/// A module, and the parts of the hints to the prover for all of it.
-#[derive(Default)]
-pub struct Tree {
-    pub hints: Vec<Span>,
-    pub items: Vec<Item>,
-}
-
-/// A part of a tree, and its place in the source.
-pub struct Node<K> {
-    pub span: Span,
-    pub kind: K,
-}
-
-pub type Attribute = Node<AttributeKind>;
-pub type Type = Node<TypeKind>;
-pub type Literal = Node<LiteralKind>;
-pub type Pattern = Node<PatternKind>;
-pub type Expression = Node<ExpressionKind>;
-
 #[derive(Clone)]
 pub struct Name {
     pub text: String,
@@ -36,22 +17,16 @@ pub struct Notes {
     pub attributes: Vec<Attribute>,
 }
 
-#[derive(PartialEq)]
-pub enum AttributeKind {
-    Inline,
-    AlwaysInline,
-    NeverInline,
-    Cold,
-    /// `#[doc(hidden)]`.
-    Hidden,
+/// An attribute: what is between its brackets, without arguments if these are names or a hint to the prover.
+pub struct Attribute {
+    pub span: Span,
+    pub text: &'static str,
     /// The names of what is derived.
-    Derive(Vec<String>),
-    /// A hint to the prover.
-    Tactic,
+    pub derived: Vec<String>,
 }
 
-/// An item of a module, a trait or an `impl`. Its part begins with its visibility. A `use`, an `impl` and a
-/// `ghost use` have an empty name.
+/// An item of a module, a trait or an `impl`. Its part begins with its visibility. A `use`, an `impl` and what only
+/// proofs read may have an empty name.
 pub struct Item {
     pub span: Span,
     pub notes: Notes,
@@ -108,7 +83,7 @@ pub enum ItemKind {
     // `impl OF for TARGET`, or `impl TARGET`.
     Implementation { of: Option<Path>, target: Type, members: Vec<Item> },
     Function(Function),
-    // An item of a trait or an `impl` that only proofs read.
+    // What only proofs read: an item of a trait or an `impl`, or a hint for all of a module.
     Ghost,
     // `ghost use MODULE.{NAMES};`.
     GhostUse { module: String, names: Vec<String> },
@@ -138,7 +113,8 @@ pub struct Function {
     /// The type of the result, if it is not `()`.
     pub output: Option<Type>,
     pub clauses: Vec<Clause>,
-    pub body: Option<Block>,
+    /// A block.
+    pub body: Option<Expression>,
 }
 
 pub struct Parameter {
@@ -155,24 +131,11 @@ pub struct Clause {
     pub is_condition: bool,
 }
 
+/// A type with the trait that bounds it, or a constant with its type.
 pub struct GenericParameter {
     pub name: Name,
-    pub kind: GenericKind,
-}
-
-pub enum GenericKind {
-    /// A type, and the trait that bounds it.
-    Type(Option<Path>),
-    Constant(Type),
-}
-
-pub enum TypeKind {
-    Path(Path),
-    Reference { is_mutable: bool, target: Box<Type> },
-    // `()` if it is empty.
-    Tuple(Vec<Type>),
-    Slice(Box<Type>),
-    Array { element: Box<Type>, length: Box<Expression> },
+    pub bound: Option<Path>,
+    pub constant: Option<Type>,
 }
 
 /// Names with `::` between them.
@@ -181,163 +144,125 @@ pub struct Path {
     pub segments: Vec<Segment>,
 }
 
+/// A name of a path, and what is between `<` and `>` behind it: types and literals. A name alone may be that of a
+/// constant.
 pub struct Segment {
     pub name: Name,
-    pub arguments: Vec<GenericArgument>,
+    pub arguments: Vec<Node>,
 }
 
-/// What is between `<` and `>`. A name alone is read as a type, and may be that of a constant.
-pub enum GenericArgument {
-    Type(Type),
-    Constant(Literal),
+/// A type, a pattern or an expression, and what it is made of, in the order of the source.
+pub struct Node {
+    pub span: Span,
+    pub kind: Kind,
+    pub parts: Vec<Node>,
 }
 
-pub enum LiteralKind {
+pub type Type = Node;
+pub type Pattern = Node;
+pub type Expression = Node;
+
+pub enum Kind {
+    // Forms of types, patterns and expressions.
+    Path(Path),
     Boolean(bool),
     Integer(u128),
     Byte(u8),
     // The bytes of a text, which may be written as bytes.
     Text(Vec<u8>),
-}
+    // `&PART` or `&mut PART`.
+    Reference { is_mutable: bool },
+    // `(PARTS)`, without parts also where a block has no value.
+    Tuple,
+    // `[PARTS]`. As a type, it has one part and no length.
+    List,
+    // `[TYPE; LENGTH]` or `[VALUE; LENGTH]`.
+    Array,
+    // `PATH(PARTS)`: a call, or a variant.
+    Call(Path),
+    // `PATH { NAME: PART }`. With the name alone, the part is that name. One part more stands behind `..`.
+    Struct(Path, Vec<Name>),
 
-pub enum PatternKind {
+    // Forms of patterns.
     // `_`.
     Wildcard,
     // `..`, in a slice or a variant.
     Rest,
-    // `NAME` or `NAME @ PATTERN`.
-    Binding { name: Name, is_mutable: bool, pattern: Option<Box<Pattern>> },
-    Literal(Literal),
-    // `LOW..=HIGH`.
-    Range { low: Literal, high: Literal },
-    Tuple(Vec<Pattern>),
-    Slice(Vec<Pattern>),
-    // A variant, or a constant without fields.
-    Variant { path: Path, fields: Vec<Pattern> },
-    // `PATH { NAME: PATTERN }`. With the name alone, the pattern binds it.
-    Struct { path: Path, fields: Vec<(Name, Pattern)> },
+    // `NAME` or `NAME @ PART`.
+    Binding { name: Name, is_mutable: bool },
+    // `PART..=PART`.
+    Range,
     // Patterns with `|` between them.
-    Either(Vec<Pattern>),
-}
+    Either,
 
-pub struct Block {
-    pub span: Span,
-    pub statements: Vec<Statement>,
-    pub value: Option<Box<Expression>>,
-    /// The comments before the value, or before the last `}`.
-    pub comments: Vec<Span>,
-}
-
-pub struct Statement {
-    pub comments: Vec<Span>,
-    pub expression: Expression,
-}
-
-pub enum ExpressionKind {
-    Literal(Literal),
-    Path(Path),
+    // Forms of expressions.
     // An expression between parentheses.
-    Group(Box<Expression>),
-    Tuple(Vec<Expression>),
-    Array(Vec<Expression>),
-    // `[VALUE; LENGTH]`.
-    Repeat { value: Box<Expression>, length: Box<Expression> },
-    // `PATH { NAME: VALUE, ..BASE }`. With the name alone, the value is the variable of that name.
-    Struct { path: Path, fields: Vec<(Name, Expression)>, base: Option<Box<Expression>> },
-    Unary { operator: UnaryOperator, operand: Box<Expression> },
-    // `&OPERAND` or `&mut OPERAND`.
-    Borrow { is_mutable: bool, operand: Box<Expression> },
-    Binary { operator: BinaryOperator, left: Box<Expression>, right: Box<Expression> },
-    // `PLACE = VALUE`, or with an operator, such as `PLACE += VALUE`.
-    Assign { operator: Option<BinaryOperator>, place: Box<Expression>, value: Box<Expression> },
-    // `VALUE as TARGET`.
-    Cast { value: Box<Expression>, target: Type },
-    Call { function: Path, arguments: Vec<Expression> },
-    Method(MethodCall),
-    Field { receiver: Box<Expression>, name: Name },
-    Index { receiver: Box<Expression>, index: Box<Expression> },
-    // `RECEIVER[LOW..HIGH]`.
-    Part { receiver: Box<Expression>, low: Option<Box<Expression>>, high: Option<Box<Expression>> },
-    // `VALUE?`.
-    Try(Box<Expression>),
-    Block(Block),
-    // `if CONDITION THEN else OTHERWISE`, where a block or another `if` follows `else`.
-    If { condition: Box<Expression>, then: Block, otherwise: Option<Box<Expression>> },
-    Match { value: Box<Expression>, arms: Vec<Arm> },
+    Group,
+    // `!`, `-` or `*`, and an operand.
+    Unary(&'static str),
+    // An operator between two operands.
+    Binary(&'static str),
+    // `PART = PART` or `PART += PART`.
+    Assign { is_sum: bool },
+    // `PART as INTEGER`.
+    Cast(&'static str),
+    // `PART.NAME::<GENERICS>(PARTS)`.
+    Method { name: Name, generics: Vec<Node> },
+    // `PART.NAME`.
+    Field(Name),
+    // `PART[PART]`.
+    Index,
+    // `PART[PART..]` is "from" an offset, `PART[..PART]` "to" one, and `PART[PART..PART]` "between" two.
+    Part(&'static str),
+    // `PART?`.
+    Try,
+    // Statements, of which the last is the value.
+    Block,
+    // Comments before the next statement.
+    Comments(Vec<Span>),
+    // `if PART PART else PART`, where a block or another `if` follows `else`.
+    If,
+    // `match PART { PARTS }`.
+    Match,
+    // `PATTERN => PART` or `PATTERN if PART => PART`, and the comments before it.
+    Arm(Vec<Span>),
     // A loop, whose condition is `true` if it has none.
-    While { condition: Box<Expression>, body: Block },
-    For { pattern: Pattern, value: Box<Expression>, body: Block },
-    Closure { parameters: Vec<Pattern>, body: Box<Expression> },
-    // `matches!(VALUE, PATTERN)`.
-    Matches { value: Box<Expression>, pattern: Pattern },
-    Return(Option<Box<Expression>>),
+    While,
+    // `for PATTERN in PART PART`.
+    For,
+    // `|PATTERN| PART`.
+    Closure,
+    // `matches!(PART, PATTERN)`.
+    Matches,
+    // `return` or `return PART`.
+    Return,
     Break,
-    // A statement, or what a condition is: `let PATTERN: ANNOTATION = VALUE else OTHERWISE`.
-    Let(Box<Let>),
+    // A statement, or what a condition is: `let PATTERN: ANNOTATION = PART else PART`.
+    Let(Option<Box<Type>>),
 }
 
-pub struct Let {
-    pub pattern: Pattern,
-    pub annotation: Option<Type>,
-    pub value: Expression,
-    pub otherwise: Option<Block>,
+/// The operators between two operands, by level. Those of later levels bind more tightly.
+pub const LEVELS: [&[&str]; 9] = [
+    &["||"],
+    &["&&"],
+    &["==", "!=", "<", ">", "<=", ">="],
+    &["|"],
+    &["^"],
+    &["&"],
+    &["<<", ">>"],
+    &["+", "-"],
+    &["*", "/", "%"],
+];
+/// The level of comparisons.
+pub const COMPARISON: usize = 2;
+
+pub fn is_comparison(operator: &str) -> bool {
+    LEVELS[COMPARISON].contains(&operator)
 }
 
-/// `RECEIVER.NAME::<GENERICS>(ARGUMENTS)`.
-pub struct MethodCall {
-    pub receiver: Box<Expression>,
-    pub name: Name,
-    pub generics: Vec<GenericArgument>,
-    pub arguments: Vec<Expression>,
-}
-
-/// `PATTERN if GUARD => BODY`.
-pub struct Arm {
-    pub comments: Vec<Span>,
-    pub pattern: Pattern,
-    pub guard: Option<Expression>,
-    pub body: Expression,
-}
-
-#[derive(Clone, Copy, Debug, PartialEq, Eq)]
-pub enum UnaryOperator {
-    Not,
-    Negate,
-    Dereference,
-}
-
-#[derive(Clone, Copy, Debug, PartialEq, Eq)]
-pub enum BinaryOperator {
-    Or,
-    And,
-    Equal,
-    NotEqual,
-    Less,
-    Greater,
-    LessOrEqual,
-    GreaterOrEqual,
-    BitOr,
-    BitXor,
-    BitAnd,
-    ShiftLeft,
-    ShiftRight,
-    Add,
-    Subtract,
-    Multiply,
-    Divide,
-    Remainder,
-}
-
-impl BinaryOperator {
-    pub fn is_comparison(self) -> bool {
-        use BinaryOperator::{Equal, Greater, GreaterOrEqual, Less, LessOrEqual, NotEqual};
-        matches!(self, Equal | NotEqual | Less | Greater | LessOrEqual | GreaterOrEqual)
-    }
-
-    /// Says whether the second operand may have another type.
-    pub fn is_shift(self) -> bool {
-        matches!(self, BinaryOperator::ShiftLeft | BinaryOperator::ShiftRight)
-    }
+/// Says whether the second operand may have another type.
+pub fn is_shift(operator: &str) -> bool {
+    matches!(operator, "<<" | ">>")
 }
 
 impl Item {
@@ -353,6 +278,11 @@ impl Item {
     pub fn is_model(&self) -> bool {
         let ItemKind::Implementation { of: Some(of), .. } = &self.kind else { return false };
         of.names() == ["Model"]
+    }
+
+    /// Says whether it has an attribute.
+    pub fn has(&self, attribute: &str) -> bool {
+        self.notes.attributes.iter().any(|it| it.text == attribute)
     }
 
     pub fn function(&self) -> Option<&Function> {

@@ -14,7 +14,7 @@ fn functions(module: &Module, exported: &[&str]) -> Vec<(usize, bool)> {
         let is_exported = !is_inner || exported.contains(&item.name.text.as_str());
         Some((end, !is_free || item.is_public && is_exported))
     };
-    let items = module.tree.items.iter();
+    let items = module.items.iter();
     let all = items.flat_map(|item| {
         let members = item.members().iter().map(|member| found(member, false));
         std::iter::once(found(item, true)).chain(members)

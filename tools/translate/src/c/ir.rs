@@ -3,7 +3,7 @@
 
 pub use crate::source::Done;
 use crate::source::Span;
-use crate::tree::BinaryOperator;
+use crate::tree::is_comparison;
 use std::collections::BTreeMap;
 
 /// An item of a module, or a member of an `impl` or a trait.
@@ -114,8 +114,8 @@ pub enum Kind {
     Local(usize),
     Constant(Id),
     Call(Callee),
-    Binary(BinaryOperator),
-    Wrapping(BinaryOperator),
+    Binary(&'static str),
+    Wrapping(&'static str),
     Not,
     // A function of the prelude, by its name behind that of the type of integers.
     Small(&'static str),
@@ -306,21 +306,20 @@ impl Term {
         let span = self.span;
         self.kind = match self.kind {
             Kind::Boolean(value) => Kind::Boolean(!value),
-            Kind::Binary(operator) if operator.is_comparison() => Kind::Binary(opposite(operator)),
+            Kind::Binary(operator) if is_comparison(operator) => Kind::Binary(opposite(operator)),
             _ => return Term { kind: Kind::Not, parts: vec![self], of: Type::Boolean, span },
         };
         self
     }
 }
 
-fn opposite(comparison: BinaryOperator) -> BinaryOperator {
+fn opposite(comparison: &str) -> &'static str {
     match comparison {
-        BinaryOperator::Equal => BinaryOperator::NotEqual,
-        BinaryOperator::NotEqual => BinaryOperator::Equal,
-        BinaryOperator::Less => BinaryOperator::GreaterOrEqual,
-        BinaryOperator::GreaterOrEqual => BinaryOperator::Less,
-        BinaryOperator::Greater => BinaryOperator::LessOrEqual,
-        BinaryOperator::LessOrEqual => BinaryOperator::Greater,
-        other => other,
+        "==" => "!=",
+        "!=" => "==",
+        "<" => ">=",
+        ">=" => "<",
+        ">" => "<=",
+        _ => ">",
     }
 }

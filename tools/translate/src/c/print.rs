@@ -8,7 +8,7 @@ use super::terms;
 use super::text::{self, comment, wrapped};
 use super::types::{declared, short};
 use super::world::World;
-use crate::tree::{AttributeKind, BinaryOperator, ItemKind};
+use crate::tree::ItemKind;
 use std::collections::{BTreeMap, BTreeSet};
 
 /// All that is printed.
@@ -236,7 +236,7 @@ impl<'a> Printer<'a> {
     fn assign(&mut self, place: &Term, value: &Term) -> Done<()> {
         let target = self.term(place)?;
         let is_short = place.of.integer().is_some_and(|it| (32..=64).contains(&it.bits));
-        let is_sum = value.kind == Kind::Binary(BinaryOperator::Add) && !self.is_checked;
+        let is_sum = value.kind == Kind::Binary("+") && !self.is_checked;
         let mut text = format!("{} = {}", target.text, self.term(value)?.text);
         if is_sum && is_short && self.term(&value.parts[0])?.text == target.text {
             text = match self.term(&value.parts[1])?.text.as_str() {
@@ -266,14 +266,9 @@ pub fn qualifier(world: &World, function: &Function) -> &'static str {
     if super::is_called(world, &function.key) || called(function).contains(&function.key) {
         return "TK_NOINLINE";
     }
-    let qualifiers = [
-        (AttributeKind::Cold, "TK_COLD"),
-        (AttributeKind::NeverInline, "TK_NOINLINE"),
-        (AttributeKind::AlwaysInline, "TK_INLINE"),
-    ];
-    let attributes = &world.item(id).notes.attributes;
-    let has = |kind: &AttributeKind| attributes.iter().any(|it| it.kind == *kind);
-    let found = qualifiers.into_iter().find(|(kind, _)| has(kind));
+    let qualifiers =
+        [("cold", "TK_COLD"), ("inline(never)", "TK_NOINLINE"), ("inline(always)", "TK_INLINE")];
+    let found = qualifiers.into_iter().find(|(attribute, _)| world.item(id).has(attribute));
     found.map_or("TK_HINTED", |(_, qualifier)| qualifier)
 }
 

@@ -6,7 +6,7 @@ use super::print::{Printer, explained};
 use super::text::{self, AND, ATOM, CHOICE, EQUALITY, OR, SHIFT, SUM, Text, UNARY};
 use super::types::{declared, integer_name, integer_type};
 use crate::source::Fault;
-use crate::tree::BinaryOperator;
+use crate::tree::{is_comparison, is_shift};
 
 /// The functions of the prelude for what C has no operator for, without `tk_`.
 const SMALL: &str = "u8_is_digit u32_min size_min size_max size_saturating_add size_saturating_sub \
@@ -45,8 +45,8 @@ pub fn print(printer: &mut Printer, term: &Term) -> Done<Text> {
             }
             call(format!("tk_{name}"), &texts)
         }
-        Kind::Binary(operator) => binary(printer, *operator, false, term, texts)?,
-        Kind::Wrapping(operator) => binary(printer, *operator, true, term, texts)?,
+        Kind::Binary(operator) => binary(printer, operator, false, term, texts)?,
+        Kind::Wrapping(operator) => binary(printer, operator, true, term, texts)?,
         Kind::Not => Text::new(format!("!{}", texts[0].at(UNARY)), UNARY),
         Kind::Cast => cast(printer, &term.parts[0], &texts[0], &term.of)?,
         Kind::Make(variant) => made(printer, *variant, &texts, &term.of)?,
@@ -226,60 +226,63 @@ fn made(printer: &mut Printer, variant: usize, texts: &[Text], of: &Type) -> Don
     printer.made(of, variant, &fields).map(Text::atom)
 }
 
-// Returns an operator, its level, the name of the function that stands for it, and what is proved of its operands.
-fn symbol(operator: BinaryOperator) -> (&'static str, u8, &'static str, &'static str) {
-    match operator {
-        BinaryOperator::Or => ("||", OR, "", ""),
-        BinaryOperator::And => ("&&", AND, "", ""),
-        BinaryOperator::Equal => ("==", EQUALITY, "equal", ""),
-        BinaryOperator::NotEqual => ("!=", EQUALITY, "equal", ""),
-        BinaryOperator::Less => ("<", 10, "less", ""),
-        BinaryOperator::Greater => (">", 10, "less", ""),
-        BinaryOperator::LessOrEqual => ("<=", 10, "less", ""),
-        BinaryOperator::GreaterOrEqual => (">=", 10, "less", ""),
-        BinaryOperator::BitOr => ("|", 6, "or", ""),
-        BinaryOperator::BitXor => ("^", 7, "xor", ""),
-        BinaryOperator::BitAnd => ("&", 8, "and", ""),
-        BinaryOperator::ShiftLeft => ("<<", SHIFT, "shift_left", "b < BITS"),
-        BinaryOperator::ShiftRight => (">>", SHIFT, "shift_right", "b < BITS"),
-        BinaryOperator::Add => ("+", SUM, "add", "TK_CAST(TYPE, a + b) >= a"),
-        BinaryOperator::Subtract => ("-", SUM, "sub", "a >= b"),
-        BinaryOperator::Multiply => ("*", 13, "mul", "b == 0 || a <= TK_CAST(TYPE, -1) / b"),
-        BinaryOperator::Divide => ("/", 13, "div", "b != 0"),
-        BinaryOperator::Remainder => ("%", 13, "rem", "b != 0"),
-    }
+// Operators, their levels, the names of the functions that stand for them, and what is proved of their operands.
+const OPERATORS: [(&str, u8, &str, &str); 18] = [
+    ("||", OR, "", ""),
+    ("&&", AND, "", ""),
+    ("==", EQUALITY, "equal", ""),
+    ("!=", EQUALITY, "equal", ""),
+    ("<", 10, "less", ""),
+    (">", 10, "less", ""),
+    ("<=", 10, "less", ""),
+    (">=", 10, "less", ""),
+    ("|", 6, "or", ""),
+    ("^", 7, "xor", ""),
+    ("&", 8, "and", ""),
+    ("<<", SHIFT, "shift_left", "b < BITS"),
+    (">>", SHIFT, "shift_right", "b < BITS"),
+    ("+", SUM, "add", "TK_CAST(TYPE, a + b) >= a"),
+    ("-", SUM, "sub", "a >= b"),
+    ("*", 13, "mul", "b == 0 || a <= TK_CAST(TYPE, -1) / b"),
+    ("/", 13, "div", "b != 0"),
+    ("%", 13, "rem", "b != 0"),
+];
+
+// Returns the level of an operator, its function, and what is proved.
+fn known(operator: &str) -> (u8, &'static str, &'static str) {
+    let known = OPERATORS.iter().find(|it| it.0 == operator);
+    known.map_or((0, "", ""), |(_, level, function, proved)| (*level, function, proved))
 }
 
 fn binary(
     printer: &mut Printer,
-    operator: BinaryOperator,
+    operator: &str,
     is_wrapping: bool,
     term: &Term,
     mut texts: Vec<Text>,
 ) -> Done<Text> {
-    use BinaryOperator::{Multiply, ShiftLeft};
     let own = match term.parts[0].of {
         Type::Integer(own) if own.bits == 128 => {
             return Ok(wide(own, operator, is_wrapping, texts));
         }
-        Type::Integer(own) => Some(own).filter(|_| !operator.is_comparison()),
+        Type::Integer(own) => Some(own).filter(|_| !is_comparison(operator)),
         Type::Boolean => None,
         _ => return Err(refuse(printer, term, "a comparison of these")),
     };
-    let level = symbol(operator).1;
+    let level = known(operator).0;
     let Some(own) = own else { return Ok(Text::new(joined(operator, &texts), level)) };
     if is_wrapping && (own.is_signed || own.bits < 32) {
         return Err(refuse(printer, term, "a wrapping operation on this type"));
     }
     // A product or a shift of 16 bits may be more than an `int`.
-    if own.bits < 32 && matches!(operator, Multiply | ShiftLeft) {
+    if own.bits < 32 && matches!(operator, "*" | "<<") {
         return Err(refuse(printer, term, "this operation on so few bits"));
     }
-    if operator.is_shift() && own.is_signed {
+    if is_shift(operator) && own.is_signed {
         return Err(refuse(printer, term, "a shift of a signed number"));
     }
     // A literal would be an `int`.
-    if let (true, Kind::Number { value, .. }) = (operator.is_shift(), &term.parts[0].kind) {
+    if let (true, Kind::Number { value, .. }) = (is_shift(operator), &term.parts[0].kind) {
         let is_long = own.bits == 64;
         texts[0].text = if is_long { format!("UINT64_C({value})") } else { format!("{value}u") };
     }
@@ -291,23 +294,22 @@ fn binary(
 }
 
 // An operator on 128 bits, as a call: not all compilers have such numbers.
-fn wide(own: Integer, operator: BinaryOperator, is_wrapping: bool, mut texts: Vec<Text>) -> Text {
-    use BinaryOperator::{Greater, GreaterOrEqual, LessOrEqual, NotEqual};
-    if matches!(operator, Greater | LessOrEqual) {
+fn wide(own: Integer, operator: &str, is_wrapping: bool, mut texts: Vec<Text>) -> Text {
+    if matches!(operator, ">" | "<=") {
         texts.reverse();
     }
     let wrapping = if is_wrapping { "wrapping_" } else { "" };
-    let name = format!("tk_{}_{wrapping}{}", integer_name(own), symbol(operator).2);
+    let name = format!("tk_{}_{wrapping}{}", integer_name(own), known(operator).1);
     let call = call(name, &texts);
     match operator {
-        NotEqual | LessOrEqual | GreaterOrEqual => Text::new(format!("!{}", call.text), UNARY),
+        "!=" | "<=" | ">=" => Text::new(format!("!{}", call.text), UNARY),
         _ => call,
     }
 }
 
 // Joins operands, with parentheses wherever compilers and readers ask for them.
-fn joined(operator: BinaryOperator, texts: &[Text]) -> String {
-    let (sign, level, ..) = symbol(operator);
+fn joined(sign: &str, texts: &[Text]) -> String {
+    let level = known(sign).0;
     let is_bits = matches!(sign, "<<" | ">>" | "&" | "|" | "^");
     let side = |text: &Text, least: u8, is_left: bool| {
         let is_same = is_left && text.level == level && level != SHIFT;
@@ -319,15 +321,15 @@ fn joined(operator: BinaryOperator, texts: &[Text]) -> String {
 }
 
 // Adds a function that asserts what is proved of the operands of an operator, if that is wanted, and returns its name.
-fn checked(printer: &mut Printer, own: Integer, operator: BinaryOperator) -> Option<String> {
-    let (sign, _, function, proved) = symbol(operator);
+fn checked(printer: &mut Printer, own: Integer, operator: &str) -> Option<String> {
+    let (_, function, proved) = known(operator);
     if !printer.is_checked || own.is_signed || proved.is_empty() {
         return None;
     }
     let (of, name) = (integer_type(own), format!("tk_{}_{function}", integer_name(own)));
     let check = proved.replace("TYPE", &of).replace("BITS", &own.bits.to_string());
-    let second = if operator.is_shift() { "uint64_t" } else { of.as_str() };
-    let value = narrow(own, Text::new(format!("a {sign} b"), 0)).text;
+    let second = if is_shift(operator) { "uint64_t" } else { of.as_str() };
+    let value = narrow(own, Text::new(format!("a {operator} b"), 0)).text;
     printer.small(&name, &format!("{of} {name}({of} a, {second} b)"), &check, &value);
     Some(name)
 }

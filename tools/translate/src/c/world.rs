@@ -4,10 +4,7 @@ use super::ir::{Bindings, Callee, Done, Form, Id, Integer, Type};
 use crate::modules::{Module, Package};
 use crate::resolve::{Definition, Resolved, Scopes};
 use crate::source::{Fault, Source, Span};
-use crate::tree::{
-    ExpressionKind, Field, GenericArgument, GenericKind, Item, ItemKind, Literal, LiteralKind,
-    Path, Segment, Type as TreeType, TypeKind, Variant as TreeVariant,
-};
+use crate::tree::{self, Field, Item, ItemKind, Kind, Path, Segment};
 
 pub struct World<'a> {
     pub package: &'a Package,
@@ -41,7 +38,7 @@ impl<'a> World<'a> {
         // C has words only.
         let of_words = |(_, it): &(usize, &Module)| it.crate_name != "atoi_lanes";
         for (module, found) in package.modules.iter().enumerate().filter(of_words) {
-            for (item, it) in found.tree.items.iter().enumerate() {
+            for (item, it) in found.items.iter().enumerate() {
                 let ItemKind::Implementation { of, .. } = &it.kind else { continue };
                 let id = Id { module, item, member: None };
                 // What C has no type for has no functions in C.
@@ -64,7 +61,7 @@ impl<'a> World<'a> {
 
     /// Returns the item that holds a member, or the item itself.
     pub fn owner(&self, id: Id) -> &'a Item {
-        &self.module(id).tree.items[id.item]
+        &self.module(id).items[id.item]
     }
 
     pub fn item(&self, id: Id) -> &'a Item {
@@ -104,28 +101,28 @@ impl<'a> World<'a> {
     }
 
     /// Returns the type that is written at a place.
-    pub fn type_in(&self, place: &Place, tree: &TreeType) -> Done<Type> {
+    pub fn type_in(&self, place: &Place, tree: &tree::Type) -> Done<Type> {
+        let part = |at: usize| self.type_in(place, &tree.parts[at]);
         let source = &self.package.modules[place.module].source;
+        let unknown = || source.fault(tree.span, "C: this type has no rule");
         match &tree.kind {
-            TypeKind::Path(path) => self.named_type(place, &path.segments),
-            TypeKind::Tuple(parts) => {
-                let parts: Result<_, _> = parts.iter().map(|it| self.type_in(place, it)).collect();
-                Ok(Type::Of(Form::Tuple, parts?))
+            Kind::Path(path) => self.named_type(place, &path.segments),
+            Kind::Tuple => {
+                let parts = tree.parts.iter().map(|it| self.type_in(place, it));
+                Ok(Type::Of(Form::Tuple, parts.collect::<Done<_>>()?))
             }
-            TypeKind::Reference { is_mutable, target, .. } => match &target.kind {
-                TypeKind::Slice(element) => {
-                    Ok(Type::slice(self.type_in(place, element)?, *is_mutable))
+            Kind::Reference { is_mutable } => match &tree.parts[0] {
+                target if matches!(target.kind, Kind::List) => {
+                    Ok(Type::slice(self.type_in(place, &target.parts[0])?, *is_mutable))
                 }
-                _ if *is_mutable => Ok(Type::pointer(self.type_in(place, target)?)),
-                _ => self.type_in(place, target),
+                _ if *is_mutable => Ok(Type::pointer(part(0)?)),
+                _ => part(0),
             },
-            TypeKind::Slice(_) => Err(source.fault(tree.span, "C: a slice without a reference")),
-            TypeKind::Array { element, length } => match &length.kind {
-                ExpressionKind::Literal(Literal { kind: LiteralKind::Integer(length), .. }) => {
-                    Ok(Type::array(self.type_in(place, element)?, *length))
-                }
-                _ => Err(source.fault(tree.span, "C: the length of this array")),
+            Kind::Array => match tree.parts[1].kind {
+                Kind::Integer(length) => Ok(Type::array(part(0)?, length)),
+                _ => Err(unknown()),
             },
+            _ => Err(unknown()),
         }
     }
 
@@ -141,10 +138,7 @@ impl<'a> World<'a> {
         let names: Vec<&str> = path.iter().map(|segment| segment.name.text.as_str()).collect();
         let found = self.scopes.resolve(place.module, &names).ok_or_else(unknown)?;
         let arguments = path[path.len() - 1].arguments.iter();
-        let arguments = arguments.filter_map(|argument| match argument {
-            GenericArgument::Type(argument) => Some(self.type_in(place, argument)),
-            _ => None,
-        });
+        let arguments = arguments.map(|argument| self.type_in(place, argument));
         let arguments = arguments.collect::<Done<Vec<Type>>>()?;
         if let Definition::Foreign(name) = found.definition {
             return foreign_type(&name, arguments).ok_or_else(unknown);
@@ -167,7 +161,7 @@ impl<'a> World<'a> {
     /// Returns the type parameters of an item.
     pub fn parameters(&self, id: Id) -> Vec<String> {
         let generics = self.item(id).generics.iter();
-        let names = generics.filter(|it| matches!(it.kind, GenericKind::Type(_)));
+        let names = generics.filter(|it| it.constant.is_none());
         names.map(|it| it.name.text.clone()).collect()
     }
 
@@ -200,7 +194,7 @@ impl<'a> World<'a> {
                     ItemKind::Struct { fields, .. } => vec![self.variant(&place, "new", fields)?],
                     ItemKind::Enum(variants) => {
                         let made =
-                            |it: &TreeVariant| self.variant(&place, &it.name.text, &it.fields);
+                            |it: &tree::Variant| self.variant(&place, &it.name.text, &it.fields);
                         variants.iter().map(made).collect::<Done<_>>()?
                     }
                     _ => Vec::new(),

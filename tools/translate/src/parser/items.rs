@@ -1,13 +1,19 @@
 //! Items: their attributes, visibility, contracts and ghost items.
 
 use super::Parser;
-use crate::lexer::Kind;
+use crate::lexer::TokenKind;
 use crate::source::{Done, Span};
 use crate::std_names::{DERIVED, has};
 use crate::tree::*;
 
 /// The generics of a `fmt`. In Rattle, a formatter has its writer as a type parameter, which Rust leaves out.
 pub const WRITER: &str = "<W: fmt::Write>";
+
+/// A hint to the prover.
+pub const TACTIC: &str = "tactic";
+
+// The attributes without arguments that we read.
+const ATTRIBUTES: [&str; 5] = ["inline", "inline(always)", "inline(never)", "cold", "doc(hidden)"];
 
 // What holds an item.
 #[derive(Clone, Copy, Debug, PartialEq, Eq)]
@@ -19,20 +25,12 @@ enum Place {
 
 impl<'a> Parser<'a> {
     // Reads a whole module. A hint to the prover for all of it may stand between its items.
-    pub(super) fn tree(mut self) -> Done<Tree> {
-        let mut tree = Tree::default();
-        while self.kind() != Kind::End {
-            let start = self.span();
-            if self.eat_all(&["#", "!"]) {
-                let attribute = self.attribute(start)?;
-                let is_hint = attribute.kind == AttributeKind::Tactic;
-                self.check_form(is_hint, start, "this attribute of a whole module")?;
-                tree.hints.push(attribute.span);
-            } else {
-                tree.items.push(self.item(Place::Module)?);
-            }
+    pub(super) fn module(mut self) -> Done<Vec<Item>> {
+        let mut items = Vec::new();
+        while self.kind() != TokenKind::End {
+            items.push(self.item(Place::Module)?);
         }
-        Ok(tree)
+        Ok(items)
     }
 
     // Reads the documentation, the comments and the attributes before an item.
@@ -41,9 +39,9 @@ impl<'a> Parser<'a> {
         loop {
             notes.comments.extend(self.comments());
             let start = self.span();
-            if self.kind() == Kind::Doc {
+            if self.kind() == TokenKind::Doc {
                 notes.docs.push(self.step());
-            } else if self.eat("#") {
+            } else if !self.is_ahead(1, "!") && self.eat("#") {
                 notes.attributes.push(self.attribute(start)?);
             } else {
                 return Ok(notes);
@@ -54,22 +52,25 @@ impl<'a> Parser<'a> {
     // Reads an attribute behind its `#`.
     fn attribute(&mut self, start: Span) -> Done<Attribute> {
         self.expect("[")?;
-        let name = self.name()?;
-        let kind = match (&*name.text, self.eat("(")) {
-            ("inline", false) => AttributeKind::Inline,
-            ("inline", true) if self.eat_all(&["always", ")"]) => AttributeKind::AlwaysInline,
-            ("inline", true) if self.eat_all(&["never", ")"]) => AttributeKind::NeverInline,
-            ("cold", false) => AttributeKind::Cold,
-            ("doc", true) if self.eat_all(&["hidden", ")"]) => AttributeKind::Hidden,
-            ("derive", true) => AttributeKind::Derive(self.list(")", Self::derived)?),
-            ("tactic", true) => {
-                self.list(")", Self::hint)?;
-                AttributeKind::Tactic
+        let (rest, name) = (&self.source.text[self.span().start..], self.text());
+        let is_whole = |it: &&&str| rest.starts_with(&format!("{it}]"));
+        let mut derived = Vec::new();
+        let text = if let Some(text) = ATTRIBUTES.iter().find(is_whole) {
+            while !self.is("]") {
+                self.step();
             }
-            (other, _) => return self.refuse_form(start, &format!("the attribute `{other}`")),
+            *text
+        } else if self.eat_all(&["derive", "("]) {
+            derived = self.list(")", Self::derived)?;
+            "derive"
+        } else if self.eat_all(&["tactic", "("]) {
+            self.list(")", Self::hint)?;
+            TACTIC
+        } else {
+            return self.refuse_form(start, &format!("the attribute `{name}`"));
         };
         self.expect("]")?;
-        Ok(self.node(start, kind))
+        Ok(Attribute { span: self.since(start), text, derived })
     }
 
     fn derived(&mut self) -> Done<String> {
@@ -79,12 +80,20 @@ impl<'a> Parser<'a> {
 
     // Steps over an argument of a hint to the prover: a path, which may have arguments itself.
     fn hint(&mut self) -> Done<()> {
-        self.check(self.kind() == Kind::Name, "a hint to the prover")?;
+        self.check(self.kind() == TokenKind::Name, "a hint to the prover")?;
         self.step();
         if self.eat("::") {
             return self.hint();
         }
         self.after("(", |parser| parser.list(")", Self::hint)).map(|_| ())
+    }
+
+    // Reads a hint to the prover for all of a module behind its `#`.
+    fn hint_for_all(&mut self) -> Done<ItemKind> {
+        let start = self.expect("!")?;
+        let is_hint = self.attribute(start)?.text == TACTIC;
+        self.check_form(is_hint, start, "this attribute of a whole module")?;
+        Ok(ItemKind::Ghost)
     }
 
     // Reads nothing, `pub` or `pub(crate)`, and returns whether it is `pub`.
@@ -98,7 +107,7 @@ impl<'a> Parser<'a> {
         let is_public = place != Place::Trait && self.visibility();
         let keyword = self.keyword(place, start)?;
         let name = match keyword {
-            "use" | "impl" => Name { text: String::new(), span: start },
+            "use" | "impl" | "#" => Name { text: String::new(), span: start },
             "ghost" => self.word(),
             _ => self.name()?,
         };
@@ -112,7 +121,7 @@ impl<'a> Parser<'a> {
         let span = self.since(start);
         let item = Item { span, notes, is_public, name, generics, kind, mentions };
         // Documentation of what becomes a comment would move to the next item.
-        if keyword == "ghost" || keyword == "use" || item.is_model() {
+        if ["#", "ghost", "use"].contains(&keyword) || item.is_model() {
             self.refuse_notes(&item.notes, start)?;
         }
         Ok(item)
@@ -124,7 +133,7 @@ impl<'a> Parser<'a> {
             "ghost" => self.span() == start,
             "fn" | "const" => true,
             "type" => place != Place::Trait,
-            "use" | "mod" | "static" | "struct" | "enum" | "trait" | "impl" => {
+            "#" | "use" | "mod" | "static" | "struct" | "enum" | "trait" | "impl" => {
                 place == Place::Module
             }
             _ => false,
@@ -161,6 +170,7 @@ impl<'a> Parser<'a> {
                 let bound = self.bound()?;
                 return Ok(ItemKind::Trait { bound, members: self.members(Place::Trait)? });
             }
+            "#" => return self.hint_for_all(),
             "ghost" if name == "use" => self.ghost_import()?,
             "ghost" => self.ghost(place)?,
             "use" => ItemKind::Use(self.imports()?),
@@ -277,7 +287,7 @@ impl<'a> Parser<'a> {
             return Ok(ItemKind::Implementation { of: None, target: first, members });
         }
         self.set_role(Role::Trait);
-        let TypeKind::Path(of) = first.kind else {
+        let Kind::Path(of) = first.kind else {
             return self.refuse_form(first.span, "an `impl` of no trait");
         };
         let (target, members) = (self.type_()?, self.members(Place::Implementation)?);
@@ -309,10 +319,9 @@ impl<'a> Parser<'a> {
         }
         let name = Name { text: "self".into(), span: self.expect("self")? };
         let own = Path::of(Name { text: "Self".into(), span: name.span });
-        let mut annotation = self.node(start, TypeKind::Path(own));
+        let mut annotation = self.node(start, (Kind::Path(own), Vec::new()));
         if is_reference {
-            let target = Box::new(annotation);
-            annotation = self.node(start, TypeKind::Reference { is_mutable, target });
+            annotation = self.node(start, (Kind::Reference { is_mutable }, vec![annotation]));
         }
         Ok(Parameter { name, is_mutable: is_mutable && !is_reference, annotation })
     }
@@ -322,7 +331,7 @@ impl<'a> Parser<'a> {
         let mut clauses = Vec::new();
         while self.is_one_of(&["requires", "ensures"]) {
             let (is_condition, start) = (self.is("requires"), self.step());
-            if self.kind() != Kind::Clause {
+            if self.kind() != TokenKind::Clause {
                 self.name()?;
             }
             let text = self.clause_text()?;
@@ -333,7 +342,7 @@ impl<'a> Parser<'a> {
 
     // Reads a clause, and returns what is between its braces.
     fn clause_text(&mut self) -> Done<Span> {
-        self.check(self.kind() == Kind::Clause, "a clause")?;
+        self.check(self.kind() == TokenKind::Clause, "a clause")?;
         let Span { start, end } = self.step();
         Ok(Span { start: start + 1, end: end - 1 })
     }

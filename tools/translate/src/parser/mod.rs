@@ -4,12 +4,12 @@ mod expressions;
 mod items;
 mod types;
 
-pub use items::WRITER;
+pub use items::{TACTIC, WRITER};
 
-use crate::lexer::{Kind, Token, lex};
+use crate::lexer::{Token, TokenKind, lex};
 use crate::source::{Done, Source, Span};
 use crate::std_names::has;
-use crate::tree::{Mention, Name, Node, Role, Tree};
+use crate::tree::{Item, Kind, Mention, Name, Node, Role};
 
 // Words that are no names: those of Rust, also for later use, and those of Rattle.
 const KEYWORDS: &str = "_ as async await break const continue crate dyn else enum extern false fn for if \
@@ -17,10 +17,13 @@ const KEYWORDS: &str = "_ as async await break const continue crate dyn else enu
     use where while abstract become box do final gen macro override priv raw safe try typeof union unsized \
     virtual yield auto default ensures ghost requires";
 
-/// Reads the tree of a proved source.
-pub fn parse(source: &Source) -> Done<Tree> {
-    Parser::new(source)?.tree()
+/// Reads the items of a proved source.
+pub fn parse(source: &Source) -> Done<Vec<Item>> {
+    Parser::new(source)?.module()
 }
+
+// What a node is, and its parts.
+type Form = (Kind, Vec<Node>);
 
 /// A place in the tokens of a source.
 pub struct Parser<'a> {
@@ -47,7 +50,7 @@ impl<'a> Parser<'a> {
         &self.tokens[(self.at + count).min(self.tokens.len() - 1)]
     }
 
-    pub(crate) fn kind(&self) -> Kind {
+    pub(crate) fn kind(&self) -> TokenKind {
         self.ahead(0).kind
     }
 
@@ -98,7 +101,7 @@ impl<'a> Parser<'a> {
 
     // Steps over a sign if it comes next, also as the first half of a symbol: `>` of `>>`, `&` of `&&`.
     fn eat_sign(&mut self, sign: &str) -> bool {
-        let is_half = self.kind() == Kind::Symbol && self.text() == sign.repeat(2);
+        let is_half = self.kind() == TokenKind::Symbol && self.text() == sign.repeat(2);
         if is_half {
             self.tokens[self.at].span.start += sign.len();
             self.end = self.span().start;
@@ -115,7 +118,7 @@ impl<'a> Parser<'a> {
     /// Refuses the next token, in whose place there should be something else.
     pub fn refuse<T>(&self, expected: &str) -> Done<T> {
         let found = match self.kind() {
-            Kind::End => "the end of the file".into(),
+            TokenKind::End => "the end of the file".into(),
             _ => format!("`{}`", self.text().lines().next().unwrap_or_default()),
         };
         Err(self.source.fault(self.span(), format!("{found}, and not {expected}")))
@@ -141,14 +144,14 @@ impl<'a> Parser<'a> {
         Span { start: start.start, end: self.end }
     }
 
-    // Makes a part of the tree of what was read from `start` on.
-    fn node<K>(&self, start: Span, kind: K) -> Node<K> {
-        Node { span: self.since(start), kind }
+    // Makes a node of what was read from `start` on.
+    fn node(&self, start: Span, (kind, parts): Form) -> Node {
+        Node { span: self.since(start), kind, parts }
     }
 
     // Whether a name that is no keyword comes next.
     fn is_name(&self) -> bool {
-        self.kind() == Kind::Name && !has(KEYWORDS, self.text())
+        self.kind() == TokenKind::Name && !has(KEYWORDS, self.text())
     }
 
     /// Reads a name that is no keyword.
@@ -163,7 +166,7 @@ impl<'a> Parser<'a> {
     }
 
     /// Steps over a token of a kind if one comes next.
-    pub fn eat_kind(&mut self, kind: Kind) -> bool {
+    pub fn eat_kind(&mut self, kind: TokenKind) -> bool {
         let is_next = self.kind() == kind;
         if is_next {
             self.step();

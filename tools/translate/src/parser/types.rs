@@ -1,7 +1,7 @@
 //! Types, paths, generics, patterns and literals.
 
-use super::{Parser, is_capital};
-use crate::lexer::Kind;
+use super::{Form, Parser, is_capital};
+use crate::lexer::TokenKind;
 use crate::source::Done;
 use crate::tree::*;
 
@@ -9,28 +9,27 @@ impl Parser<'_> {
     // Reads a type. Pointers, functions and objects have no rule.
     pub(super) fn type_(&mut self) -> Done<Type> {
         let start = self.span();
-        let kind = if self.eat_sign("&") {
-            self.eat_kind(Kind::Lifetime);
-            let is_mutable = self.eat("mut");
-            TypeKind::Reference { is_mutable, target: Box::new(self.type_()?) }
+        let form = if self.eat_sign("&") {
+            self.eat_kind(TokenKind::Lifetime);
+            (Kind::Reference { is_mutable: self.eat("mut") }, vec![self.type_()?])
         } else if self.eat("(") {
             let types = self.list(")", Self::type_)?;
             self.check_form(types.len() != 1, start, "a tuple of one type")?;
-            TypeKind::Tuple(types)
+            (Kind::Tuple, types)
         } else if self.eat("[") {
-            let element = Box::new(self.type_()?);
-            let length = self.after(";", Self::length)?.map(Box::new);
+            let element = self.type_()?;
+            let length = self.after(";", Self::length)?;
             self.expect("]")?;
             match length {
-                Some(length) => TypeKind::Array { element, length },
-                None => TypeKind::Slice(element),
+                Some(length) => (Kind::Array, vec![element, length]),
+                None => (Kind::List, vec![element]),
             }
         } else if self.is_name() || self.is("Self") {
-            TypeKind::Path(self.path(Role::Type)?)
+            (Kind::Path(self.path(Role::Type)?), Vec::new())
         } else {
             return self.refuse("a type");
         };
-        Ok(self.node(start, kind))
+        Ok(self.node(start, form))
     }
 
     // Reads a name, or two with `::` between them. Longer paths stand in `use` alone.
@@ -57,11 +56,8 @@ impl Parser<'_> {
     }
 
     // Reads the arguments between `<` and `>`, if there are some. Blocks have no rule.
-    pub(super) fn generic_arguments(&mut self) -> Done<Vec<GenericArgument>> {
-        self.angles(|parser| match parser.is_literal() {
-            true => parser.literal().map(GenericArgument::Constant),
-            false => parser.type_().map(GenericArgument::Type),
-        })
+    pub(super) fn generic_arguments(&mut self) -> Done<Vec<Node>> {
+        self.angles(|it| if it.is_literal() { it.literal() } else { it.type_() })
     }
 
     // Reads the parameters between `<` and `>`, if there are some. Defaults have no rule.
@@ -69,20 +65,21 @@ impl Parser<'_> {
         self.angles(|parser| {
             let is_constant = parser.eat("const");
             let name = parser.local()?;
-            let kind = if is_constant {
+            let (mut bound, mut constant) = (None, None);
+            if is_constant {
                 parser.expect(":")?;
-                GenericKind::Constant(parser.type_()?)
+                constant = Some(parser.type_()?);
             } else {
-                GenericKind::Type(parser.bound()?)
-            };
-            Ok(GenericParameter { name, kind })
+                bound = parser.bound()?;
+            }
+            Ok(GenericParameter { name, bound, constant })
         })
     }
 
     // Reads the list between `<` and `>`, if there is one, without its lifetimes.
     fn angles<T>(&mut self, read: fn(&mut Self) -> Done<T>) -> Done<Vec<T>> {
         let list = self.after("<", |parser| {
-            parser.list(">", |parser| match parser.eat_kind(Kind::Lifetime) {
+            parser.list(">", |parser| match parser.eat_kind(TokenKind::Lifetime) {
                 true => Ok(None),
                 false => read(parser).map(Some),
             })
@@ -98,68 +95,76 @@ impl Parser<'_> {
     // Reads patterns with `|` between them, or one.
     pub(super) fn pattern(&mut self) -> Done<Pattern> {
         let start = self.span();
-        let mut patterns = vec![self.single_pattern()?];
+        let first = self.single_pattern()?;
+        if !self.is("|") {
+            return Ok(first);
+        }
+        let mut patterns = vec![first];
         while self.eat("|") {
             patterns.push(self.single_pattern()?);
         }
-        if patterns.len() == 1 {
-            return Ok(patterns.remove(0));
-        }
-        Ok(self.node(start, PatternKind::Either(patterns)))
+        Ok(self.node(start, (Kind::Either, patterns)))
     }
 
     fn single_pattern(&mut self) -> Done<Pattern> {
         let start = self.span();
         // Checks refuse constants with small names.
         let is_path = self.is_name() && (is_capital(self.text()) || self.is_ahead(1, "::"));
-        let kind = if self.eat("_") {
-            PatternKind::Wildcard
+        let form = if self.eat("_") {
+            (Kind::Wildcard, Vec::new())
         } else if self.eat("(") {
-            PatternKind::Tuple(self.list(")", Self::element_pattern)?)
+            (Kind::Tuple, self.list(")", Self::element_pattern)?)
         } else if self.eat("[") {
-            PatternKind::Slice(self.list("]", Self::element_pattern)?)
+            (Kind::List, self.list("]", Self::element_pattern)?)
         } else if self.is_literal() {
             let low = self.literal()?;
             match self.after("..=", Self::literal)? {
-                Some(high) => PatternKind::Range { low, high },
-                None => PatternKind::Literal(low),
+                Some(high) => (Kind::Range, vec![low, high]),
+                None => return Ok(low),
             }
         } else if is_path {
             self.path_pattern()?
         } else if self.is("mut") || self.is_name() {
             let (is_mutable, name) = (self.eat("mut"), self.local()?);
-            let pattern = self.after("@", Self::element_pattern)?.map(Box::new);
-            PatternKind::Binding { name, is_mutable, pattern }
+            let inner = self.after("@", Self::element_pattern)?;
+            (Kind::Binding { name, is_mutable }, inner.into_iter().collect())
         } else {
             return self.refuse("a pattern");
         };
-        Ok(self.node(start, kind))
+        Ok(self.node(start, form))
     }
 
     // Reads what is in a tuple, a slice or a variant: a pattern or `..`.
     fn element_pattern(&mut self) -> Done<Pattern> {
         let start = self.span();
-        if self.eat("..") { Ok(self.node(start, PatternKind::Rest)) } else { self.pattern() }
+        if self.eat("..") { Ok(self.node(start, (Kind::Rest, Vec::new()))) } else { self.pattern() }
     }
 
-    fn path_pattern(&mut self) -> Done<PatternKind> {
+    // Reads a variant, a constant, or a struct with its fields.
+    fn path_pattern(&mut self) -> Done<Form> {
         let path = self.path(Role::Value)?;
+        if self.eat("(") {
+            return Ok((Kind::Call(path), self.list(")", Self::element_pattern)?));
+        }
         if !self.eat("{") {
-            let fields = self.after("(", |parser| parser.list(")", Self::element_pattern))?;
-            return Ok(PatternKind::Variant { path, fields: fields.unwrap_or_default() });
+            return Ok((Kind::Path(path), Vec::new()));
         }
         self.set_role(Role::Type);
-        let fields = self.fields_of(|parser| {
-            let name = parser.local()?;
-            Ok((name.clone(), binding(name)))
+        let (names, fields) = self.fields_of(|parser| {
+            let (start, name) = (parser.span(), parser.local()?);
+            let kind = Kind::Binding { name: name.clone(), is_mutable: false };
+            Ok((name, parser.node(start, (kind, Vec::new()))))
         })?;
         self.eat("..");
         self.expect("}")?;
-        Ok(PatternKind::Struct { path, fields })
+        Ok((Kind::Struct(path, names), fields))
     }
 
     // Reads fields with commas between them, up to `..` or `}`.
-    pub(super) fn fields_of<T>(&mut self, read: fn(&mut Self) -> Done<T>) -> Done<Vec<T>> {
+    pub(super) fn fields_of(
+        &mut self,
+        read: fn(&mut Self) -> Done<(Name, Node)>,
+    ) -> Done<(Vec<Name>, Vec<Node>)> {
         let mut fields = Vec::new();
         while !self.is_one_of(&["..", "}"]) {
             fields.push(read(self)?);
@@ -167,37 +172,31 @@ impl Parser<'_> {
                 break;
             }
         }
-        Ok(fields)
+        Ok(fields.into_iter().unzip())
     }
 
     // Whether a literal comes next.
     pub(super) fn is_literal(&self) -> bool {
-        let kinds = [Kind::Integer, Kind::Byte, Kind::Text];
+        let kinds = [TokenKind::Integer, TokenKind::Byte, TokenKind::Text];
         kinds.contains(&self.kind()) || self.is_one_of(&["true", "false"])
     }
 
-    pub(super) fn literal(&mut self) -> Done<Literal> {
+    pub(super) fn literal(&mut self) -> Done<Node> {
         let (start, text) = (self.span(), self.text());
         let kind = match self.kind() {
-            Kind::Integer => integer(text).map(LiteralKind::Integer),
-            Kind::Byte => match unescaped(&text[1..]).as_deref() {
-                Some([byte]) => Some(LiteralKind::Byte(*byte)),
+            TokenKind::Integer => integer(text).map(Kind::Integer),
+            TokenKind::Byte => match unescaped(&text[1..]).as_deref() {
+                Some([byte]) => Some(Kind::Byte(*byte)),
                 _ => None,
             },
-            Kind::Text => unescaped(text.trim_start_matches('b')).map(LiteralKind::Text),
-            _ if self.is_literal() => Some(LiteralKind::Boolean(text == "true")),
+            TokenKind::Text => unescaped(text.trim_start_matches('b')).map(Kind::Text),
+            _ if self.is_literal() => Some(Kind::Boolean(text == "true")),
             _ => return self.refuse("a literal"),
         };
         let Some(kind) = kind else { return self.refuse_form(start, &format!("`{text}`")) };
         self.step();
-        Ok(self.node(start, kind))
+        Ok(self.node(start, (kind, Vec::new())))
     }
-}
-
-// Returns the pattern that a name is.
-pub(super) fn binding(name: Name) -> Pattern {
-    let span = name.span;
-    Pattern { span, kind: PatternKind::Binding { name, is_mutable: false, pattern: None } }
 }
 
 // Returns the value of a whole number. Suffixes have no rule.

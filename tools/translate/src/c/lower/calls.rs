@@ -4,7 +4,7 @@ use super::{Done, Lowering, signature};
 use crate::c::ir::{Bindings, Callee, Kind, PLAIN, Term, Type};
 use crate::c::world::{integer, item_of};
 use crate::resolve::Definition;
-use crate::tree::{Expression, GenericArgument, GenericKind, ItemKind, MethodCall, Path, TypeKind};
+use crate::tree::{Expression, ItemKind, Node, Path};
 
 impl Lowering<'_, '_> {
     /// Evaluates a path: a variable, a constant or a variant without fields.
@@ -90,7 +90,7 @@ impl Lowering<'_, '_> {
                 return self.refuse("another number of fields");
             }
             let types: Vec<Type> = fields.into_iter().map(|(_, of)| of).collect();
-            let terms = self.operands(&arguments.iter().collect::<Vec<_>>())?;
+            let terms = self.operands(arguments)?;
             let terms = self.coerce_all(terms, &types)?;
             return Ok(self.make(Kind::Make(variant), terms, of));
         }
@@ -127,31 +127,22 @@ impl Lowering<'_, '_> {
 
     // Adds the generic types that a call writes to a function, and returns its constants. Types that the call leaves
     // out are found later.
-    fn choose(&mut self, callee: &mut Callee, arguments: &[GenericArgument]) -> Done<Vec<Term>> {
+    fn choose(&mut self, callee: &mut Callee, arguments: &[Node]) -> Done<Vec<Term>> {
         let mut given = arguments.iter();
         let mut constants = Vec::new();
         for parameter in &self.world.item(callee.id).generics {
-            match (&parameter.kind, given.next()) {
-                (GenericKind::Type(_), given) => {
-                    let of = match given {
-                        Some(GenericArgument::Type(of)) => self.world.type_in(&self.place, of)?,
-                        _ => self.fresh(false),
-                    };
-                    callee.bindings.insert(parameter.name.text.clone(), of);
-                }
-                (GenericKind::Constant(of), Some(given)) => {
-                    let of = self.world.type_in(&self.place, of)?;
-                    let term = match given {
-                        GenericArgument::Constant(it) => self.literal(it),
-                        GenericArgument::Type(tree) => match &tree.kind {
-                            TypeKind::Path(path) => self.path(path)?,
-                            _ => return self.refuse("no constant"),
-                        },
-                    };
-                    constants.push(self.coerce(term, &of)?);
-                }
-                _ => return self.refuse("a generic constant that is not written"),
-            }
+            let given = given.next();
+            let Some(of) = &parameter.constant else {
+                let of = given.map(|of| self.world.type_in(&self.place, of)).transpose()?;
+                let of = of.unwrap_or_else(|| self.fresh(false));
+                callee.bindings.insert(parameter.name.text.clone(), of);
+                continue;
+            };
+            let Some(given) = given else {
+                return self.refuse("a generic constant that is not written");
+            };
+            let of = self.world.type_in(&self.place, of)?;
+            constants.push(self.term(given, &of)?);
         }
         Ok(constants)
     }
@@ -159,7 +150,7 @@ impl Lowering<'_, '_> {
     fn call_of(
         &mut self,
         mut callee: Callee,
-        generics: &[GenericArgument],
+        generics: &[Node],
         receiver: Option<Term>,
         arguments: &[Expression],
     ) -> Done<Term> {
@@ -168,13 +159,12 @@ impl Lowering<'_, '_> {
         if types.len() != usize::from(receiver.is_some()) + arguments.len() {
             return self.refuse("another number of arguments");
         }
-        let arguments: Vec<&Expression> = arguments.iter().collect();
         let terms = match receiver {
             Some(receiver) => {
                 let receiver = self.coerce(receiver, &types[0])?;
-                self.behind(receiver, &arguments)?
+                self.behind(receiver, arguments)?
             }
-            None => self.operands(&arguments)?,
+            None => self.operands(arguments)?,
         };
         let terms = self.coerce_all(terms, &types)?;
         let terms = constants.into_iter().chain(terms);
@@ -185,10 +175,16 @@ impl Lowering<'_, '_> {
     }
 
     /// Evaluates a call of a method of a struct, an enum or a parameter.
-    pub fn method_of_item(&mut self, receiver: Term, call: &MethodCall) -> Done<Term> {
+    pub fn method_of_item(
+        &mut self,
+        receiver: Term,
+        name: &str,
+        generics: &[Node],
+        arguments: &[Expression],
+    ) -> Done<Term> {
         let of = self.followed(receiver.clone()).of;
-        match self.member(&of, &call.name.text)? {
-            Some(callee) => self.call_of(callee, &call.generics, Some(receiver), &call.arguments),
+        match self.member(&of, name)? {
+            Some(callee) => self.call_of(callee, generics, Some(receiver), arguments),
             None => self.refuse("this method has no rule"),
         }
     }

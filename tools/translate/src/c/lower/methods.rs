@@ -2,26 +2,24 @@
 
 use super::{Done, Lowering};
 use crate::c::ir::{Form, Integer, Kind, OK, Statement, Term, Type};
-use crate::tree::{
-    BinaryOperator, Expression, ExpressionKind, GenericArgument, Literal, LiteralKind, MethodCall,
-};
+use crate::tree::{Expression, Kind as Tree, Node};
 
 impl Lowering<'_, '_> {
-    /// Evaluates a call of a method.
-    pub fn method(&mut self, call: &MethodCall) -> Done<Term> {
-        let name = call.name.text.as_str();
-        if let ("count", []) = (name, call.arguments.as_slice()) {
-            return self.count(&call.receiver);
+    /// Evaluates a call of a method. The first part is its receiver.
+    pub fn method(&mut self, name: &str, generics: &[Node], parts: &[Expression]) -> Done<Term> {
+        let [receiver, arguments @ ..] = parts else { return self.refuse("no receiver") };
+        if let ("count", []) = (name, arguments) {
+            return self.count(receiver);
         }
-        let receiver = self.any(&call.receiver)?;
+        let receiver = self.any(receiver)?;
         let target = self.followed(receiver.clone());
         let of = match self.known(&target.of) {
             Type::Of(Form::Item(_), _) | Type::Parameter(_) => {
-                return self.method_of_item(receiver, call);
+                return self.method_of_item(receiver, name, generics, arguments);
             }
             // A trait of ours may have methods of numbers.
             of @ Type::Integer(_) if self.world.member(&of, name).is_some() => {
-                return self.method_of_item(receiver, call);
+                return self.method_of_item(receiver, name, generics, arguments);
             }
             Type::Of(Form::Result, _) if name == "ok" => return self.ok(target),
             Type::Of(Form::Slice { .. }, _) if name == "copy_from_slice" => {
@@ -31,14 +29,14 @@ impl Lowering<'_, '_> {
             of @ Type::Integer(_) => of,
             _ => return self.refuse("this method has no rule"),
         };
-        let mut terms = self.behind(target, &call.arguments.iter().collect::<Vec<_>>())?;
-        let arguments = terms.split_off(1);
-        terms.extend(self.coerce_all(arguments, &vec![of.clone(); call.arguments.len()])?);
+        let mut terms = self.behind(target, arguments)?;
+        let given = terms.split_off(1);
+        terms.extend(self.coerce_all(given, &vec![of.clone(); arguments.len()])?);
         match of.integer() {
             Some(integer) if !self.known(&terms[0].of).is_slice() => {
                 self.of_number(name, terms, integer)
             }
-            _ => self.of_slice(terms, call),
+            _ => self.of_slice(name, generics, terms),
         }
     }
 
@@ -57,12 +55,11 @@ impl Lowering<'_, '_> {
     }
 
     fn of_number(&mut self, name: &str, terms: Vec<Term>, own: Integer) -> Done<Term> {
-        use BinaryOperator::{Add, Multiply, Subtract};
         let of = Type::Integer(own);
         let (kind, of) = match (name, terms.len()) {
-            ("wrapping_add", 2) => (Kind::Wrapping(Add), of),
-            ("wrapping_sub", 2) => (Kind::Wrapping(Subtract), of),
-            ("wrapping_mul", 2) => (Kind::Wrapping(Multiply), of),
+            ("wrapping_add", 2) => (Kind::Wrapping("+"), of),
+            ("wrapping_sub", 2) => (Kind::Wrapping("-"), of),
+            ("wrapping_mul", 2) => (Kind::Wrapping("*"), of),
             ("saturating_add", 2) => (Kind::Small("saturating_add"), of),
             ("saturating_sub", 2) => (Kind::Small("saturating_sub"), of),
             ("min", 2) => (Kind::Small("min"), of),
@@ -72,17 +69,15 @@ impl Lowering<'_, '_> {
             ("unsigned_abs", 1) => {
                 (Kind::Small("unsigned_abs"), Type::Integer(Integer { is_signed: false, ..own }))
             }
-            ("checked_add", 2) => return Ok(self.checked("sum_fits", Add, terms)),
-            ("checked_mul", 2) => {
-                return Ok(self.checked("product_fits", Multiply, terms));
-            }
+            ("checked_add", 2) => return Ok(self.checked("sum_fits", "+", terms)),
+            ("checked_mul", 2) => return Ok(self.checked("product_fits", "*", terms)),
             _ => return self.refuse("this method has no rule"),
         };
         Ok(self.make(kind, terms, of))
     }
 
     // `checked_add` and so on: a result, if it is in range.
-    fn checked(&mut self, test: &'static str, operator: BinaryOperator, terms: Vec<Term>) -> Term {
+    fn checked(&mut self, test: &'static str, operator: &'static str, terms: Vec<Term>) -> Term {
         let of = terms[0].of.clone();
         let names = ["left", "right"].into_iter();
         let terms: Vec<Term> =
@@ -92,17 +87,16 @@ impl Lowering<'_, '_> {
         self.maybe(test, value)
     }
 
-    fn of_slice(&mut self, mut terms: Vec<Term>, call: &MethodCall) -> Done<Term> {
-        use BinaryOperator::{Equal, Greater, LessOrEqual};
+    fn of_slice(&mut self, name: &str, generics: &[Node], mut terms: Vec<Term>) -> Done<Term> {
         let slice = terms.remove(0);
-        match (call.name.text.as_str(), terms.pop()) {
+        match (name, terms.pop()) {
             ("len", None) => Ok(self.length(&slice)),
-            ("is_empty", None) => Ok(self.test(Equal, self.length(&slice), self.size(0))),
-            ("first_chunk", None) => self.chunk(slice, Kind::First, call),
-            ("last_chunk", None) => self.chunk(slice, Kind::Last, call),
+            ("is_empty", None) => Ok(self.test("==", self.length(&slice), self.size(0))),
+            ("first_chunk", None) => self.chunk(slice, Kind::First, generics),
+            ("last_chunk", None) => self.chunk(slice, Kind::Last, generics),
             ("split_first", None) => {
                 let slice = self.keep(slice, "all");
-                let test = self.test(Greater, self.length(&slice), self.size(0));
+                let test = self.test(">", self.length(&slice), self.size(0));
                 let first = self.element(slice.clone(), self.size(0), Kind::Element)?;
                 let rest = self.part("from", vec![slice, self.size(1)])?;
                 Ok(self.maybe(test, self.tuple_of(vec![first, rest])))
@@ -110,7 +104,7 @@ impl Lowering<'_, '_> {
             (name @ ("split_at" | "split_at_checked"), Some(at)) => {
                 let slice = self.keep(slice, "all");
                 let at = self.keep(at, "at");
-                let test = self.test(LessOrEqual, at.clone(), self.length(&slice));
+                let test = self.test("<=", at.clone(), self.length(&slice));
                 let front = self.part("to", vec![slice.clone(), at.clone()])?;
                 let rest = self.part("from", vec![slice, at])?;
                 let parts = self.tuple_of(vec![front, rest]);
@@ -131,42 +125,36 @@ impl Lowering<'_, '_> {
     }
 
     // The first or last bytes of a slice, if it has so many.
-    fn chunk(&mut self, slice: Term, kind: Kind, call: &MethodCall) -> Done<Term> {
-        let [GenericArgument::Constant(Literal { kind: LiteralKind::Integer(length), .. })] =
-            call.generics[..]
-        else {
+    fn chunk(&mut self, slice: Term, kind: Kind, generics: &[Node]) -> Done<Term> {
+        let [Node { kind: Tree::Integer(length), .. }] = generics else {
             return self.refuse("the number of bytes is not written");
         };
         let slice = self.keep(slice, "all");
         let Type::Of(_, parts) = self.known(&slice.of) else {
             return self.refuse("this method has no rule");
         };
-        let count = self.number(length, Type::SIZE);
-        let test = self.test(BinaryOperator::GreaterOrEqual, self.length(&slice), count.clone());
-        let bytes = self.make(kind, vec![slice, count], Type::array(parts[0].clone(), length));
+        let count = self.number(*length, Type::SIZE);
+        let test = self.test(">=", self.length(&slice), count.clone());
+        let bytes = self.make(kind, vec![slice, count], Type::array(parts[0].clone(), *length));
         Ok(self.maybe(test, bytes))
     }
 
     // `SLICE.iter().filter(..).count()` or with `take_while`, as a loop.
-    fn count(&mut self, source: &Expression) -> Done<Term> {
-        let step = method_of(source).and_then(|step| Some((step, method_of(&step.receiver)?)));
-        let step = step.map(|(step, iter)| (&*step.name.text, &*iter.name.text, step, iter));
-        let (otherwise, step, slice) = match step {
-            Some(("filter", "iter", step, iter)) => (Statement::Continue, step, &iter.receiver),
-            Some(("take_while", "iter", step, iter)) => (Statement::Break, step, &iter.receiver),
+    fn count(&mut self, steps: &Expression) -> Done<Term> {
+        let (otherwise, [iter, closure]) = match method_of(steps) {
+            Some(("filter", [iter, closure])) => (Statement::Continue, [iter, closure]),
+            Some(("take_while", [iter, closure])) => (Statement::Break, [iter, closure]),
             _ => return self.refuse("only `iter().filter(..)` and `take_while` are counted"),
         };
-        let [Expression { kind: ExpressionKind::Closure { parameters, body }, .. }] =
-            &step.arguments[..]
+        let (Some(("iter", [slice])), Tree::Closure, [parameter, body]) =
+            (method_of(iter), &closure.kind, &closure.parts[..])
         else {
-            return self.refuse("what is no closure");
+            return self.refuse("only `iter().filter(..)` and `take_while` are counted");
         };
         let count = self.hold(self.size(0), "count", true);
         let slice = self.any(slice)?;
         self.walk(slice, |it, element, at| {
-            for parameter in parameters {
-                it.destructure(parameter, element.clone(), None)?;
-            }
+            it.destructure(parameter, element, None)?;
             it.advance(at);
             let test = it.term(body, &Type::Boolean)?;
             it.push_if(test.negated(), vec![otherwise], Vec::new());
@@ -177,6 +165,8 @@ impl Lowering<'_, '_> {
     }
 }
 
-fn method_of(expression: &Expression) -> Option<&MethodCall> {
-    if let ExpressionKind::Method(call) = &expression.kind { Some(call) } else { None }
+// The name of the method that is called, its receiver and its arguments.
+fn method_of(expression: &Expression) -> Option<(&str, &[Expression])> {
+    let Tree::Method { name, .. } = &expression.kind else { return None };
+    Some((&name.text, &expression.parts))
 }

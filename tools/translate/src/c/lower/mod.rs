@@ -11,7 +11,7 @@ use super::instances::{Attempt, Instances};
 use super::ir::{Bindings, Callee, Done, Id, Kind, Local, PLAIN, Statement, Term, Type};
 use super::world::{Place, World};
 use crate::source::{Source, Span};
-use crate::tree::{self, BinaryOperator, Expression, GenericKind, ItemKind};
+use crate::tree::{self, Expression, ItemKind};
 use std::collections::BTreeMap;
 
 struct Lowering<'w, 'i> {
@@ -118,7 +118,7 @@ impl<'w, 'i> Lowering<'w, 'i> {
         self.result = result;
         let mut parameters = Vec::new();
         for generic in &world.item(key.id).generics {
-            if let GenericKind::Constant(of) = &generic.kind {
+            if let Some(of) = &generic.constant {
                 let of = world.type_in(&self.place, of)?;
                 parameters.push(self.bind(&generic.name.text, of, false));
             }
@@ -126,7 +126,7 @@ impl<'w, 'i> Lowering<'w, 'i> {
         for (parameter, of) in tree.parameters.iter().zip(types) {
             parameters.push(self.bind(&parameter.name.text, of, parameter.is_mutable));
         }
-        self.block(body, Target::Return)?;
+        self.evaluate(body, Target::Return)?;
         self.finish(key, parameters)
     }
 
@@ -149,16 +149,15 @@ impl<'w, 'i> Lowering<'w, 'i> {
     }
 
     // Returns a condition of two terms, or what is known of it.
-    fn test(&self, operator: BinaryOperator, left: Term, right: Term) -> Term {
-        use BinaryOperator::{And, Or};
+    fn test(&self, operator: &'static str, left: Term, right: Term) -> Term {
         let numbers = left.number().zip(right.number());
         if let Some(known) = numbers.and_then(|(left, right)| compared(operator, left, right)) {
             return self.boolean(known);
         }
         match (operator, &left.kind, &right.kind) {
-            (And, Kind::Boolean(true), _) | (Or, Kind::Boolean(false), _) => return right,
-            (And, Kind::Boolean(false), _) | (Or, Kind::Boolean(true), _) => return left,
-            (And | Or, _, Kind::Boolean(_)) if !left.has_effect() => return right,
+            ("&&", Kind::Boolean(true), _) | ("||", Kind::Boolean(false), _) => return right,
+            ("&&", Kind::Boolean(false), _) | ("||", Kind::Boolean(true), _) => return left,
+            ("&&" | "||", _, Kind::Boolean(_)) if !left.has_effect() => return right,
             _ => {}
         }
         self.make(Kind::Binary(operator), vec![left, right], Type::Boolean)
@@ -185,7 +184,7 @@ impl<'w, 'i> Lowering<'w, 'i> {
     }
 
     // Joins conditions by an operator. None are always fulfilled.
-    fn joined(&self, tests: Vec<Term>, operator: BinaryOperator) -> Term {
+    fn joined(&self, tests: Vec<Term>, operator: &'static str) -> Term {
         let joined = tests.into_iter().reduce(|left, right| self.test(operator, left, right));
         joined.unwrap_or_else(|| self.boolean(true))
     }
@@ -249,12 +248,6 @@ impl<'w, 'i> Lowering<'w, 'i> {
         statements.into_iter().for_each(|statement| self.push(statement));
     }
 
-    fn comment(&mut self, lines: &[Span]) {
-        if !lines.is_empty() {
-            self.push(Statement::Comment(lines.to_vec()));
-        }
-    }
-
     // Evaluates an expression of any type.
     fn any(&mut self, expression: &Expression) -> Done<Term> {
         self.evaluate(expression, Target::Value)
@@ -267,14 +260,14 @@ impl<'w, 'i> Lowering<'w, 'i> {
     }
 }
 
-fn compared(operator: BinaryOperator, left: u128, right: u128) -> Option<bool> {
+fn compared(operator: &str, left: u128, right: u128) -> Option<bool> {
     Some(match operator {
-        BinaryOperator::Equal => left == right,
-        BinaryOperator::NotEqual => left != right,
-        BinaryOperator::Less => left < right,
-        BinaryOperator::Greater => left > right,
-        BinaryOperator::LessOrEqual => left <= right,
-        BinaryOperator::GreaterOrEqual => left >= right,
+        "==" => left == right,
+        "!=" => left != right,
+        "<" => left < right,
+        ">" => left > right,
+        "<=" => left <= right,
+        ">=" => left >= right,
         _ => return None,
     })
 }

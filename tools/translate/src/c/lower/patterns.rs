@@ -4,7 +4,7 @@ use super::{Done, Lowering, Target};
 use crate::c::ir::{ERR, Form, Kind, NONE, OK, PLAIN, SOME, Term, Type};
 use crate::c::world::item_of;
 use crate::resolve::Definition;
-use crate::tree::{BinaryOperator, Block, Literal, LiteralKind, Path, Pattern, PatternKind};
+use crate::tree::{Expression, Kind as Tree, Path, Pattern};
 use std::cmp::Ordering;
 
 /// A name of a pattern, whether it may be changed, and the part that it stands for.
@@ -26,66 +26,65 @@ impl Lowering<'_, '_> {
     }
 
     fn fit(&mut self, pattern: &Pattern, value: &Term, fit: &mut Fit) -> Done<()> {
-        use BinaryOperator::{And, Equal, LessOrEqual, Or};
         self.at = pattern.span;
+        let parts = pattern.parts.as_slice();
         match &pattern.kind {
-            PatternKind::Wildcard | PatternKind::Rest => {}
-            PatternKind::Binding { name, is_mutable, pattern } => {
-                pattern.iter().try_for_each(|pattern| self.fit(pattern, value, fit))?;
+            Tree::Wildcard | Tree::Rest => {}
+            Tree::Binding { name, is_mutable } => {
+                parts.iter().try_for_each(|pattern| self.fit(pattern, value, fit))?;
                 fit.bindings.push((name.text.clone(), *is_mutable, value.clone()));
             }
-            PatternKind::Literal(literal) => fit.tests.push(match literal.kind {
-                LiteralKind::Boolean(true) => value.clone(),
-                LiteralKind::Boolean(false) => value.clone().negated(),
-                _ => {
-                    let number = self.like(literal, value)?;
-                    self.test(Equal, value.clone(), number)
-                }
-            }),
-            PatternKind::Range { low, high } => {
-                let (low, high) = (self.like(low, value)?, self.like(high, value)?);
+            Tree::Boolean(true) => fit.tests.push(value.clone()),
+            Tree::Boolean(false) => fit.tests.push(value.clone().negated()),
+            Tree::Range => {
+                let (low, high) = (self.like(&parts[0], value)?, self.like(&parts[1], value)?);
                 // No number is below the first 0, and compilers warn of such a test.
-                if !matches!(low.kind, Kind::Number { value: 0, .. }) {
-                    fit.tests.push(self.test(LessOrEqual, low, value.clone()));
+                if low.number() != Some(0) {
+                    fit.tests.push(self.test("<=", low, value.clone()));
                 }
-                fit.tests.push(self.test(LessOrEqual, value.clone(), high));
+                fit.tests.push(self.test("<=", value.clone(), high));
             }
-            PatternKind::Tuple(patterns) => {
-                let parts = self.parts(value, PLAIN)?;
-                self.fit_all(patterns, parts, fit)?;
+            Tree::Tuple => {
+                let fields = self.parts(value, PLAIN)?;
+                self.fit_all(parts, fields, fit)?;
             }
-            PatternKind::Slice(patterns) => {
-                let parts = self.elements(patterns, value)?;
-                self.fit_all(patterns, parts, fit)?;
+            Tree::List => {
+                let elements = self.elements(parts, value)?;
+                self.fit_all(parts, elements, fit)?;
             }
-            PatternKind::Variant { path, fields } => {
+            Tree::Path(path) | Tree::Call(path) => {
                 let Some((of, variant)) = self.variant(path) else {
                     return self.refuse("this pattern has no rule");
                 };
                 let value = self.followed(value.clone());
                 self.unify(&of, &value.of)?;
-                let parts = self.parts(&value, variant)?;
-                self.fit_all(fields, parts, fit)?;
+                let fields = self.parts(&value, variant)?;
+                self.fit_all(parts, fields, fit)?;
             }
-            PatternKind::Either(patterns) => {
+            Tree::Either => {
                 let mut tests = Vec::new();
-                for pattern in patterns {
+                for pattern in parts {
                     let own = self.matched(pattern, value)?;
                     if !own.bindings.is_empty() {
                         return self.refuse("alternatives that bind names");
                     }
-                    tests.push(self.joined(own.tests, And));
+                    tests.push(self.joined(own.tests, "&&"));
                 }
-                fit.tests.push(self.joined(tests, Or));
+                fit.tests.push(self.joined(tests, "||"));
             }
-            PatternKind::Struct { .. } => return self.refuse("this pattern has no rule"),
+            _ => {
+                let number = self.like(pattern, value)?;
+                fit.tests.push(self.test("==", value.clone(), number));
+            }
         }
         Ok(())
     }
 
     // Returns a literal of the type of a value.
-    fn like(&mut self, literal: &Literal, value: &Term) -> Done<Term> {
-        let term = self.literal(literal);
+    fn like(&mut self, literal: &Pattern, value: &Term) -> Done<Term> {
+        let Some(term) = self.literal(literal) else {
+            return self.refuse("this pattern has no rule");
+        };
         self.unify(&value.of, &term.of)?;
         Ok(term)
     }
@@ -107,21 +106,19 @@ impl Lowering<'_, '_> {
 
     // Returns whether a slice is as long as its patterns ask, and what each of them is for.
     fn elements(&mut self, patterns: &[Pattern], slice: &Term) -> Done<(Vec<Term>, Vec<Term>)> {
-        use BinaryOperator::{Equal, GreaterOrEqual, Subtract};
         if !self.known(&slice.of).is_slice() {
             return self.refuse("a slice pattern for what is no slice");
         }
         let count = patterns.len();
         let rest = patterns.iter().position(is_rest).unwrap_or(count);
-        let (operator, fixed) =
-            if rest < count { (GreaterOrEqual, count - 1) } else { (Equal, count) };
+        let (operator, fixed) = if rest < count { (">=", count - 1) } else { ("==", count) };
         let test = self.test(operator, self.length(slice), self.size(fixed));
         let mut parts = Vec::new();
         for at in 0..count {
             let from = self.size(at);
             let after = count - at - usize::from(at == rest);
             let to = vec![self.length(slice), self.size(after)];
-            let to = self.make(Kind::Binary(Subtract), to, Type::SIZE);
+            let to = self.make(Kind::Binary("-"), to, Type::SIZE);
             parts.push(match at.cmp(&rest) {
                 Ordering::Less => self.element(slice.clone(), from, Kind::Element)?,
                 Ordering::Greater => self.element(slice.clone(), to, Kind::Element)?,
@@ -190,18 +187,16 @@ impl Lowering<'_, '_> {
         &mut self,
         pattern: &Pattern,
         value: Term,
-        otherwise: Option<&Block>,
+        otherwise: Option<&Expression>,
     ) -> Done<()> {
         self.at = pattern.span;
         match &pattern.kind {
-            PatternKind::Binding { name, is_mutable, pattern: None } => {
+            Tree::Binding { name, is_mutable } if pattern.parts.is_empty() => {
                 self.declare(&name.text, value, *is_mutable);
                 return Ok(());
             }
-            PatternKind::Tuple(patterns)
-                if value.is_tuple() && patterns.len() == value.parts.len() =>
-            {
-                let mut pairs = patterns.iter().zip(value.parts);
+            Tree::Tuple if value.is_tuple() && pattern.parts.len() == value.parts.len() => {
+                let mut pairs = pattern.parts.iter().zip(value.parts);
                 return pairs.try_for_each(|(it, part)| self.destructure(it, part, None));
             }
             _ => {}
@@ -210,8 +205,8 @@ impl Lowering<'_, '_> {
         let Fit { tests, bindings } = self.matched(pattern, &value)?;
         match otherwise {
             Some(block) => {
-                let (leaving, _) = self.apart(|it| it.block(block, Target::Nothing))?;
-                let test = self.joined(tests, BinaryOperator::And).negated();
+                let (leaving, _) = self.apart(|it| it.evaluate(block, Target::Nothing))?;
+                let test = self.joined(tests, "&&").negated();
                 self.push_if(test, leaving, Vec::new());
             }
             None if !tests.is_empty() => {
@@ -235,9 +230,9 @@ impl Lowering<'_, '_> {
 }
 
 fn is_rest(pattern: &Pattern) -> bool {
-    match &pattern.kind {
-        PatternKind::Rest => true,
-        PatternKind::Binding { pattern: Some(inner), .. } => is_rest(inner),
+    match pattern.kind {
+        Tree::Rest => true,
+        Tree::Binding { .. } => pattern.parts.iter().any(is_rest),
         _ => false,
     }
 }

@@ -3,9 +3,7 @@
 use super::patterns::{Binding, Fit};
 use super::{Done, Lowering, Target};
 use crate::c::ir::{Kind, Statement, Term, Type};
-use crate::tree::{
-    Arm, BinaryOperator, Block, Expression, ExpressionKind, Let, Pattern, PatternKind,
-};
+use crate::tree::{self, Expression, Kind as Tree, Pattern};
 
 /// One way that an `if` or `match` goes on.
 struct Branch {
@@ -19,36 +17,38 @@ impl Lowering<'_, '_> {
     pub fn evaluate(&mut self, tree: &Expression, target: Target) -> Done<Term> {
         let before = std::mem::replace(&mut self.at, tree.span);
         let mut value = self.unit();
-        match &tree.kind {
-            ExpressionKind::Group(inner) => value = self.evaluate(inner, target)?,
-            ExpressionKind::Block(block) => value = self.block(block, target)?,
-            ExpressionKind::If { condition, then, otherwise } => {
-                value = self.if_else(condition, then, otherwise.as_deref(), target)?;
+        match (&tree.kind, tree.parts.as_slice()) {
+            (Tree::Group, [inner]) => value = self.evaluate(inner, target)?,
+            (Tree::Block, statements) => value = self.block(statements, target)?,
+            (Tree::If, [condition, then, otherwise @ ..]) => {
+                value = self.if_else(condition, then, otherwise.first(), target)?;
             }
-            ExpressionKind::Match { value: tree, arms } => {
-                value = self.match_arms(tree, arms, target)?;
+            (Tree::Match, [found, arms @ ..]) => value = self.match_arms(found, arms, target)?,
+            (Tree::Return, [value]) if target != Target::Value => {
+                self.evaluate(value, Target::Return)?;
             }
-            ExpressionKind::Return(Some(tree)) if target != Target::Value => {
-                self.evaluate(tree, Target::Return)?;
+            // A block without a value.
+            (Tree::Tuple, []) => {}
+            (Tree::Break, _) => self.push(Statement::Break),
+            (Tree::Comments(lines), _) => self.push(Statement::Comment(lines.clone())),
+            (Tree::Let(of), [pattern, value, otherwise @ ..]) => {
+                self.let_statement(of.as_deref(), pattern, value, otherwise.first())?;
             }
-            ExpressionKind::Break => self.push(Statement::Break),
-            ExpressionKind::While { condition, body } => {
+            (Tree::While, [condition, body]) => {
                 let condition =
                     self.alone("the condition of a loop", |it| it.term(condition, &Type::Boolean))?;
-                let (body, _) = self.apart(|it| it.block(body, Target::Nothing))?;
+                let (body, _) = self.apart(|it| it.evaluate(body, Target::Nothing))?;
                 self.push(Statement::While { condition, body });
             }
-            ExpressionKind::For { pattern, value, body } => {
-                let slice = self.any(value)?;
+            (Tree::For, [pattern, slice, body]) => {
+                let slice = self.any(slice)?;
                 self.walk(slice, |it, element, at| {
                     it.destructure(pattern, element, None)?;
                     it.advance(at);
-                    it.block(body, Target::Nothing).map(|_| ())
+                    it.evaluate(body, Target::Nothing).map(|_| ())
                 })?;
             }
-            ExpressionKind::Assign { operator, place, value } => {
-                self.assign(*operator, place, value)?;
-            }
+            (Tree::Assign { is_sum }, [place, value]) => self.assign(*is_sum, place, value)?,
             _ => {
                 value = self.value(tree)?;
                 if target == Target::Return {
@@ -63,39 +63,36 @@ impl Lowering<'_, '_> {
         Ok(value)
     }
 
-    /// Puts a block into the current statements, with its value at the target.
-    pub fn block(&mut self, block: &Block, target: Target) -> Done<Term> {
+    // Puts a block into the current statements, with its value at the target.
+    fn block(&mut self, statements: &[Expression], target: Target) -> Done<Term> {
         self.scopes.push(Default::default());
-        for statement in &block.statements {
-            self.comment(&statement.comments);
-            match &statement.expression.kind {
-                ExpressionKind::Let(it) => self.let_statement(it)?,
-                _ => {
-                    self.evaluate(&statement.expression, Target::Nothing)?;
-                }
-            }
+        let mut value = self.unit();
+        for (number, statement) in statements.iter().enumerate() {
+            let is_last = number + 1 == statements.len();
+            value = self.evaluate(statement, if is_last { target } else { Target::Nothing })?;
         }
-        self.comment(&block.comments);
-        let value = match &block.value {
-            Some(value) => self.evaluate(value, target)?,
-            None => self.unit(),
-        };
         self.scopes.pop();
         Ok(value)
     }
 
-    fn let_statement(&mut self, tree: &Let) -> Done<()> {
-        let of = match &tree.annotation {
+    fn let_statement(
+        &mut self,
+        annotation: Option<&tree::Type>,
+        pattern: &Pattern,
+        value: &Expression,
+        otherwise: Option<&Expression>,
+    ) -> Done<()> {
+        let of = match annotation {
             Some(of) => self.world.type_in(&self.place, of)?,
             None => self.fresh(false),
         };
-        self.at = tree.pattern.span;
-        if let PatternKind::Binding { name, pattern: None, .. } = &tree.pattern.kind {
+        self.at = pattern.span;
+        if let (Tree::Binding { name, .. }, []) = (&pattern.kind, pattern.parts.as_slice()) {
             self.hint = Some(name.text.clone());
         }
-        let found = self.term(&tree.value, &of)?;
+        let found = self.term(value, &of)?;
         self.hint = None;
-        self.destructure(&tree.pattern, found, tree.otherwise.as_ref())
+        self.destructure(pattern, found, otherwise)
     }
 
     /// Walks over a slice, by what is done with an element and the offset.
@@ -109,7 +106,7 @@ impl Lowering<'_, '_> {
             return self.refuse("a loop over this has no rule");
         }
         let at = self.hold(self.size(0), "at", true);
-        let condition = self.test(BinaryOperator::Less, at.clone(), self.length(&slice));
+        let condition = self.test("<", at.clone(), self.length(&slice));
         let (body, ()) = self.apart(|it| {
             let element = it.element(slice, at.clone(), Kind::Element)?;
             make(it, element, at)
@@ -120,27 +117,22 @@ impl Lowering<'_, '_> {
 
     pub fn advance(&mut self, place: Term) {
         let parts = vec![place.clone(), self.size(1)];
-        let value = self.make(Kind::Binary(BinaryOperator::Add), parts, Type::SIZE);
+        let value = self.make(Kind::Binary("+"), parts, Type::SIZE);
         self.push(Statement::Assign { place, value });
     }
 
     // Puts an assignment into the current statements.
-    fn assign(
-        &mut self,
-        operator: Option<BinaryOperator>,
-        place: &Expression,
-        value: &Expression,
-    ) -> Done<()> {
+    fn assign(&mut self, is_sum: bool, place: &Expression, value: &Expression) -> Done<()> {
         let place = self.alone("a place", |it| it.any(place))?;
         let mut value = self.term(value, &place.of)?;
         // The value comes first, also where C leaves the order open.
-        let is_simple = operator.is_none() && matches!(place.kind, Kind::Local(_));
+        let is_simple = !is_sum && matches!(place.kind, Kind::Local(_));
         if value.has_effect() && !is_simple {
             value = self.hold(value, "result", false);
         }
-        if let Some(operator) = operator {
+        if is_sum {
             let parts = vec![place.clone(), value];
-            value = self.make(Kind::Binary(operator), parts, place.of.clone());
+            value = self.make(Kind::Binary("+"), parts, place.of.clone());
         }
         self.push(Statement::Assign { place, value });
         Ok(())
@@ -159,17 +151,17 @@ impl Lowering<'_, '_> {
     fn if_else(
         &mut self,
         condition: &Expression,
-        then: &Block,
+        then: &Expression,
         otherwise: Option<&Expression>,
         target: Target,
     ) -> Done<Term> {
-        let (condition, bindings) = match &condition.kind {
-            ExpressionKind::Let(it) => self.fits(&it.value, &it.pattern)?,
+        let (condition, bindings) = match (&condition.kind, condition.parts.as_slice()) {
+            (Tree::Let(_), [pattern, value]) => self.fits(value, pattern)?,
             _ => (self.term(condition, &Type::Boolean)?, Vec::new()),
         };
         let (statements, value) = self.apart(|it| {
             it.bind_all(bindings, |_, _| false);
-            it.block(then, target)
+            it.evaluate(then, target)
         })?;
         let then = Branch { condition: Some(condition), statements, value };
         let (statements, value) = self.apart(|it| match otherwise {
@@ -185,16 +177,25 @@ impl Lowering<'_, '_> {
         let found = self.any(value)?;
         let found = self.keep(found, "found");
         let Fit { tests, bindings } = self.matched(pattern, &found)?;
-        Ok((self.joined(tests, BinaryOperator::And), bindings))
+        Ok((self.joined(tests, "&&"), bindings))
     }
 
-    fn match_arms(&mut self, value: &Expression, arms: &[Arm], target: Target) -> Done<Term> {
+    fn match_arms(
+        &mut self,
+        value: &Expression,
+        arms: &[Expression],
+        target: Target,
+    ) -> Done<Term> {
         let found = self.any(value)?;
         let found = self.keep(found, "found");
         let mut branches: Vec<Branch> = Vec::new();
         for (number, arm) in arms.iter().enumerate() {
-            let Fit { mut tests, bindings } = self.matched(&arm.pattern, &found)?;
-            if let Some(guard) = &arm.guard {
+            let (Tree::Arm(comments), [pattern, guard @ .., body]) = (&arm.kind, &arm.parts[..])
+            else {
+                return self.refuse("no arm");
+            };
+            let Fit { mut tests, bindings } = self.matched(pattern, &found)?;
+            if let Some(guard) = guard.first() {
                 tests.push(self.alone("a guard", |it| {
                     it.bind_all(bindings.clone(), |_, _| true);
                     it.term(guard, &Type::Boolean)
@@ -204,12 +205,14 @@ impl Lowering<'_, '_> {
                 tests.clear();
             }
             let is_end = tests.is_empty();
-            let condition = (!is_end).then(|| self.joined(tests, BinaryOperator::And));
+            let condition = (!is_end).then(|| self.joined(tests, "&&"));
             let (statements, value) = self.apart(|it| {
-                it.comment(&arm.comments);
+                if !comments.is_empty() {
+                    it.push(Statement::Comment(comments.clone()));
+                }
                 // In a value, unless something may change the parts meanwhile.
                 it.bind_all(bindings, |it, part| target == Target::Value && it.is_constant(part));
-                it.evaluate(&arm.body, target)
+                it.evaluate(body, target)
             })?;
             branches.push(Branch { condition, statements, value });
             if is_end {

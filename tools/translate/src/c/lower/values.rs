@@ -2,62 +2,74 @@
 
 use super::{Done, Lowering};
 use crate::c::ir::{ERR, Form, Kind, NONE, OK, PLAIN, SOME, Statement, Term, Type};
-use crate::tree::{
-    BinaryOperator, Expression, ExpressionKind, Literal, LiteralKind, Name, Path, Segment,
-    UnaryOperator,
-};
+use crate::c::world::integer;
+use crate::tree::{Expression, Kind as Tree, Name, Path, Segment, is_comparison, is_shift};
 
 impl Lowering<'_, '_> {
     /// Evaluates an expression without branches to a value.
-    pub fn value(&mut self, expression: &Expression) -> Done<Term> {
-        match &expression.kind {
-            ExpressionKind::Literal(literal) => Ok(self.literal(literal)),
-            ExpressionKind::Path(path) => self.path(path),
-            ExpressionKind::Tuple(parts) => {
-                let terms = self.operands(&parts.iter().collect::<Vec<_>>())?;
-                Ok(self.tuple_of(terms))
+    pub fn value(&mut self, tree: &Expression) -> Done<Term> {
+        let parts = tree.parts.as_slice();
+        match &tree.kind {
+            Tree::Path(path) => self.path(path),
+            Tree::Call(path) => self.call(path, parts),
+            Tree::Method { name, generics } => self.method(&name.text, generics, parts),
+            Tree::Binary(operator @ ("&&" | "||")) => {
+                let first = self.term(&parts[0], &Type::Boolean)?;
+                let second =
+                    self.alone("what may not run", |it| it.term(&parts[1], &Type::Boolean))?;
+                Ok(self.test(operator, first, second))
             }
-            ExpressionKind::Array(parts) => self.array(parts),
-            ExpressionKind::Struct { path, fields, base } => {
-                self.structure(path, fields, base.as_deref())
-            }
-            ExpressionKind::Unary { operator, operand } => self.unary(*operator, operand),
-            ExpressionKind::Borrow { is_mutable, operand } => self.borrow(*is_mutable, operand),
-            ExpressionKind::Binary { operator, left, right } => self.binary(*operator, left, right),
-            ExpressionKind::Cast { value, target } => {
-                let of = self.world.type_in(&self.place, target)?;
-                let value = self.any(value)?;
-                Ok(self.make(Kind::Cast, vec![value], of))
-            }
-            ExpressionKind::Call { function, arguments } => self.call(function, arguments),
-            ExpressionKind::Method(call) => self.method(call),
-            ExpressionKind::Field { receiver, name } => self.field(receiver, &name.text),
-            ExpressionKind::Index { receiver, index } => {
-                let mut terms = self.operands(&[receiver, index])?;
-                let at = self.coerce(terms.remove(1), &Type::SIZE)?;
-                self.element(terms.remove(0), at, Kind::At)
-            }
-            ExpressionKind::Part { receiver, low, high } => {
-                self.range(receiver, low.as_deref(), high.as_deref())
-            }
-            ExpressionKind::Try(value) => self.question(value),
-            ExpressionKind::Matches { value, pattern } => Ok(self.fits(value, pattern)?.0),
-            _ => self.refuse("this form has no rule"),
+            Tree::Try => self.question(&parts[0]),
+            Tree::Matches => Ok(self.fits(&parts[0], &parts[1])?.0),
+            _ => match self.literal(tree) {
+                Some(literal) => Ok(literal),
+                None => self.operation(tree),
+            },
         }
     }
 
-    pub fn literal(&mut self, literal: &Literal) -> Term {
-        let (kind, of) = match &literal.kind {
-            LiteralKind::Boolean(value) => (Kind::Boolean(*value), Type::Boolean),
-            LiteralKind::Byte(byte) => (Kind::Byte(*byte), Type::BYTE),
-            LiteralKind::Text(bytes) => (Kind::Text(bytes.clone()), Type::slice(Type::BYTE, false)),
-            LiteralKind::Integer(value) => {
-                let digits = self.source.at(literal.span).strip_prefix("0x").unwrap_or_default();
+    /// Returns the value of a literal.
+    pub fn literal(&mut self, tree: &Expression) -> Option<Term> {
+        let (kind, of) = match &tree.kind {
+            Tree::Boolean(value) => (Kind::Boolean(*value), Type::Boolean),
+            Tree::Byte(byte) => (Kind::Byte(*byte), Type::BYTE),
+            Tree::Text(bytes) => (Kind::Text(bytes.clone()), Type::slice(Type::BYTE, false)),
+            Tree::Integer(value) => {
+                let digits = self.source.at(tree.span).strip_prefix("0x").unwrap_or_default();
                 let hexadecimal = digits.chars().filter(|it| *it != '_').count();
                 (Kind::Number { value: *value, hexadecimal }, self.fresh(true))
             }
+            _ => return None,
         };
-        self.make(kind, Vec::new(), of)
+        Some(self.make(kind, Vec::new(), of))
+    }
+
+    // Evaluates an expression that is made of the values of its parts.
+    fn operation(&mut self, tree: &Expression) -> Done<Term> {
+        let mut terms = self.operands(&tree.parts)?;
+        match &tree.kind {
+            Tree::Tuple => Ok(self.tuple_of(terms)),
+            Tree::List => self.array(terms),
+            Tree::Struct(path, names) => self.structure(path, names, terms),
+            Tree::Unary(operator) => Ok(self.unary(operator, terms.remove(0))),
+            Tree::Reference { is_mutable } => Ok(self.borrow(*is_mutable, terms.remove(0))),
+            Tree::Binary(operator) => self.binary(operator, terms),
+            Tree::Cast(name) => match integer(name) {
+                Some(of) => Ok(self.make(Kind::Cast, terms, of)),
+                None => self.refuse("this type has no rule"),
+            },
+            Tree::Field(name) => self.field(terms.remove(0), &name.text),
+            Tree::Index => {
+                let at = self.coerce(terms.remove(1), &Type::SIZE)?;
+                self.element(terms.remove(0), at, Kind::At)
+            }
+            Tree::Part(name) => {
+                let offsets = self.coerce_all(terms.split_off(1), &[Type::SIZE, Type::SIZE])?;
+                terms.extend(offsets);
+                self.part(name, terms)
+            }
+            _ => self.refuse("this form has no rule"),
+        }
     }
 
     pub fn tuple_of(&self, parts: Vec<Term>) -> Term {
@@ -65,17 +77,17 @@ impl Lowering<'_, '_> {
         self.make(Kind::Make(PLAIN), parts, of)
     }
 
-    fn array(&mut self, parts: &[Expression]) -> Done<Term> {
+    fn array(&mut self, terms: Vec<Term>) -> Done<Term> {
         let element = self.fresh(false);
-        let terms = self.operands(&parts.iter().collect::<Vec<_>>())?;
-        let terms = self.coerce_all(terms, &vec![element.clone(); parts.len()])?;
-        let of = Type::array(element, parts.len() as u128);
+        let types = vec![element.clone(); terms.len()];
+        let terms = self.coerce_all(terms, &types)?;
+        let of = Type::array(element, terms.len() as u128);
         Ok(self.make(Kind::Elements, terms, of))
     }
 
     /// Evaluates operands from left to right. Those before one with statements are held in variables, and so
     /// are results of calls that write.
-    pub fn operands(&mut self, operands: &[&Expression]) -> Done<Vec<Term>> {
+    pub fn operands(&mut self, operands: &[Expression]) -> Done<Vec<Term>> {
         let mut terms: Vec<Term> = Vec::new();
         for operand in operands {
             let (statements, term) = self.apart(|it| it.any(operand))?;
@@ -95,7 +107,7 @@ impl Lowering<'_, '_> {
     }
 
     /// Evaluates operands behind a value, which must not depend on what they change.
-    pub fn behind(&mut self, first: Term, operands: &[&Expression]) -> Done<Vec<Term>> {
+    pub fn behind(&mut self, first: Term, operands: &[Expression]) -> Done<Vec<Term>> {
         let (statements, terms) = self.apart(|it| it.operands(operands))?;
         let changes = !statements.is_empty() || terms.iter().any(Term::has_effect);
         let is_pointer = matches!(self.known(&first.of), Type::Of(Form::Pointer, _));
@@ -142,27 +154,21 @@ impl Lowering<'_, '_> {
         Ok(of)
     }
 
-    fn structure(
-        &mut self,
-        path: &Path,
-        given: &[(Name, Expression)],
-        base: Option<&Expression>,
-    ) -> Done<Term> {
+    // Makes a struct of the values of fields, and of one more that gives the others.
+    fn structure(&mut self, path: &Path, names: &[Name], mut terms: Vec<Term>) -> Done<Term> {
         let of = self.named_type(&path.segments)?;
         let fields = self.fields_of(&of, PLAIN)?;
         let is_field = |given: &Name| fields.iter().any(|(name, _)| *name == given.text);
-        if !given.iter().all(|(given, _)| is_field(given)) {
+        if !names.iter().all(is_field) {
             return self.refuse("no such field");
         }
-        let operands: Vec<&Expression> = given.iter().map(|(_, it)| it).chain(base).collect();
-        let mut terms = self.operands(&operands)?;
-        let base = match base.and_then(|_| terms.pop()) {
+        let base = match terms.drain(names.len()..).next() {
             Some(Term { kind: Kind::Constant(id), .. }) => Some(super::constant(self.world, id)?),
             base => base.map(|base| self.keep(base, "base")),
         };
         let mut all = Vec::new();
         for (number, (name, of)) in fields.into_iter().enumerate() {
-            let given = given.iter().position(|(given, _)| given.text == name);
+            let given = names.iter().position(|given| given.text == name);
             all.push(match (given, &base) {
                 (Some(at), _) => self.coerce(terms[at].clone(), &of)?,
                 (None, Some(base)) if base.kind == Kind::Make(PLAIN) => base.parts[number].clone(),
@@ -173,20 +179,18 @@ impl Lowering<'_, '_> {
         Ok(self.make(Kind::Make(PLAIN), all, of))
     }
 
-    fn unary(&mut self, operator: UnaryOperator, inner: &Expression) -> Done<Term> {
-        let term = self.any(inner)?;
+    fn unary(&mut self, operator: &str, term: Term) -> Term {
         let of = self.known(&term.of);
-        Ok(match operator {
-            UnaryOperator::Dereference => self.followed(term),
-            UnaryOperator::Not if of == Type::Boolean => term.negated(),
-            UnaryOperator::Not => self.make(Kind::Small("not"), vec![term], of),
-            UnaryOperator::Negate => self.make(Kind::Small("negate"), vec![term], of),
-        })
+        match operator {
+            "*" => self.followed(term),
+            "!" if of == Type::Boolean => term.negated(),
+            "!" => self.make(Kind::Small("not"), vec![term], of),
+            _ => self.make(Kind::Small("negate"), vec![term], of),
+        }
     }
 
-    fn borrow(&mut self, is_mutable: bool, operand: &Expression) -> Done<Term> {
-        let term = self.any(operand)?;
-        Ok(match (self.known(&term.of), &term.kind) {
+    fn borrow(&mut self, is_mutable: bool, term: Term) -> Term {
+        match (self.known(&term.of), &term.kind) {
             (Type::Of(Form::Slice { is_mutable: true }, parts), _) if !is_mutable => {
                 let of = Type::slice(parts[0].clone(), false);
                 self.make(Kind::Part("shared"), vec![term], of)
@@ -196,62 +200,29 @@ impl Lowering<'_, '_> {
                 self.make(Kind::Address, vec![term], Type::pointer(of))
             }
             _ => term,
-        })
+        }
     }
 
-    fn binary(
-        &mut self,
-        operator: BinaryOperator,
-        left: &Expression,
-        right: &Expression,
-    ) -> Done<Term> {
-        if matches!(operator, BinaryOperator::And | BinaryOperator::Or) {
-            let first = self.term(left, &Type::Boolean)?;
-            let second = self.alone("what may not run", |it| it.term(right, &Type::Boolean))?;
-            return Ok(self.test(operator, first, second));
+    fn binary(&mut self, operator: &'static str, terms: Vec<Term>) -> Done<Term> {
+        let mut terms: Vec<Term> = terms.into_iter().map(|term| self.followed(term)).collect();
+        let of = terms[0].of.clone();
+        if !is_shift(operator) {
+            self.unify(&of, &terms[1].of)?;
         }
-        let mut terms = self.operands(&[left, right])?;
-        let right = self.followed(terms.remove(1));
-        let left = self.followed(terms.remove(0));
-        if !operator.is_shift() {
-            self.unify(&left.of, &right.of)?;
+        if is_comparison(operator) {
+            let right = terms.remove(1);
+            return Ok(self.test(operator, terms.remove(0), right));
         }
-        if operator.is_comparison() {
-            return Ok(self.test(operator, left, right));
-        }
-        let of = left.of.clone();
-        Ok(self.make(Kind::Binary(operator), vec![left, right], of))
+        Ok(self.make(Kind::Binary(operator), terms, of))
     }
 
-    fn field(&mut self, receiver: &Expression, name: &str) -> Done<Term> {
-        let receiver = self.any(receiver)?;
+    fn field(&mut self, receiver: Term, name: &str) -> Done<Term> {
         let receiver = self.followed(receiver);
         let fields = self.fields_of(&receiver.of, PLAIN)?;
         let Some(place) = fields.iter().position(|(own, _)| own == name) else {
             return self.refuse("no such field");
         };
         Ok(self.make(Kind::Field(PLAIN, place), vec![receiver], fields[place].1.clone()))
-    }
-
-    // Evaluates `RECEIVER[LOW..HIGH]`.
-    fn range(
-        &mut self,
-        receiver: &Expression,
-        low: Option<&Expression>,
-        high: Option<&Expression>,
-    ) -> Done<Term> {
-        let operands: Vec<&Expression> =
-            [Some(receiver), low, high].into_iter().flatten().collect();
-        let mut terms = self.operands(&operands)?;
-        let offsets = self.coerce_all(terms.split_off(1), &[Type::SIZE, Type::SIZE])?;
-        terms.extend(offsets);
-        let name = match (low, high) {
-            (Some(_), Some(_)) => "between",
-            (Some(_), None) => "from",
-            (None, Some(_)) => "to",
-            (None, None) => return self.refuse("this form has no rule"),
-        };
-        self.part(name, terms)
     }
 
     /// Returns the element of a slice or an array.
@@ -292,7 +263,7 @@ impl Lowering<'_, '_> {
             _ => return self.refuse("`?` of another type than the function has"),
         };
         let (tests, mut values) = self.parts(&found, good)?;
-        let leaves = self.joined(tests, BinaryOperator::And).negated();
+        let leaves = self.joined(tests, "&&").negated();
         self.push_if(leaves, vec![Statement::Return(back)], Vec::new());
         Ok(values.remove(0))
     }
