@@ -1,11 +1,10 @@
 //! Refuses names that stand for something else in Rust, hide another, or are not known in both languages.
 
 use crate::modules::{CRATES, Package};
-use crate::parser::is_capital;
 use crate::resolve::{Definition, Scopes};
 use crate::source::{Done, Source, Span};
-use crate::std_names::{self, has};
-use crate::tree::*;
+use crate::std_names::{self, has, is_capital};
+use crate::tree::{Import, Node};
 use std::collections::BTreeSet;
 
 // Our methods that are called. No type of `std` has a method of such a name.
@@ -14,6 +13,9 @@ const OWN_METHODS: &str = "index parts put_message text tick guessed_number next
 
 // Names with which Rust begins paths, and those of what the Rust leaves out or replaces.
 const RESERVED: &str = "std core alloc proved Model Formatter";
+
+// The rule for a path that is called.
+const CALLEE: &str = "path.callee";
 
 /// Checks all modules.
 pub fn check(package: &Package, scopes: &Scopes) -> Done<()> {
@@ -42,27 +44,24 @@ impl<'a> Members<'a> {
         for is_trait in [false, true] {
             for module in &package.modules {
                 let items = module.items.iter().filter(|item| match item.kind {
-                    ItemKind::Trait { .. } => is_trait,
-                    ItemKind::Implementation { of: None, .. } => !is_trait,
+                    "trait" => is_trait,
+                    "implementation" => !is_trait && item.of_trait().is_none(),
                     _ => false,
                 });
-                let mut found = items.flat_map(Item::members);
+                let mut found = items.flat_map(Node::members);
                 found.try_for_each(|member| members.add(member, is_trait, &module.source))?;
             }
         }
         Ok(members)
     }
 
-    fn add(&mut self, member: &'a Item, is_trait: bool, source: &Source) -> Done<()> {
-        let Item { name: Name { text, span }, kind, .. } = member;
-        let is_method = match kind {
-            ItemKind::Function(function) => function.is_method(),
-            ItemKind::Constant { .. } => false,
-            _ => return Ok(()),
-        };
-        self.all.insert(text);
-        if is_method && !self.methods.insert(text) && is_trait {
-            return Err(source.fault(*span, format!("a second method by the name `{text}`")));
+    fn add(&mut self, member: &'a Node, is_trait: bool, source: &Source) -> Done<()> {
+        if let ("function" | "constant", Some(name)) = (member.kind, member.get("name")) {
+            self.all.insert(&name.text);
+            if member.is_method() && !self.methods.insert(&name.text) && is_trait {
+                let reason = format!("a second method by the name `{}`", name.text);
+                return Err(source.fault(name.span, reason));
+            }
         }
         Ok(())
     }
@@ -78,54 +77,81 @@ struct Names<'a> {
 }
 
 impl<'a> Names<'a> {
-    fn item(&mut self, item: &'a Item) -> Done<()> {
-        self.declaration(item)?;
+    fn item(&mut self, item: &'a Node) -> Done<()> {
+        match item.kind {
+            "use" => return item.imports().iter().try_for_each(|it| self.import(it)),
+            "implementation" | "model" => self.implementation(item)?,
+            _ => {}
+        }
+        if let Some(name) = item.get("name") {
+            self.declare(name, !["declaration", "function"].contains(&item.kind))?;
+        }
+        self.scope(&item.parts)
+    }
+
+    // Checks the names in something in a scope of its own.
+    fn scope(&mut self, nodes: impl IntoIterator<Item = &'a Node>) -> Done<()> {
         self.locals.push(Vec::new());
-        item.mentions.iter().try_for_each(|mention| self.mention(mention))?;
-        item.members().iter().try_for_each(|member| self.item(member))?;
+        nodes.into_iter().try_for_each(|node| self.node(node))?;
         self.locals.pop();
         Ok(())
     }
 
-    fn mention(&mut self, mention: &'a Mention) -> Done<()> {
-        match mention {
-            Mention::Path(path, role) => {
-                let names: Vec<&str> = path.iter().map(|name| name.text.as_str()).collect();
-                let span = path[0].span.to(path[path.len() - 1].span);
-                self.assert(self.is_known(&names, *role), span)?;
+    // Checks the names in something, in the order in which Rust reads them.
+    fn node(&mut self, node: &'a Node) -> Done<()> {
+        let parts = node.parts.as_slice();
+        match (node.kind, parts) {
+            ("function" | "constant" | "alias", _) if node.has("notes") => return self.item(node),
+            ("variant", _) => node.all("name").try_for_each(|name| self.declare(name, true))?,
+            ("path", _) => {
+                parts.iter().try_for_each(|segment| self.node(segment))?;
+                return self.assert(self.is_known(node), node.span);
             }
-            Mention::Method(name) => self.assert(self.is_known_method(&name.text), name.span)?,
-            Mention::Local(name) => {
-                // It must not hide a type or a constant, or mean something without being declared.
-                let is_declared = self.scopes.get(self.module, &name.text).is_some();
-                let hides = is_declared && is_capital(&name.text) || is_reserved(&name.text);
-                self.assert(!hides, name.span)?;
-                self.locals.last_mut().into_iter().for_each(|scope| scope.push(&name.text));
+            ("method", [receiver, name, others @ ..]) => {
+                self.node(receiver)?;
+                self.assert(self.is_known_method(&name.text), name.span)?;
+                return others.iter().try_for_each(|part| self.node(part));
             }
-            Mention::Enter => self.locals.push(Vec::new()),
-            Mention::Leave => _ = self.locals.pop(),
-        }
-        Ok(())
-    }
-
-    fn declaration(&self, item: &Item) -> Done<()> {
-        match &item.kind {
-            ItemKind::Use(imports) => return imports.iter().try_for_each(|it| self.import(it)),
-            ItemKind::Implementation { .. } => return self.implementation(item),
-            ItemKind::Ghost | ItemKind::GhostUse { .. } => return Ok(()),
-            ItemKind::Enum(variants) => {
-                variants.iter().try_for_each(|variant| self.declare(&variant.name, true))?;
+            ("parameter" | "binding" | "generic" | "writer", _) => {
+                node.all("name").try_for_each(|name| self.local(name))?;
             }
+            ("assign", [place, ..]) => {
+                let is_place = ["path", "member_of", "index"].contains(&place.kind);
+                let is_target = place.kind == "negation" && place.parts[0].text == "*";
+                self.assert(is_place || is_target, place.span)?;
+            }
+            ("let", [pattern, others @ ..]) => {
+                others.iter().try_for_each(|part| self.node(part))?;
+                return self.node(pattern);
+            }
+            ("for", [pattern, value, body]) => {
+                self.node(value)?;
+                return self.scope([pattern, body]);
+            }
+            ("if", [condition, then, otherwise @ ..]) => {
+                self.scope([condition, then])?;
+                return otherwise.iter().try_for_each(|part| self.node(part));
+            }
+            ("block" | "closure" | "matches" | "arm", _) => return self.scope(parts),
             _ => {}
         }
-        self.declare(&item.name, !matches!(item.kind, ItemKind::Module | ItemKind::Function(_)))
+        parts.iter().try_for_each(|part| self.node(part))
+    }
+
+    // Declares a local name. It must not hide a type or a constant, or mean something without being declared.
+    fn local(&mut self, name: &'a Node) -> Done<()> {
+        let is_declared = self.scopes.get(self.module, &name.text).is_some();
+        let hides = is_declared && is_capital(&name.text) || is_reserved(&name.text);
+        self.assert(!hides, name.span)?;
+        self.locals.last_mut().into_iter().for_each(|scope| scope.push(&name.text));
+        Ok(())
     }
 
     // Refuses an import that hides what is built in, or gives a function another name: its conditions are found
     // by its own.
     fn import(&self, import: &Import) -> Done<()> {
         let last = import.last();
-        match &import.alias {
+        match import.renamed {
             Some(name) if import.path.len() > 1 => self.assert(false, name.span),
             Some(name) => self.declare(name, false),
             None => self.assert(!std_names::is_built_in(&last.text), last.span),
@@ -134,7 +160,7 @@ impl<'a> Names<'a> {
 
     // Refuses a name that hides another, or looks like one of another kind. Patterns are read by the case of their
     // names: a small one binds.
-    fn declare(&self, name: &Name, is_large: bool) -> Done<()> {
+    fn declare(&self, name: &Node, is_large: bool) -> Done<()> {
         self.assert(is_capital(&name.text) == is_large && !is_reserved(&name.text), name.span)
     }
 
@@ -150,20 +176,17 @@ impl<'a> Names<'a> {
 
     // Refuses an `impl` for types that users can make, which may have a trait of ours then: each parameter must have
     // a trait of ours itself, which no type of theirs has.
-    fn implementation(&self, item: &Item) -> Done<()> {
-        let is_own = |path: &Path| self.is_own_trait(&path.names());
-        let is_open = |it: &&GenericParameter| {
-            it.constant.is_none() && !it.bound.as_ref().is_some_and(is_own)
-        };
+    fn implementation(&self, item: &Node) -> Done<()> {
+        let is_open = |it: &&Node| !it.get("path").is_some_and(|bound| self.is_own_trait(bound));
         let reason = "an `impl` for types that users can make";
-        let open = item.generics.iter().find(is_open);
-        open.map_or(Ok(()), |open| Err(self.source.fault(open.name.span, reason)))
+        let open = item.generics("generic.type").find(is_open);
+        open.map_or(Ok(()), |open| Err(self.source.fault(open.span, reason)))
     }
 
-    fn is_own_trait(&self, names: &[&str]) -> bool {
-        let found = self.scopes.resolve(self.module, names);
+    fn is_own_trait(&self, path: &Node) -> bool {
+        let found = self.scopes.resolve(self.module, &path.names());
         let item = found.and_then(|found| self.scopes.item(&found.definition));
-        item.is_some_and(|item| matches!(item.kind, ItemKind::Trait { .. }))
+        item.is_some_and(|item| item.kind == "trait")
     }
 
     fn is_known_method(&self, name: &str) -> bool {
@@ -175,22 +198,24 @@ impl<'a> Names<'a> {
         self.locals.iter().flatten().any(|local| *local == name)
     }
 
-    fn is_known(&self, names: &[&str], role: Role) -> bool {
-        match *names {
+    // Whether a path stands for something that may be where it stands, as its rule says.
+    fn is_known(&self, path: &Node) -> bool {
+        let role = path.rule;
+        match path.names()[..] {
             // A variable that is called would be a pointer to a function.
-            ["self" | "Self"] => role != Role::Callee,
-            [name] if self.is_local(name) => role != Role::Callee,
+            ["self" | "Self"] => role != CALLEE,
+            [name] if self.is_local(name) => role != CALLEE,
             [first, name] if first == "Self" || self.is_local(first) => self.is_member(name, role),
-            _ => self.is_resolved(names, role),
+            ref names => self.is_resolved(names, role),
         }
     }
 
     // Whether a name is that of a function or constant of one of our types, used as such.
-    fn is_member(&self, name: &str, role: Role) -> bool {
+    fn is_member(&self, name: &str, role: &str) -> bool {
         self.members.all.contains(name) && is_used(name, role)
     }
 
-    fn is_resolved(&self, names: &[&str], role: Role) -> bool {
+    fn is_resolved(&self, names: &[&str], role: &str) -> bool {
         let Some(found) = self.scopes.resolve(self.module, names) else { return false };
         let item = self.scopes.item(&found.definition);
         match (&names[found.used..], &found.definition) {
@@ -207,30 +232,30 @@ impl<'a> Names<'a> {
 }
 
 // Whether something of `std` may have a role.
-fn may_be_foreign(path: &str, role: Role) -> bool {
+fn may_be_foreign(path: &str, role: &str) -> bool {
     match role {
-        Role::Bound => has(std_names::BOUNDS, path),
-        Role::Trait => has(std_names::IMPLEMENTED, path),
-        Role::Callee => has("Some Ok Err std::str::from_utf8", path),
+        "path.bound" => has(std_names::BOUNDS, path),
+        "path.trait" => has(std_names::IMPLEMENTED, path),
+        CALLEE => has("Some Ok Err std::str::from_utf8", path),
         _ => path != "std::str::from_utf8" && path != "std::fmt",
     }
 }
 
 // Whether an item of ours may have a role. What is called through a value need not meet its conditions.
-fn may_be(item: &Item, role: Role) -> bool {
-    match &item.kind {
-        ItemKind::Function(_) => role == Role::Callee,
-        ItemKind::Trait { .. } => matches!(role, Role::Bound | Role::Trait),
+fn may_be(item: &Node, role: &str) -> bool {
+    match item.kind {
+        "function" => role == CALLEE,
+        "trait" => matches!(role, "path.bound" | "path.trait"),
         // An argument of a type may be a constant, and a struct without fields is a value.
-        _ => matches!(role, Role::Type | Role::Value),
+        _ => !matches!(role, "path.bound" | "path.trait" | CALLEE),
     }
 }
 
 // Whether a member is used as its name says: a function is called, and a constant is a value.
-fn is_used(name: &str, role: Role) -> bool {
+fn is_used(name: &str, role: &str) -> bool {
     match role {
-        Role::Callee => !is_capital(name),
-        Role::Value => is_capital(name),
+        CALLEE => !is_capital(name),
+        "path.value" | "path.pattern" => is_capital(name),
         _ => false,
     }
 }

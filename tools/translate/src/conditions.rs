@@ -1,10 +1,11 @@
 //! The conditions of what users can reach. The proofs show that our own calls meet them. For a user's call, each
 //! becomes a test at the start of its function, or is refused.
 
+use crate::lexer::ghost_names;
 use crate::modules::{Module, Package};
 use crate::source::{Done, Span};
 use crate::std_names::has;
-use crate::tree::*;
+use crate::tree::Node;
 use std::collections::BTreeMap;
 
 /// The tests of a module, by the offset of the body that each goes into.
@@ -79,25 +80,21 @@ struct Finder<'a> {
 }
 
 impl Finder<'_> {
-    fn item(&mut self, item: &Item) -> Done<()> {
-        match &item.kind {
-            ItemKind::Function(function) if self.is_callable(item) => {
-                self.test("", item, function, function.body.as_ref())
-            }
+    fn item(&mut self, item: &Node) -> Done<()> {
+        let functions = || item.members().iter().filter(|member| member.kind == "function");
+        match item.kind {
+            "function" if self.is_callable(item) => self.test("", item, item.get("block")),
             // A test in a provided method would not be in those that replace it.
-            ItemKind::Trait { .. } => functions(item)
-                .try_for_each(|(method, it)| self.test(&item.name.text, method, it, None)),
-            ItemKind::Implementation { target, .. } if item.is_model() => self.model(item, target),
-            ItemKind::Implementation { of, target, .. } => {
-                functions(item).try_for_each(|(method, it)| {
-                    let is_private = of.is_none() && !method.is_public;
-                    let owner = if is_private { name_of(target) } else { "" };
-                    self.test(owner, method, it, it.body.as_ref())
-                })
-            }
-            ItemKind::Struct { fields, ghosts } if !is_sealed(fields) => {
+            "trait" => functions().try_for_each(|method| self.test(item.name(), method, None)),
+            "model" => self.model(item),
+            "implementation" => functions().try_for_each(|method| {
+                let is_private = item.of_trait().is_none() && !method.is_public();
+                let owner = if is_private { name_of(item) } else { "" };
+                self.test(owner, method, method.get("block"))
+            }),
+            "struct" if !is_sealed(item) => {
                 let reason = "a ghost item of a struct that users can write, or change";
-                ghosts.first().map_or(Ok(()), |ghost| self.refuse(*ghost, reason))
+                item.get("ghost").map_or(Ok(()), |ghost| self.refuse(ghost.span, reason))
             }
             _ => Ok(()),
         }
@@ -108,31 +105,26 @@ impl Finder<'_> {
     }
 
     // Whether users may call a function of the module. All public functions of the other crates are to be exported.
-    fn is_callable(&self, item: &Item) -> bool {
-        let is_exported = !has(INNER_CRATES, self.module.crate_name)
-            || self.exported.contains(&item.name.text.as_str());
-        item.is_public && is_exported
+    fn is_callable(&self, item: &Node) -> bool {
+        let is_exported =
+            !has(INNER_CRATES, self.module.crate_name) || self.exported.contains(&item.name());
+        item.is_public() && is_exported
     }
 
     // Puts what tests the conditions of a function into its body, if it has one. Its owner, a trait or a type of
     // the module, says which conditions need no test.
-    fn test(
-        &mut self,
-        owner: &str,
-        item: &Item,
-        function: &Function,
-        body: Option<&Expression>,
-    ) -> Done<()> {
-        let Module { crate_name, path, source, .. } = self.module;
-        let path = format!("{crate_name}::{}::{owner}::{}", path.join("::"), item.name.text);
-        for clause in function.clauses.iter().filter(|clause| clause.is_condition) {
-            let words: Vec<&str> = source.at(clause.text).split_whitespace().collect();
-            let text = words.join(" ");
+    fn test(&mut self, owner: &str, function: &Node, body: Option<&Node>) -> Done<()> {
+        let Module { crate_name, path, .. } = self.module;
+        let path = format!("{crate_name}::{}::{owner}::{}", path.join("::"), function.name());
+        for clause in function.all("condition") {
+            let text = &clause.last().text;
+            let words = text[1..text.len() - 1].split_whitespace();
+            let text = words.collect::<Vec<_>>().join(" ");
             if UNTESTED.contains(&(&path, &text)) {
                 continue;
             }
             let known = CONDITIONS.iter().find(|known| known.clause == text);
-            let known = known.filter(|known| self.is_about(known, item, function));
+            let known = known.filter(|known| self.is_about(known, function));
             let (Some(known), Some(body)) = (known, body) else {
                 return self.refuse(clause.span, "a condition that nothing tests in Rust");
             };
@@ -142,12 +134,11 @@ impl Finder<'_> {
     }
 
     // Whether a function has the parameters of a condition, and the names in it stand for their definitions.
-    fn is_about(&self, condition: &Condition, item: &Item, function: &Function) -> bool {
-        let text = |it: &Parameter| self.module.source.at(it.name.span.to(it.annotation.span));
-        let parameters: Vec<&str> = function.parameters.iter().map(text).collect();
-        let own = function.parameters.iter().map(|it| &it.name);
-        let own = own.chain(item.generics.iter().map(|it| &it.name)).map(|name| &*name.text);
-        let own: Vec<&str> = own.collect();
+    fn is_about(&self, condition: &Condition, function: &Node) -> bool {
+        let parameters = function.all("parameter").map(|it| self.module.source.at(it.span));
+        let parameters: Vec<&str> = parameters.map(|it| it.trim_start_matches("mut ")).collect();
+        let generics = function.get("generics").into_iter().flat_map(|it| &it.parts);
+        let own: Vec<&str> = function.all("parameter").chain(generics).map(Node::name).collect();
         let is_meant = |name: &str, from| !own.contains(&name) && self.imports(name, from);
         condition.parameters.iter().all(|parameter| parameters.contains(parameter))
             && condition.names.iter().all(|(name, from)| is_meant(name, from))
@@ -157,49 +148,39 @@ impl Finder<'_> {
     fn imports(&self, name: &str, from: &str) -> bool {
         let items = self.module.items.iter();
         let items = items.flat_map(|item| std::iter::once(item).chain(item.members()));
-        let mut modules = items.filter_map(|item| match &item.kind {
-            ItemKind::GhostUse { module, names } => {
-                names.iter().any(|it| it.trim_matches('◌') == name).then_some(module)
-            }
-            _ => None,
+        let mut modules = items.filter(|item| item.kind == "ghost_use").filter_map(|item| {
+            let (module, names) = ghost_names(&item.parts[0].text)?;
+            names.iter().any(|it| it.trim_matches('◌') == name).then_some(module)
         });
         modules.next().is_some_and(|first| first == from) && modules.all(|it| it == from)
     }
 
-    // Refuses an `impl` of `Model` with other items than ghost items, and an invariant of what users can write,
-    // or change.
-    fn model(&self, item: &Item, target: &Type) -> Done<()> {
-        let is_target = |item: &&Item| item.name.text == name_of(target);
-        let found = self.module.items.iter().find(is_target);
-        let is_sealed = found.is_some_and(
-            |found| matches!(&found.kind, ItemKind::Struct { fields, .. } if is_sealed(fields)),
-        );
-        for member in item.members() {
-            match &member.kind {
-                ItemKind::Ghost if member.name.text == "invariant" && !is_sealed => {
-                    let target = self.module.source.at(target.span);
-                    let reason =
-                        format!("an invariant of `{target}`, whose fields are not all private");
-                    return self.refuse(member.span, reason);
-                }
-                ItemKind::Ghost | ItemKind::GhostUse { .. } => {}
-                _ => return self.refuse(member.span, "an item of `Model` that is not ghost"),
+    // Refuses an invariant of what users can write, or change.
+    fn model(&self, item: &Node) -> Done<()> {
+        let Module { source, items, .. } = self.module;
+        let found = items.iter().find(|found| found.name() == name_of(item));
+        let mut ghosts = item.members().iter().filter(|member| member.kind == "ghost");
+        let invariant = ghosts.find(|ghost| ghost.parts[0].text == "invariant");
+        match invariant.filter(|_| !found.is_some_and(is_sealed)) {
+            Some(invariant) => {
+                let target = source.at(item.target().span);
+                let reason =
+                    format!("an invariant of `{target}`, whose fields are not all private");
+                self.refuse(invariant.span, reason)
             }
+            None => Ok(()),
         }
-        Ok(())
     }
 }
 
-// The name of a type, or of the module that it is in.
-fn name_of(target: &Type) -> &str {
-    if let Kind::Path(path) = &target.kind { &path.segments[0].name.text } else { "" }
-}
-
-fn functions(item: &Item) -> impl Iterator<Item = (&Item, &Function)> {
-    item.members().iter().filter_map(|member| Some((member, member.function()?)))
+// The name of the type that an `impl` is for, or of the module that it is in.
+fn name_of(implementation: &Node) -> &str {
+    let target = implementation.target();
+    if target.kind == "path" { target.parts[0].name() } else { "" }
 }
 
 // Whether users can neither write nor change a struct, since its fields are private.
-fn is_sealed(fields: &[Field]) -> bool {
-    !fields.is_empty() && fields.iter().all(|field| !field.is_public)
+fn is_sealed(item: &Node) -> bool {
+    let mut fields = item.all("field");
+    item.kind == "struct" && item.has("field") && !fields.any(Node::is_public)
 }

@@ -2,7 +2,7 @@
 //! `src/default_engine.rt`. Here another file stands in its place, which names those that are tuned for
 //! compilers. The clauses are the same, and `.ci/kit` proves the crates with these files, too.
 
-use crate::tree::{Item, ItemKind};
+use crate::tree::Node;
 use std::path::{Path, PathBuf};
 
 /// The folder of the files that stand in place of `default_engine.rt`, one for each crate that has it. They end in
@@ -33,22 +33,22 @@ pub fn is_left_out(crate_name: &str, module: &[String]) -> bool {
 
 /// Says whether the package leaves out an item of the root of a crate: it declares a module that is left out,
 /// or imports from one.
-pub fn leaves_out_item(crate_name: &str, item: &Item) -> bool {
+pub fn leaves_out_item(crate_name: &str, item: &Node) -> bool {
     crate_name == "atoi_lanes" && is_of_modules(item, &LEFT_OUT)
 }
 
 /// Says whether the package has an item of the root of a crate only with the feature `lanes`.
-pub fn needs_lanes(crate_name: &str, item: &Item) -> bool {
+pub fn needs_lanes(crate_name: &str, item: &Node) -> bool {
     crate_name == "atoi_fast" && is_of_modules(item, &[WITH_LANES])
 }
 
 // Whether an item declares one of these modules of its crate, or imports from them alone.
-fn is_of_modules(item: &Item, modules: &[&str]) -> bool {
-    match &item.kind {
-        ItemKind::Module => modules.contains(&item.name.text.as_str()),
-        ItemKind::Use(imports) => imports.iter().all(|import| {
-            matches!(import.names()[..], ["crate", module, ..] if modules.contains(&module))
-        }),
+fn is_of_modules(item: &Node, modules: &[&str]) -> bool {
+    let is_import =
+        |names: &[&str]| matches!(names, ["crate", module, ..] if modules.contains(module));
+    match item.kind {
+        "declaration" => modules.contains(&item.name()),
+        "use" => item.imports().iter().all(|import| is_import(&import.names())),
         _ => false,
     }
 }

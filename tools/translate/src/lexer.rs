@@ -7,7 +7,7 @@ pub enum TokenKind {
     /// A name or a keyword.
     Name,
     Lifetime,
-    /// A whole number. The parser refuses prefixes and suffixes that it does not know.
+    /// A whole number, without a suffix.
     Integer,
     Byte,
     /// A text, or the bytes of one, with its quotes.
@@ -134,6 +134,9 @@ impl<'a> Lexer<'a> {
             [b'\'', ..] if name_length(&rest[1..]) > 0 => {
                 self.push(TokenKind::Lifetime, 1 + name_length(&rest[1..]))
             }
+            [b'0'..=b'9', ..] if number(&rest[..name]).is_none() => {
+                return self.refuse(format!("`{}` is not known here", &rest[..name]));
+            }
             [b'0'..=b'9', ..] => self.push(TokenKind::Integer, name),
             _ if name > 0 => self.push(TokenKind::Name, name),
             _ => self.symbol()?,
@@ -154,12 +157,19 @@ impl<'a> Lexer<'a> {
     // Reads a text or byte whose first quote is at `from`.
     fn quoted(&mut self, kind: TokenKind, from: usize) -> Done<&'a str> {
         let rest = self.rest().as_bytes();
-        let mut bytes = rest.iter().enumerate().skip(from + 1);
-        while let Some((offset, byte)) = bytes.next() {
+        let mut inner = rest.iter().enumerate().skip(from + 1);
+        while let Some((offset, byte)) = inner.next() {
             match byte {
-                b'\\' => _ = bytes.next(),
+                b'\\' => _ = inner.next(),
                 b'\n' => break,
-                _ if *byte == rest[from] => return Ok(self.push(kind, offset + 1)),
+                _ if *byte == rest[from] => {
+                    let text = &self.rest()[..=offset];
+                    let is_right = |it: Vec<u8>| kind == TokenKind::Text || it.len() == 1;
+                    return match bytes(text).is_some_and(is_right) {
+                        true => Ok(self.push(kind, offset + 1)),
+                        false => self.refuse(format!("`{text}` is not known here")),
+                    };
+                }
                 _ => {}
             }
         }
@@ -195,6 +205,9 @@ impl<'a> Lexer<'a> {
         };
         if path.contains('"') || HIDING.iter().any(|sign| path.contains(sign)) {
             return self.refuse("a comment or a text in a `ghost use`");
+        }
+        if ghost_names(path).is_none() {
+            return self.refuse("a `ghost use` that is not `MODULE.{NAMES}`");
         }
         self.push(TokenKind::GhostPath, path.len());
         Ok(())
@@ -236,4 +249,29 @@ fn line_length(rest: &str) -> usize {
 fn name_length(rest: &str) -> usize {
     let is_part = |character: char| character.is_ascii_alphanumeric() || character == '_';
     rest.find(|character| !is_part(character)).unwrap_or(rest.len())
+}
+
+/// Returns the module and the names of a `ghost use`. A path without braces and `as` are not known, as each name must be
+/// seen.
+pub fn ghost_names(path: &str) -> Option<(&str, Vec<&str>)> {
+    let (module, names) = path.trim().strip_suffix('}')?.split_once(".{")?;
+    let names: Vec<&str> = names.split(',').map(str::trim).collect();
+    let is_name = |name: &str| !name.is_empty() && !name.contains([' ', '\n', '{', '}']);
+    (is_name(module) && names.iter().all(|name| is_name(name))).then_some((module, names))
+}
+
+/// Returns the value of a whole number. Suffixes are not known.
+pub fn number(text: &str) -> Option<u128> {
+    let digits = text.replace('_', "");
+    match digits.strip_prefix("0x") {
+        Some(digits) => u128::from_str_radix(digits, 16).ok(),
+        None => digits.parse().ok(),
+    }
+}
+
+/// Returns the bytes of a text or a byte between quotes, if its escapes are known.
+pub fn bytes(quoted: &str) -> Option<Vec<u8>> {
+    let quoted = quoted.trim_start_matches('b');
+    let text = quoted[1..quoted.len() - 1].replace("\\n", "\n").replace("\\r", "\r");
+    (!text.contains('\\')).then(|| text.into_bytes())
 }

@@ -1,16 +1,19 @@
 //! Reads the proved sources by their grammar, and makes the Rust of the Cargo package, `rust/src/proved`, of them.
 //!
-//! The stages are those of a compiler: `lexer` makes tokens of a source, `parser` makes a tree of these, `modules`
-//! collects the trees of the package, `resolve` says what their names stand for, `checks` and `conditions` refuse
-//! what would lose its meaning, and `rust` prints. `facade` reads what the package exports. `c` prints the library for C.
+//! The stages are those of a compiler: `lexer` makes tokens of a source, `parser` makes a tree of these by the rules of
+//! `grammar`, `modules` collects the trees of the package, `resolve` says what their names stand for, `checks` and
+//! `conditions` refuse what would lose its meaning, and `rust` prints. `facade` reads what the package exports. `c`
+//! prints the library for C.
 
 pub mod c;
 pub mod checks;
 pub mod conditions;
 pub mod engines;
 pub mod facade;
+pub mod grammar;
 pub mod lexer;
 pub mod modules;
+pub mod notation;
 pub mod parser;
 pub mod resolve;
 pub mod rust;
@@ -47,7 +50,7 @@ pub fn translate(facade: &Source, package: &Package) -> Done<BTreeMap<PathBuf, S
     let scopes = Scopes::new(package)?;
     checks::check(package, &scopes)?;
     facade::check(facade, &exports, &scopes)?;
-    let exported: Vec<&str> = exports.iter().map(|export| export.name.text.as_str()).collect();
+    let exported: Vec<&str> = exports.iter().map(|export| export.name.as_str()).collect();
     let tests = conditions::tests(package, &exported)?;
     let modules = package.modules.iter().zip(&tests);
     modules.map(|(module, tests)| Ok((module.rust_file(), rust::print(module, tests)?))).collect()

@@ -1,7 +1,7 @@
 //! The modules of the package: which files they are in, and their trees.
 
 use crate::source::{Done, Fault, Source};
-use crate::tree::Item;
+use crate::tree::Node;
 use crate::{PROVED, engines, parser};
 use std::collections::BTreeMap;
 use std::fs;
@@ -21,9 +21,9 @@ pub struct Module {
     pub crate_name: &'static str,
     pub path: Vec<String>,
     pub source: Source,
-    pub items: Vec<Item>,
+    pub items: Vec<Node>,
     /// The items that the package leaves out. They are not in `items`.
-    pub left_out: Vec<Item>,
+    pub left_out: Vec<Node>,
 }
 
 impl Package {
@@ -70,8 +70,9 @@ impl Module {
     /// Reads the tree of a source as the package has it.
     pub fn new(crate_name: &'static str, path: Vec<String>, source: Source) -> Done<Module> {
         let is_left_out =
-            |item: &Item| path.is_empty() && engines::leaves_out_item(crate_name, item);
-        let (left_out, items) = parser::parse(&source)?.into_iter().partition(is_left_out);
+            |item: &Node| path.is_empty() && engines::leaves_out_item(crate_name, item);
+        let (left_out, items) =
+            parser::parse(&source, "module")?.into_iter().partition(is_left_out);
         Ok(Module { crate_name, path, source, items, left_out })
     }
 }

@@ -4,7 +4,7 @@
 use crate::modules::{CRATES, Module, Package};
 use crate::source::{Done, Fault, Span};
 use crate::std_names;
-use crate::tree::{Import, Item, ItemKind};
+use crate::tree::{Import, Node};
 use std::collections::BTreeMap;
 
 /// What a name stands for. Modules and items are numbered as in the package and in the tree of their module.
@@ -42,27 +42,23 @@ impl<'a> Scopes<'a> {
         for (number, module) in package.modules.iter().enumerate() {
             scopes.check_declaration(number, module)?;
             for item in &module.items {
-                if let ItemKind::Use(imports) = &item.kind {
-                    imports.iter().try_for_each(|import| scopes.import(number, import))?;
-                }
+                item.imports().iter().try_for_each(|import| scopes.import(number, import))?;
             }
         }
         Ok(scopes)
     }
 
     fn declare_items(&mut self, number: usize, module: &Module) -> Done<()> {
-        for (item, Item { name, kind, .. }) in module.items.iter().enumerate() {
-            let below = || [&*module.path, std::slice::from_ref(&name.text)].concat();
-            let definition = match kind {
-                ItemKind::Use(_) | ItemKind::Implementation { .. } => None,
-                ItemKind::Ghost | ItemKind::GhostUse { .. } => None,
-                ItemKind::Module => match self.package.find(module.crate_name, &below()) {
-                    None => return Err(module.source.fault(name.span, "a module without a file")),
-                    Some(number) => Some(Definition::Module(number)),
-                },
-                _ => Some(Definition::Item { module: number, item }),
-            };
-            definition.map_or(Ok(()), |it| self.declare(number, &name.text, name.span, it))?;
+        for (item, node) in module.items.iter().enumerate() {
+            let Some(name) = node.get("name") else { continue };
+            let mut definition = Definition::Item { module: number, item };
+            if node.kind == "declaration" {
+                let below = [&*module.path, std::slice::from_ref(&name.text)].concat();
+                let found = self.package.find(module.crate_name, &below);
+                let missing = || module.source.fault(name.span, "a module without a file");
+                definition = Definition::Module(found.ok_or_else(missing)?);
+            }
+            self.declare(number, &name.text, name.span, definition)?;
         }
         Ok(())
     }
@@ -95,13 +91,12 @@ impl<'a> Scopes<'a> {
             let all = std_names::names_of(&above.join("::")).iter();
             all.map(|name| (*name, foreign(&[above, &[name]].concat()))).collect()
         } else {
-            let name = &import.alias.as_ref().unwrap_or(last).text;
+            let name = &import.renamed.unwrap_or(last).text;
             self.imported(module, &names).map(|it| (name.as_str(), it)).into_iter().collect()
         };
         if found.is_empty() {
-            let span = import.path[0].span.to(last.span);
             let reason = format!("`{path}` is not known here");
-            return Err(self.module(module).source.fault(span, reason));
+            return Err(self.module(module).source.fault(import.span(), reason));
         }
         found.into_iter().try_for_each(|(name, it)| self.declare(module, name, last.span, it))
     }
@@ -143,7 +138,7 @@ impl<'a> Scopes<'a> {
     }
 
     /// Returns the item that a definition is.
-    pub fn item(&self, definition: &Definition) -> Option<&'a Item> {
+    pub fn item(&self, definition: &Definition) -> Option<&'a Node> {
         match definition {
             Definition::Item { module, item } => Some(&self.module(*module).items[*item]),
             _ => None,
@@ -167,10 +162,8 @@ impl<'a> Scopes<'a> {
 
     // Returns a variant, if the item is an `enum` that has it.
     fn variant(&self, module: usize, item: usize, name: &str) -> Option<Definition> {
-        let ItemKind::Enum(variants) = &self.module(module).items[item].kind else {
-            return None;
-        };
-        let variant = variants.iter().position(|it| it.name.text == name)?;
+        let mut variants = self.module(module).items[item].all("variant");
+        let variant = variants.position(|it| it.name() == name)?;
         Some(Definition::Variant { module, item, variant })
     }
 }

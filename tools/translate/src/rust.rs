@@ -5,9 +5,8 @@
 use crate::conditions::Tests;
 use crate::engines;
 use crate::modules::{CRATES, Module};
-use crate::parser::{TACTIC, WRITER};
 use crate::source::{Done, Fault, Span};
-use crate::tree::*;
+use crate::tree::{Import, Node};
 
 /// Returns the text of the file that a module becomes.
 pub fn print(module: &Module, tests: &Tests) -> Done<String> {
@@ -34,7 +33,7 @@ impl Printer<'_> {
             if path.is_empty() && engines::needs_lanes(crate_name, item) {
                 self.insert(item.span.start, "#[cfg(feature = \"lanes\")] ");
             }
-            self.item(item);
+            self.node(item);
         }
     }
 
@@ -80,11 +79,11 @@ impl Printer<'_> {
         self.edits.push((span, comment));
     }
 
-    fn attribute(&mut self, attribute: &Attribute, item: &Item) {
-        match attribute.text {
-            TACTIC => self.comment(attribute.span),
-            "derive" => self.derive(attribute.span, &attribute.derived),
-            "inline(always)" if is_compiled_once(item) => {
+    fn attribute(&mut self, attribute: &Node, item: &Node) {
+        match attribute.kind {
+            "tactic" => self.comment(attribute.span),
+            "derive" => self.derive(attribute),
+            "always" if is_compiled_once(item) => {
                 let text = "#[cfg_attr(not(debug_assertions), inline(always))]";
                 self.replace(attribute.span, text);
             }
@@ -93,20 +92,22 @@ impl Printer<'_> {
     }
 
     // Leaves `Drop` out, which Rust does not derive.
-    fn derive(&mut self, span: Span, names: &[String]) {
-        let kept: Vec<&str> = names.iter().map(String::as_str).filter(|it| *it != "Drop").collect();
+    fn derive(&mut self, derive: &Node) {
+        let names = derive.parts.iter().map(|it| it.text.as_str());
+        let kept: Vec<&str> = names.filter(|it| *it != "Drop").collect();
         match kept.is_empty() {
-            true => self.comment(span),
-            false => self.replace(span, &format!("#[derive({})]", kept.join(", "))),
+            true => self.comment(derive.span),
+            false => self.replace(derive.span, &format!("#[derive({})]", kept.join(", "))),
         }
     }
 
-    fn imports(&mut self, imports: &[Import]) {
+    fn imports(&mut self, item: &Node) {
+        let imports = item.imports();
         let Some(first) = imports.first() else { return };
         match first.names()[..] {
             ["std", "simd", ..] => self.replace(first.path[0].span, "crate"),
             ["std", ..] => self.replace(first.path[0].span, "core"),
-            _ => self.head(&first.path[0]),
+            _ => self.head(first.path[0]),
         }
         for name in imports.iter().map(Import::last).filter(|name| name.text == "Model") {
             if !self.module.source.text[name.span.end..].starts_with(',') {
@@ -117,7 +118,7 @@ impl Printer<'_> {
     }
 
     // Replaces the first name of a path by its path in the package.
-    fn head(&mut self, name: &Name) {
+    fn head(&mut self, name: &Node) {
         let is_own = name.text == "crate";
         let owner = if is_own { self.module.crate_name } else { &name.text };
         if is_own || CRATES.contains(&owner) {
@@ -125,63 +126,56 @@ impl Printer<'_> {
         }
     }
 
-    fn function(&mut self, item: &Item, function: &Function) {
-        function.clauses.iter().for_each(|clause| self.comment(clause.span));
+    fn function(&mut self, function: &Node) {
         // In Rattle, a formatter has its writer as a type parameter.
-        if item.name.text == "fmt" {
-            let start = item.name.span.end;
-            self.replace(Span { start, end: start + WRITER.len() }, "");
-        }
-        let Some(body) = &function.body else { return };
+        function.all("writer").for_each(|writer| self.replace(writer.span, ""));
+        let Some(body) = function.get("block") else { return };
         // rustc compiles crates apart, and inlines only what has a hint across them.
-        if !["inline", "inline(always)", "inline(never)"].iter().any(|hint| item.has(hint)) {
-            self.insert(item.span.start, "#[inline] ");
+        if !["inline", "always", "never"].iter().any(|hint| function.has_attribute(hint)) {
+            self.insert(function.span.start, "#[inline] ");
         }
         if let Some(test) = self.tests.get(&body.span.start) {
             self.insert(body.span.start + 1, test);
         }
     }
 
-    fn item(&mut self, item: &Item) {
-        if item.is_model() {
-            return self.comment(item.span);
-        }
-        for mention in &item.mentions {
-            if let Mention::Path(path, _) = mention {
-                self.path(path);
+    // Prints an item or something in it.
+    fn node(&mut self, node: &Node) {
+        match node.kind {
+            "ghost" | "ghost_use" | "model" | "hint" | "condition" | "promise" => {
+                return self.comment(node.span);
             }
-        }
-        item.members().iter().for_each(|member| self.item(member));
-        item.notes.attributes.iter().for_each(|attribute| self.attribute(attribute, item));
-        match &item.kind {
-            ItemKind::Ghost | ItemKind::GhostUse { .. } => self.comment(item.span),
-            ItemKind::Use(imports) => self.imports(imports),
-            ItemKind::Function(function) => self.function(item, function),
-            ItemKind::Struct { ghosts, .. } => {
-                ghosts.iter().for_each(|ghost| self.comment(*ghost));
-            }
+            "notes" => return,
+            "use" => return self.imports(node),
+            "function" => self.function(node),
+            "path" => self.path(node),
             _ => {}
+        }
+        node.parts.iter().for_each(|part| self.node(part));
+        if let Some(notes) = node.get("notes") {
+            notes.parts.iter().for_each(|attribute| self.attribute(attribute, node));
         }
     }
 
     // In Rattle, a formatter has its writer as a type parameter.
-    fn path(&mut self, path: &[Name]) {
-        let (start, formatter) = (path[0].span.start, "fmt::Formatter<W>");
-        let is_formatter = path[path.len() - 1].text == "Formatter";
-        if is_formatter && self.module.source.text[start..].starts_with(formatter) {
-            self.replace(Span { start, end: start + formatter.len() }, "fmt::Formatter<'_>");
+    fn path(&mut self, path: &Node) {
+        let formatter = "fmt::Formatter<W>";
+        let first = &path.parts[0];
+        let is_formatter = path.last().name() == "Formatter";
+        if is_formatter && self.module.source.at(path.span) == formatter {
+            self.replace(path.span, "fmt::Formatter<'_>");
         } else if is_formatter {
-            self.refuse(path[0].span, "`Formatter` is known only as `fmt::Formatter<W>`");
-        } else if path.len() > 1 {
-            self.head(&path[0]);
+            self.refuse(path.span, "`Formatter` is known only as `fmt::Formatter<W>`");
+        } else if path.parts.len() > 1 {
+            self.head(&first.parts[0]);
         }
     }
 }
 
 // Whether an item is a method of the ten functions. Without a hint, rustc compiles it in this package, which is
 // optimized where programs ask for that, and not in a program's debug build.
-fn is_compiled_once(item: &Item) -> bool {
-    item.name.text.starts_with("atoi_simd_parse")
+fn is_compiled_once(item: &Node) -> bool {
+    item.name().starts_with("atoi_simd_parse")
 }
 
 // Makes a comment of each line. All but the first are indented.

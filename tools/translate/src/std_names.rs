@@ -16,16 +16,13 @@ const PATHS: &str = "std::cmp::Ordering std::error::Error std::fmt std::fmt::Dis
     std::num::IntErrorKind::InvalidDigit std::num::IntErrorKind::NegOverflow \
     std::num::IntErrorKind::PosOverflow std::str::from_utf8";
 
-/// The traits that Rust derives as Rattle does. `Drop` is left out.
-pub const DERIVED: &str = "Clone Copy Debug Drop Eq Ord PartialEq PartialOrd";
-
 /// The traits that may bound a type. Of others, such as `Eq` and `Ord`, Rattle proves laws of each type that has
 /// them, and a user's type need not keep these.
 pub const BOUNDS: &str = "Clone Copy";
 
 /// The traits that our types may have besides those that are derived.
 pub const IMPLEMENTED: &str =
-    "Iterator std::error::Error std::fmt::Display std::iter::FusedIterator std::marker::Model";
+    "Iterator std::error::Error std::fmt::Display std::iter::FusedIterator";
 
 /// Functions and constants of types. `from` is between integers.
 pub const ASSOCIATED: &str = "MIN MAX from from_le_bytes from_array from_slice splat";
@@ -61,4 +58,9 @@ pub fn names_of(path: &str) -> &'static [&'static str] {
 /// Says whether a name is in a list.
 pub fn has(list: &str, name: &str) -> bool {
     list.split_whitespace().any(|listed| listed == name)
+}
+
+/// Says whether a name is written as those of types, variants and constants are.
+pub fn is_capital(name: &str) -> bool {
+    name.starts_with(|first: char| first.is_ascii_uppercase())
 }

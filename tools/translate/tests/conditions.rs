@@ -3,16 +3,17 @@
 use crate::common::repository;
 use torkettle_translate::modules::Module;
 use torkettle_translate::source::Source;
-use torkettle_translate::tree::Item;
+use torkettle_translate::tree::Node;
 use torkettle_translate::{conditions, facade};
 
 // The functions of a module: where a condition of each can stand, and whether users can call it.
 fn functions(module: &Module, exported: &[&str]) -> Vec<(usize, bool)> {
     let is_inner = ["atoi_core", "atoi_fast", "atoi_lanes"].contains(&module.crate_name);
-    let found = |item: &Item, is_free: bool| {
-        let end = item.function()?.body.as_ref().map_or(item.span.end - 1, |body| body.span.start);
-        let is_exported = !is_inner || exported.contains(&item.name.text.as_str());
-        Some((end, !is_free || item.is_public && is_exported))
+    let found = |item: &Node, is_free: bool| {
+        let end = item.get("block").map_or(item.span.end - 1, |body| body.span.start);
+        let is_exported = !is_inner || exported.contains(&item.name());
+        let is_callable = !is_free || item.is_public() && is_exported;
+        (item.kind == "function").then_some((end, is_callable))
     };
     let items = module.items.iter();
     let all = items.flat_map(|item| {
@@ -28,7 +29,7 @@ fn functions(module: &Module, exported: &[&str]) -> Vec<(usize, bool)> {
 fn each_planted_condition_is_refused_where_users_call() {
     let (facade, mut package) = repository();
     let exports = facade::exports(&facade).unwrap();
-    let exported: Vec<&str> = exports.iter().map(|export| export.name.text.as_str()).collect();
+    let exported: Vec<&str> = exports.iter().map(|export| export.name.as_str()).collect();
     let (mut refused, mut taken) = (0, 0);
     for number in 0..package.modules.len() {
         let Module { crate_name, path, source, .. } = &package.modules[number];

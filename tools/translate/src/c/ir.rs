@@ -83,7 +83,7 @@ pub struct Local {
 
 #[derive(Clone, Debug)]
 pub enum Statement {
-    Comment(Vec<Span>),
+    Comment(Vec<String>),
     Declare { local: usize, value: Option<Term> },
     Assign { place: Term, value: Term },
     If { condition: Term, then: Vec<Statement>, otherwise: Vec<Statement> },

@@ -8,7 +8,6 @@ use super::terms;
 use super::text::{self, comment, wrapped};
 use super::types::{declared, short};
 use super::world::World;
-use crate::tree::ItemKind;
 use std::collections::{BTreeMap, BTreeSet};
 
 /// All that is printed.
@@ -177,8 +176,8 @@ impl<'a> Printer<'a> {
     fn statement(&mut self, statement: &Statement) -> Done<()> {
         match statement {
             Statement::Comment(lines) => {
-                let source = self.world.source(self.id);
-                self.lines += &comment(source, lines, &"    ".repeat(self.scopes.len() - 1));
+                let lines = lines.iter().map(String::as_str).collect();
+                self.lines += &comment(lines, &"    ".repeat(self.scopes.len() - 1));
             }
             Statement::Declare { local, value } => self.declare(*local, value.as_ref())?,
             Statement::Assign { place, value } => self.assign(place, value)?,
@@ -253,11 +252,13 @@ impl<'a> Printer<'a> {
     }
 }
 
-/// Returns the comment before an item.
+/// Returns the comment before an item: what documents it, or else what stands before it.
 pub fn explained(world: &World, id: Id) -> String {
-    let notes = &world.item(id).notes;
-    let lines = if notes.docs.is_empty() { &notes.comments } else { &notes.docs };
-    comment(world.source(id), lines, "")
+    let Some(notes) = world.item(id).get("notes") else { return String::new() };
+    let docs: Vec<&str> = notes.all("doc").map(|it| it.text.as_str()).collect();
+    let comments = notes.all("comments").flat_map(|it| &it.parts);
+    let comments = comments.map(|it| it.text.as_str()).collect();
+    comment(if docs.is_empty() { comments } else { docs }, "")
 }
 
 /// Returns what a compiler has to do with a function, as its attributes say it. What calls itself cannot be inlined.
@@ -266,9 +267,9 @@ pub fn qualifier(world: &World, function: &Function) -> &'static str {
     if super::is_called(world, &function.key) || called(function).contains(&function.key) {
         return "TK_NOINLINE";
     }
-    let qualifiers =
-        [("cold", "TK_COLD"), ("inline(never)", "TK_NOINLINE"), ("inline(always)", "TK_INLINE")];
-    let found = qualifiers.into_iter().find(|(attribute, _)| world.item(id).has(attribute));
+    let qualifiers = [("cold", "TK_COLD"), ("never", "TK_NOINLINE"), ("always", "TK_INLINE")];
+    let item = world.item(id);
+    let found = qualifiers.into_iter().find(|(attribute, _)| item.has_attribute(attribute));
     found.map_or("TK_HINTED", |(_, qualifier)| qualifier)
 }
 
@@ -306,7 +307,7 @@ fn chosen(world: &World, key: &Callee, is_zero: bool) -> String {
 
 fn plain_name(world: &World, key: &Callee) -> Done<String> {
     let mut name = text::snake(world.name(key.id));
-    if let ItemKind::Implementation { .. } = world.owner(key.id).kind {
+    if world.owner(key.id).kind == "implementation" {
         let place = world.place(key.id, &Bindings::new())?;
         let own = short(world, &place.bindings["Self"]);
         name = match place.bindings["Self"] {

@@ -227,7 +227,7 @@ fn made(printer: &mut Printer, variant: usize, texts: &[Text], of: &Type) -> Don
 }
 
 // Operators, their levels, the names of the functions that stand for them, and what is proved of their operands.
-const OPERATORS: [(&str, u8, &str, &str); 18] = [
+pub const OPERATORS: [(&str, u8, &str, &str); 18] = [
     ("||", OR, "", ""),
     ("&&", AND, "", ""),
     ("==", EQUALITY, "equal", ""),

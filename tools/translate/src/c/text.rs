@@ -1,7 +1,5 @@
 //! Names, comments and long lines of C.
 
-use crate::source::{Source, Span};
-
 // What is a keyword or a macro in C or C++.
 const RESERVED: &str = "alignas alignof and asm auto bool break case catch char class const constexpr continue default \
     delete do double else enum explicit export extern false final float for friend goto if inline int long mutable \
@@ -63,8 +61,8 @@ pub fn snake(name: &str) -> String {
 }
 
 /// Returns a comment of C with the first paragraph of one of the source.
-pub fn comment(source: &Source, lines: &[Span], indent: &str) -> String {
-    let lines = lines.iter().map(|it| source.at(*it).trim_start_matches('/').trim());
+pub fn comment(lines: Vec<&str>, indent: &str) -> String {
+    let lines = lines.into_iter().map(|it| it.trim_start_matches('/').trim());
     let lines: Vec<String> = lines.take_while(|it| !it.is_empty()).map(ascii).collect();
     match lines.as_slice() {
         [] => String::new(),

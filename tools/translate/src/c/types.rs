@@ -1,8 +1,8 @@
 //! The types of C: their names, and the structs that stand for tuples, `Option`, `Result`, structs and enums.
 
 use super::ir::{Done, Form, Integer, NONE, Type};
-use super::print::Printer;
-use super::text::{self, EQUALITY, Text, UNARY, comment};
+use super::print::{Printer, explained};
+use super::text::{self, EQUALITY, Text, UNARY};
 use super::world::{Variant, World};
 use crate::source::Fault;
 use std::path::Path;
@@ -88,7 +88,7 @@ impl Printer<'_> {
         let layout = self.layout(of)?;
         let (mut lines, mut before) = (String::new(), String::new());
         if let Type::Of(Form::Item(id), _) = of {
-            before = comment(self.world.source(*id), &self.world.item(*id).notes.docs, "");
+            before = explained(self.world, *id);
         }
         let all = 0..layout.variants.len();
         let tags: Vec<_> = all.clone().filter_map(|it| self.tag(of, &layout, it)).collect();

@@ -1,10 +1,11 @@
 //! What the sources declare: functions, constants, types and their members, by their numbers.
 
 use super::ir::{Bindings, Callee, Done, Form, Id, Integer, Type};
+use crate::lexer::number;
 use crate::modules::{Module, Package};
 use crate::resolve::{Definition, Resolved, Scopes};
 use crate::source::{Fault, Source, Span};
-use crate::tree::{self, Field, Item, ItemKind, Kind, Path, Segment};
+use crate::tree::Node;
 
 pub struct World<'a> {
     pub package: &'a Package,
@@ -39,12 +40,14 @@ impl<'a> World<'a> {
         let of_words = |(_, it): &(usize, &Module)| it.crate_name != "atoi_lanes";
         for (module, found) in package.modules.iter().enumerate().filter(of_words) {
             for (item, it) in found.items.iter().enumerate() {
-                let ItemKind::Implementation { of, .. } = &it.kind else { continue };
+                if it.kind != "implementation" {
+                    continue;
+                }
                 let id = Id { module, item, member: None };
                 // What C has no type for has no functions in C.
                 let Ok(mut place) = world.place(id, &Bindings::new()) else { continue };
                 let Some(target) = place.bindings.remove("Self") else { continue };
-                let of_trait = of.as_ref().and_then(|path| world.trait_of(module, path));
+                let of_trait = it.of_trait().and_then(|path| world.trait_of(module, path));
                 world.implementations.push(Implementation { id, target, of_trait });
             }
         }
@@ -60,26 +63,26 @@ impl<'a> World<'a> {
     }
 
     /// Returns the item that holds a member, or the item itself.
-    pub fn owner(&self, id: Id) -> &'a Item {
+    pub fn owner(&self, id: Id) -> &'a Node {
         &self.module(id).items[id.item]
     }
 
-    pub fn item(&self, id: Id) -> &'a Item {
+    pub fn item(&self, id: Id) -> &'a Node {
         let owner = self.owner(id);
         id.member.map_or(owner, |member| &owner.members()[member])
     }
 
     /// Returns the name of an item or a member.
     pub fn name(&self, id: Id) -> &'a str {
-        &self.item(id).name.text
+        self.item(id).name()
     }
 
     /// Finds what the start of a path stands for.
-    pub fn resolve(&self, module: usize, path: &Path) -> Option<Resolved> {
+    pub fn resolve(&self, module: usize, path: &Node) -> Option<Resolved> {
         self.scopes.resolve(module, &path.names())
     }
 
-    fn trait_of(&self, module: usize, path: &Path) -> Option<Id> {
+    fn trait_of(&self, module: usize, path: &Node) -> Option<Id> {
         item_of(self.resolve(module, path)?.definition)
     }
 
@@ -87,57 +90,55 @@ impl<'a> World<'a> {
     pub fn place(&self, id: Id, known: &Bindings) -> Done<Place> {
         let own = Id { member: None, ..id };
         let mut names = [self.parameters(own), self.parameters(id)].concat();
-        if let ItemKind::Trait { .. } = self.owner(id).kind {
+        if self.owner(id).kind == "trait" {
             names.push("Self".into());
         }
         let open = names.into_iter().map(|name| (name.clone(), Type::Parameter(name)));
         let mut place = Place { module: id.module, bindings: open.collect() };
         place.bindings.extend(known.clone());
-        if let ItemKind::Implementation { target, .. } = &self.owner(id).kind {
-            let target = self.type_in(&place, target)?;
+        if self.owner(id).kind == "implementation" {
+            let target = self.type_in(&place, self.owner(id).target())?;
             place.bindings.insert("Self".into(), target);
         }
         Ok(place)
     }
 
     /// Returns the type that is written at a place.
-    pub fn type_in(&self, place: &Place, tree: &tree::Type) -> Done<Type> {
+    pub fn type_in(&self, place: &Place, tree: &Node) -> Done<Type> {
         let part = |at: usize| self.type_in(place, &tree.parts[at]);
-        let source = &self.package.modules[place.module].source;
-        let unknown = || source.fault(tree.span, "C: this type has no rule");
-        match &tree.kind {
-            Kind::Path(path) => self.named_type(place, &path.segments),
-            Kind::Tuple => {
-                let parts = tree.parts.iter().map(|it| self.type_in(place, it));
+        match (tree.kind, tree.parts.as_slice()) {
+            ("path", segments) => self.named_type(place, segments),
+            ("tuple", parts) => {
+                let parts = parts.iter().map(|it| self.type_in(place, it));
                 Ok(Type::Of(Form::Tuple, parts.collect::<Done<_>>()?))
             }
-            Kind::Reference { is_mutable } => match &tree.parts[0] {
-                target if matches!(target.kind, Kind::List) => {
-                    Ok(Type::slice(self.type_in(place, &target.parts[0])?, *is_mutable))
-                }
-                _ if *is_mutable => Ok(Type::pointer(part(0)?)),
-                _ => part(0),
-            },
-            Kind::Array => match tree.parts[1].kind {
-                Kind::Integer(length) => Ok(Type::array(part(0)?, length)),
-                _ => Err(unknown()),
-            },
-            _ => Err(unknown()),
+            ("reference", [mutable @ .., Node { kind: "list", parts, .. }]) if parts.len() == 1 => {
+                Ok(Type::slice(self.type_in(place, &parts[0])?, !mutable.is_empty()))
+            }
+            ("reference", [_]) => part(0),
+            ("reference", [_, _]) => Ok(Type::pointer(part(1)?)),
+            ("list", [_, Node { kind: "integer", text, .. }]) => {
+                Ok(Type::array(part(0)?, number(text).unwrap_or_default()))
+            }
+            _ => {
+                let source = &self.package.modules[place.module].source;
+                Err(source.fault(tree.span, "C: this type has no rule"))
+            }
         }
     }
 
-    /// Returns the type that a path, or its start, names at a place.
-    pub fn named_type(&self, place: &Place, path: &[Segment]) -> Done<Type> {
+    /// Returns the type that the names of a path, or the first of them, stand for at a place.
+    pub fn named_type(&self, place: &Place, path: &[Node]) -> Done<Type> {
         let source = &self.package.modules[place.module].source;
         if let [only] = path {
-            if let Some(known) = place.bindings.get(&only.name.text) {
+            if let Some(known) = place.bindings.get(only.name()) {
                 return Ok(known.clone());
             }
         }
-        let unknown = || source.fault(path[0].name.span, "C: this type has no rule");
-        let names: Vec<&str> = path.iter().map(|segment| segment.name.text.as_str()).collect();
+        let unknown = || source.fault(path[0].span, "C: this type has no rule");
+        let names: Vec<&str> = path.iter().map(Node::name).collect();
         let found = self.scopes.resolve(place.module, &names).ok_or_else(unknown)?;
-        let arguments = path[path.len() - 1].arguments.iter();
+        let arguments = path[path.len() - 1].last().parts.iter();
         let arguments = arguments.map(|argument| self.type_in(place, argument));
         let arguments = arguments.collect::<Done<Vec<Type>>>()?;
         if let Definition::Foreign(name) = found.definition {
@@ -145,9 +146,9 @@ impl<'a> World<'a> {
         }
         let is_whole = found.used == path.len();
         let id = item_of(found.definition).filter(|_| is_whole).ok_or_else(unknown)?;
-        match &self.item(id).kind {
-            ItemKind::Struct { .. } | ItemKind::Enum(_) => Ok(Type::Of(Form::Item(id), arguments)),
-            ItemKind::Alias(target) => self.type_in(&self.place_of(id, &arguments)?, target),
+        match self.item(id).kind {
+            "struct" | "enum" => Ok(Type::Of(Form::Item(id), arguments)),
+            "alias" => self.type_in(&self.place_of(id, &arguments)?, self.item(id).last()),
             _ => Err(unknown()),
         }
     }
@@ -160,9 +161,7 @@ impl<'a> World<'a> {
 
     /// Returns the type parameters of an item.
     pub fn parameters(&self, id: Id) -> Vec<String> {
-        let generics = self.item(id).generics.iter();
-        let names = generics.filter(|it| it.constant.is_none());
-        names.map(|it| it.name.text.clone()).collect()
+        self.item(id).generics("generic.type").map(|it| it.name().to_string()).collect()
     }
 
     /// Returns the variants of a type. A struct or a tuple has one.
@@ -190,23 +189,28 @@ impl<'a> World<'a> {
             Form::Array { .. } | Form::Pointer => Vec::new(),
             Form::Item(id) => {
                 let place = self.place_of(id, parts)?;
-                match &self.item(id).kind {
-                    ItemKind::Struct { fields, .. } => vec![self.variant(&place, "new", fields)?],
-                    ItemKind::Enum(variants) => {
-                        let made =
-                            |it: &tree::Variant| self.variant(&place, &it.name.text, &it.fields);
-                        variants.iter().map(made).collect::<Done<_>>()?
+                let item = self.item(id);
+                match item.kind {
+                    "struct" => vec![self.variant(&place, "new", item)?],
+                    _ => {
+                        let made = |it: &Node| self.variant(&place, it.name(), it);
+                        item.all("variant").map(made).collect::<Done<_>>()?
                     }
-                    _ => Vec::new(),
                 }
             }
         })
     }
 
-    fn variant(&self, place: &Place, name: &str, fields: &[Field]) -> Done<Variant> {
-        let field = |it: &Field| Ok((it.name.text.clone(), self.type_in(place, &it.annotation)?));
-        let fields = fields.iter().map(field).collect::<Done<_>>()?;
-        Ok(Variant { name: name.into(), fields })
+    // Returns the fields of a struct or a variant. Without names, they are called `0`, `1` and so on.
+    fn variant(&self, place: &Place, name: &str, tree: &Node) -> Done<Variant> {
+        let is_field =
+            |it: &&Node| ["field", "path", "reference", "tuple", "list"].contains(&it.kind);
+        let field = |(number, it): (usize, &Node)| match it.kind {
+            "field" => Ok((it.name().to_string(), self.type_in(place, it.last())?)),
+            _ => Ok((number.to_string(), self.type_in(place, it)?)),
+        };
+        let fields = tree.parts.iter().filter(is_field).enumerate().map(field);
+        Ok(Variant { name: name.into(), fields: fields.collect::<Done<_>>()? })
     }
 
     /// Says whether values of a type have no bytes.
@@ -251,16 +255,13 @@ impl<'a> World<'a> {
             let bindings = Bindings::from([("Self".to_string(), of.clone())]);
             return Some(Callee { id, bindings });
         }
-        let ItemKind::Trait { bound, .. } = &self.item(id).kind else { return None };
-        self.provided(self.trait_of(id.module, bound.as_ref()?)?, of, name)
+        let bound = self.item(id).get("path")?;
+        self.provided(self.trait_of(id.module, bound)?, of, name)
     }
 
     // Finds a function or a constant among the members of an item.
     fn position(&self, id: Id, name: &str) -> Option<Id> {
-        let is_member = |it: &Item| {
-            let is_value = matches!(it.kind, ItemKind::Function(_) | ItemKind::Constant { .. });
-            it.name.text == name && is_value
-        };
+        let is_member = |it: &Node| it.name() == name && matches!(it.kind, "function" | "constant");
         let member = self.item(id).members().iter().position(is_member)?;
         Some(Id { member: Some(member), ..id })
     }

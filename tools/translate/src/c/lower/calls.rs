@@ -4,13 +4,13 @@ use super::{Done, Lowering, signature};
 use crate::c::ir::{Bindings, Callee, Kind, PLAIN, Term, Type};
 use crate::c::world::{integer, item_of};
 use crate::resolve::Definition;
-use crate::tree::{Expression, ItemKind, Node, Path};
+use crate::tree::Node;
 
 impl Lowering<'_, '_> {
     /// Evaluates a path: a variable, a constant or a variant without fields.
-    pub fn path(&mut self, path: &Path) -> Done<Term> {
-        if let [only] = path.segments.as_slice() {
-            let named = self.scopes.iter().rev().find_map(|scope| scope.get(&only.name.text));
+    pub fn path(&mut self, path: &Node) -> Done<Term> {
+        if let [only] = path.names()[..] {
+            let named = self.scopes.iter().rev().find_map(|scope| scope.get(only));
             if let Some(value) = named {
                 return Ok(value.clone());
             }
@@ -30,23 +30,22 @@ impl Lowering<'_, '_> {
             }
             found => found.and_then(item_of),
         };
-        match id.map(|id| (id, &self.world.item(id).kind)) {
-            Some((id, ItemKind::Constant { annotation, .. })) => {
-                let of =
-                    self.world.type_in(&self.world.place(id, &Bindings::new())?, annotation)?;
+        match id.filter(|id| self.world.item(*id).kind == "constant") {
+            Some(id) => {
+                let of = self.type_of_constant(&Callee { id, bindings: Bindings::new() })?;
                 Ok(self.make(Kind::Constant(id), Vec::new(), of))
             }
-            _ => self.refuse("this name has no rule"),
+            None => self.refuse("this name has no rule"),
         }
     }
 
     /// Returns a constant of a type. For a parameter that stands for itself, it is one that the function gets.
     pub fn constant_of(&mut self, owner: &Type, name: &str) -> Done<Term> {
         let of = owner.with(&self.open);
-        let found = self.world.member(&of, name).map(|it| (&self.world.item(it.id).kind, it));
-        let Some((ItemKind::Constant { annotation, .. }, Callee { id, bindings })) = found else {
-            return self.refuse("this name has no rule");
-        };
+        let found = self.world.member(&of, name);
+        let found = found.filter(|it| self.world.item(it.id).kind == "constant");
+        let Some(found) = found else { return self.refuse("this name has no rule") };
+        let id = found.id;
         let Type::Parameter(parameter) = owner else {
             return Ok(Term { span: self.at, ..super::constant(self.world, id)? });
         };
@@ -54,36 +53,43 @@ impl Lowering<'_, '_> {
         if let Some(local) = self.constants.get(&key) {
             return Ok(self.local(*local));
         }
-        let of = self.world.type_in(&self.world.place(id, &bindings)?, annotation)?;
+        let of = self.type_of_constant(&found)?;
         let prefix = if of == Type::Boolean { "is_" } else { "" };
         let local = self.variable(&format!("{prefix}{}", name.to_lowercase()), of, false);
         self.constants.insert(key, local);
         Ok(self.local(local))
     }
 
+    fn type_of_constant(&self, constant: &Callee) -> Done<Type> {
+        let place = self.world.place(constant.id, &constant.bindings)?;
+        let parts = self.world.item(constant.id).parts.iter();
+        let annotation = parts.rev().find(|it| it.kind != "value");
+        annotation.map_or(Ok(Type::UNIT), |it| self.world.type_in(&place, it))
+    }
+
     // Returns what all of a path stands for.
-    fn definition(&self, path: &Path) -> Option<Definition> {
+    fn definition(&self, path: &Node) -> Option<Definition> {
         let found = self.world.resolve(self.place.module, path)?;
-        (found.used == path.segments.len()).then_some(found.definition)
+        (found.used == path.parts.len()).then_some(found.definition)
     }
 
     // Returns the type before the last name of a path, if it begins with one.
-    fn owner<'p>(&mut self, path: &'p Path) -> Done<Option<(Type, &'p str)>> {
-        let Some((last, before @ [first, ..])) = path.segments.split_last() else {
+    fn owner<'p>(&mut self, path: &'p Node) -> Done<Option<(Type, &'p str)>> {
+        let Some((last, before @ [first, ..])) = path.parts.split_last() else {
             return Ok(None);
         };
-        let is_own = self.place.bindings.contains_key(&first.name.text);
+        let is_own = self.place.bindings.contains_key(first.name());
         let found = self.world.resolve(self.place.module, path);
         let is_type =
             found.is_some_and(|it| it.used == before.len() && item_of(it.definition).is_some());
         if !(is_own && before.len() == 1 || is_type) {
             return Ok(None);
         }
-        Ok(Some((self.named_type(before)?, &last.name.text)))
+        Ok(Some((self.named_type(before)?, last.name())))
     }
 
     /// Evaluates a call of what a path names.
-    pub fn call(&mut self, path: &Path, arguments: &[Expression]) -> Done<Term> {
+    pub fn call(&mut self, path: &Node, arguments: &[Node]) -> Done<Term> {
         if let Some((of, variant)) = self.variant(path) {
             let fields = self.fields_of(&of, variant)?;
             if fields.len() != arguments.len() {
@@ -114,7 +120,7 @@ impl Lowering<'_, '_> {
             }
         };
         let Some(callee) = found else { return self.refuse("this function has no rule") };
-        self.call_of(callee, &path.last().arguments, None, arguments)
+        self.call_of(callee, path.last().last(), None, arguments)
     }
 
     // Finds a member of a type, which matters then.
@@ -127,21 +133,22 @@ impl Lowering<'_, '_> {
 
     // Adds the generic types that a call writes to a function, and returns its constants. Types that the call leaves
     // out are found later.
-    fn choose(&mut self, callee: &mut Callee, arguments: &[Node]) -> Done<Vec<Term>> {
-        let mut given = arguments.iter();
+    fn choose(&mut self, callee: &mut Callee, arguments: &Node) -> Done<Vec<Term>> {
+        let mut given = arguments.parts.iter();
         let mut constants = Vec::new();
-        for parameter in &self.world.item(callee.id).generics {
+        let parameters = self.world.item(callee.id).get("generics").map(|it| &it.parts);
+        for parameter in parameters.into_iter().flatten() {
             let given = given.next();
-            let Some(of) = &parameter.constant else {
+            if parameter.rule == "generic.type" {
                 let of = given.map(|of| self.world.type_in(&self.place, of)).transpose()?;
                 let of = of.unwrap_or_else(|| self.fresh(false));
-                callee.bindings.insert(parameter.name.text.clone(), of);
+                callee.bindings.insert(parameter.name().into(), of);
                 continue;
-            };
+            }
             let Some(given) = given else {
                 return self.refuse("a generic constant that is not written");
             };
-            let of = self.world.type_in(&self.place, of)?;
+            let of = self.world.type_in(&self.place, parameter.last())?;
             constants.push(self.term(given, &of)?);
         }
         Ok(constants)
@@ -150,9 +157,9 @@ impl Lowering<'_, '_> {
     fn call_of(
         &mut self,
         mut callee: Callee,
-        generics: &[Node],
+        generics: &Node,
         receiver: Option<Term>,
-        arguments: &[Expression],
+        arguments: &[Node],
     ) -> Done<Term> {
         let constants = self.choose(&mut callee, generics)?;
         let (types, of) = signature(self.world, &callee)?;
@@ -179,8 +186,8 @@ impl Lowering<'_, '_> {
         &mut self,
         receiver: Term,
         name: &str,
-        generics: &[Node],
-        arguments: &[Expression],
+        generics: &Node,
+        arguments: &[Node],
     ) -> Done<Term> {
         let of = self.followed(receiver.clone()).of;
         match self.member(&of, name)? {
@@ -191,7 +198,7 @@ impl Lowering<'_, '_> {
 }
 
 // `u64::MAX` and so on.
-fn limit(path: &Path) -> Option<(u128, Type)> {
+fn limit(path: &Node) -> Option<(u128, Type)> {
     let [owner, name] = path.names()[..] else { return None };
     let of = integer(owner)?;
     let integer = of.integer()?;

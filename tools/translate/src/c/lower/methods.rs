@@ -2,12 +2,18 @@
 
 use super::{Done, Lowering};
 use crate::c::ir::{Form, Integer, Kind, OK, Statement, Term, Type};
-use crate::tree::{Expression, Kind as Tree, Node};
+use crate::lexer::number;
+use crate::tree::Node;
 
 impl Lowering<'_, '_> {
-    /// Evaluates a call of a method. The first part is its receiver.
-    pub fn method(&mut self, name: &str, generics: &[Node], parts: &[Expression]) -> Done<Term> {
-        let [receiver, arguments @ ..] = parts else { return self.refuse("no receiver") };
+    /// Evaluates a call of a method.
+    pub fn method(
+        &mut self,
+        name: &str,
+        receiver: &Node,
+        generics: &Node,
+        arguments: &[Node],
+    ) -> Done<Term> {
         if let ("count", []) = (name, arguments) {
             return self.count(receiver);
         }
@@ -87,7 +93,7 @@ impl Lowering<'_, '_> {
         self.maybe(test, value)
     }
 
-    fn of_slice(&mut self, name: &str, generics: &[Node], mut terms: Vec<Term>) -> Done<Term> {
+    fn of_slice(&mut self, name: &str, generics: &Node, mut terms: Vec<Term>) -> Done<Term> {
         let slice = terms.remove(0);
         match (name, terms.pop()) {
             ("len", None) => Ok(self.length(&slice)),
@@ -125,30 +131,24 @@ impl Lowering<'_, '_> {
     }
 
     // The first or last bytes of a slice, if it has so many.
-    fn chunk(&mut self, slice: Term, kind: Kind, generics: &[Node]) -> Done<Term> {
-        let [Node { kind: Tree::Integer(length), .. }] = generics else {
+    fn chunk(&mut self, slice: Term, kind: Kind, generics: &Node) -> Done<Term> {
+        let [Node { kind: "integer", text, .. }] = &generics.parts[..] else {
             return self.refuse("the number of bytes is not written");
         };
+        let length = number(text).unwrap_or_default();
         let slice = self.keep(slice, "all");
         let Type::Of(_, parts) = self.known(&slice.of) else {
             return self.refuse("this method has no rule");
         };
-        let count = self.number(*length, Type::SIZE);
+        let count = self.number(length, Type::SIZE);
         let test = self.test(">=", self.length(&slice), count.clone());
-        let bytes = self.make(kind, vec![slice, count], Type::array(parts[0].clone(), *length));
+        let bytes = self.make(kind, vec![slice, count], Type::array(parts[0].clone(), length));
         Ok(self.maybe(test, bytes))
     }
 
     // `SLICE.iter().filter(..).count()` or with `take_while`, as a loop.
-    fn count(&mut self, steps: &Expression) -> Done<Term> {
-        let (otherwise, [iter, closure]) = match method_of(steps) {
-            Some(("filter", [iter, closure])) => (Statement::Continue, [iter, closure]),
-            Some(("take_while", [iter, closure])) => (Statement::Break, [iter, closure]),
-            _ => return self.refuse("only `iter().filter(..)` and `take_while` are counted"),
-        };
-        let (Some(("iter", [slice])), Tree::Closure, [parameter, body]) =
-            (method_of(iter), &closure.kind, &closure.parts[..])
-        else {
+    fn count(&mut self, steps: &Node) -> Done<Term> {
+        let Some((otherwise, [slice, parameter, body])) = counted(steps) else {
             return self.refuse("only `iter().filter(..)` and `take_while` are counted");
         };
         let count = self.hold(self.size(0), "count", true);
@@ -165,8 +165,16 @@ impl Lowering<'_, '_> {
     }
 }
 
-// The name of the method that is called, its receiver and its arguments.
-fn method_of(expression: &Expression) -> Option<(&str, &[Expression])> {
-    let Tree::Method { name, .. } = &expression.kind else { return None };
-    Some((&name.text, &expression.parts))
+// What `SLICE.iter().filter(|PARAMETER| BODY)` does with other elements, and its parts. The same for `take_while`.
+fn counted(steps: &Node) -> Option<(Statement, [&Node; 3])> {
+    let [iter, step, _, closure] = &steps.parts[..] else { return None };
+    let [slice, name, _] = &iter.parts[..] else { return None };
+    let [parameter, body] = &closure.parts[..] else { return None };
+    let kinds = [steps.kind, iter.kind, closure.kind];
+    let otherwise = match (name.text.as_str(), step.text.as_str()) {
+        ("iter", "filter") => Statement::Continue,
+        ("iter", "take_while") => Statement::Break,
+        _ => return None,
+    };
+    (kinds == ["method", "method", "closure"]).then_some((otherwise, [slice, parameter, body]))
 }

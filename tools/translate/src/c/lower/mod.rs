@@ -11,7 +11,7 @@ use super::instances::{Attempt, Instances};
 use super::ir::{Bindings, Callee, Done, Id, Kind, Local, PLAIN, Statement, Term, Type};
 use super::world::{Place, World};
 use crate::source::{Source, Span};
-use crate::tree::{self, Expression, ItemKind};
+use crate::tree::Node;
 use std::collections::BTreeMap;
 
 struct Lowering<'w, 'i> {
@@ -63,11 +63,12 @@ pub fn function(instances: &mut Instances, key: &Callee, callee: &Callee) -> Don
 pub fn constant(world: &World, id: Id) -> Done<Term> {
     let mut instances = Instances::new(world);
     let mut lowering = Lowering::new(&mut instances, id, &Bindings::new())?;
-    let ItemKind::Constant { annotation, value: Some(value) } = &world.item(id).kind else {
+    let ("constant", [.., annotation, value]) = (world.item(id).kind, &world.item(id).parts[..])
+    else {
         return lowering.refuse("no constant with a value");
     };
     let of = world.type_in(&lowering.place, annotation)?;
-    let mut term = lowering.alone("a constant", |it| it.term(value, &of))?;
+    let mut term = lowering.alone("a constant", |it| it.term(value.last(), &of))?;
     term.each(&mut |it| lowering.settle(it))?;
     Ok(term)
 }
@@ -75,12 +76,17 @@ pub fn constant(world: &World, id: Id) -> Done<Term> {
 /// Returns the types of the parameters of a function, without constants, and its result.
 pub fn signature(world: &World, callee: &Callee) -> Done<(Vec<Type>, Type)> {
     let place = world.place(callee.id, &callee.bindings)?;
-    let Some(tree) = world.item(callee.id).function() else {
+    let tree = world.item(callee.id);
+    if tree.kind != "function" {
         return Err(world.fault_of(callee.id, "no function"));
-    };
-    let types = tree.parameters.iter().map(|it| world.type_in(&place, &it.annotation));
-    let types = types.collect::<Done<Vec<Type>>>()?;
-    let output = tree.output.as_ref().map(|it| world.type_in(&place, it)).transpose()?;
+    }
+    let receiver = tree.all("receiver").map(|it| match (it.has("shared"), it.has("mutable")) {
+        (true, true) => Ok(Type::pointer(place.bindings["Self"].clone())),
+        _ => Ok(place.bindings["Self"].clone()),
+    });
+    let others = tree.all("parameter").map(|it| world.type_in(&place, it.last()));
+    let types = receiver.chain(others).collect::<Done<Vec<Type>>>()?;
+    let output = tree.get("output").map(|it| world.type_in(&place, it.last())).transpose()?;
     Ok((types, output.unwrap_or(Type::UNIT)))
 }
 
@@ -107,8 +113,8 @@ impl<'w, 'i> Lowering<'w, 'i> {
 
     fn function(&mut self, key: &Callee) -> Done<super::ir::Function> {
         let world = self.world;
-        let Some(tree @ tree::Function { body: Some(body), .. }) = world.item(key.id).function()
-        else {
+        let tree = world.item(key.id);
+        let Some(body) = tree.get("block") else {
             return self.refuse("no function with a body");
         };
         let (types, result) = signature(world, key)?;
@@ -117,14 +123,13 @@ impl<'w, 'i> Lowering<'w, 'i> {
         }
         self.result = result;
         let mut parameters = Vec::new();
-        for generic in &world.item(key.id).generics {
-            if let Some(of) = &generic.constant {
-                let of = world.type_in(&self.place, of)?;
-                parameters.push(self.bind(&generic.name.text, of, false));
-            }
+        for generic in tree.generics("generic.constant") {
+            let of = world.type_in(&self.place, generic.last())?;
+            parameters.push(self.bind(generic.name(), of, false));
         }
-        for (parameter, of) in tree.parameters.iter().zip(types) {
-            parameters.push(self.bind(&parameter.name.text, of, parameter.is_mutable));
+        for (parameter, of) in tree.all("receiver").chain(tree.all("parameter")).zip(types) {
+            let is_mutable = parameter.has("mutable") && !parameter.has("shared");
+            parameters.push(self.bind(parameter.name(), of, is_mutable));
         }
         self.evaluate(body, Target::Return)?;
         self.finish(key, parameters)
@@ -249,12 +254,12 @@ impl<'w, 'i> Lowering<'w, 'i> {
     }
 
     // Evaluates an expression of any type.
-    fn any(&mut self, expression: &Expression) -> Done<Term> {
+    fn any(&mut self, expression: &Node) -> Done<Term> {
         self.evaluate(expression, Target::Value)
     }
 
     /// Evaluates an expression to a term of a type.
-    fn term(&mut self, expression: &Expression, of: &Type) -> Done<Term> {
+    fn term(&mut self, expression: &Node, of: &Type) -> Done<Term> {
         let term = self.any(expression)?;
         self.coerce(term, of)
     }
@@ -270,4 +275,10 @@ fn compared(operator: &str, left: u128, right: u128) -> Option<bool> {
         ">=" => left >= right,
         _ => return None,
     })
+}
+
+// The operator that a sign is.
+fn operator(sign: &Node) -> &'static str {
+    let all = crate::c::terms::OPERATORS.iter().map(|it| it.0);
+    all.into_iter().find(|it| *it == sign.text).unwrap_or_default()
 }

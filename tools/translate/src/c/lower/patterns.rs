@@ -4,7 +4,7 @@ use super::{Done, Lowering, Target};
 use crate::c::ir::{ERR, Form, Kind, NONE, OK, PLAIN, SOME, Term, Type};
 use crate::c::world::item_of;
 use crate::resolve::Definition;
-use crate::tree::{Expression, Kind as Tree, Path, Pattern};
+use crate::tree::Node;
 use std::cmp::Ordering;
 
 /// A name of a pattern, whether it may be changed, and the part that it stands for.
@@ -19,49 +19,43 @@ pub struct Fit {
 
 impl Lowering<'_, '_> {
     /// Returns when a value fits a pattern.
-    pub fn matched(&mut self, pattern: &Pattern, value: &Term) -> Done<Fit> {
+    pub fn matched(&mut self, pattern: &Node, value: &Term) -> Done<Fit> {
         let mut fit = Fit::default();
         self.fit(pattern, value, &mut fit)?;
         Ok(fit)
     }
 
-    fn fit(&mut self, pattern: &Pattern, value: &Term, fit: &mut Fit) -> Done<()> {
+    fn fit(&mut self, pattern: &Node, value: &Term, fit: &mut Fit) -> Done<()> {
         self.at = pattern.span;
         let parts = pattern.parts.as_slice();
-        match &pattern.kind {
-            Tree::Wildcard | Tree::Rest => {}
-            Tree::Binding { name, is_mutable } => {
-                parts.iter().try_for_each(|pattern| self.fit(pattern, value, fit))?;
-                fit.bindings.push((name.text.clone(), *is_mutable, value.clone()));
+        match (pattern.kind, parts) {
+            ("wildcard" | "rest", _) => {}
+            ("binding", _) => {
+                inner(pattern).iter().try_for_each(|inner| self.fit(inner, value, fit))?;
+                let is_mutable = pattern.has("mutable");
+                fit.bindings.push((pattern.name().into(), is_mutable, value.clone()));
             }
-            Tree::Boolean(true) => fit.tests.push(value.clone()),
-            Tree::Boolean(false) => fit.tests.push(value.clone().negated()),
-            Tree::Range => {
-                let (low, high) = (self.like(&parts[0], value)?, self.like(&parts[1], value)?);
+            ("boolean", _) if pattern.text == "true" => fit.tests.push(value.clone()),
+            ("boolean", _) => fit.tests.push(value.clone().negated()),
+            ("range", [low, high]) => {
+                let (low, high) = (self.like(low, value)?, self.like(high, value)?);
                 // No number is below the first 0, and compilers warn of such a test.
                 if low.number() != Some(0) {
                     fit.tests.push(self.test("<=", low, value.clone()));
                 }
                 fit.tests.push(self.test("<=", value.clone(), high));
             }
-            Tree::Tuple => {
+            ("tuple", _) => {
                 let fields = self.parts(value, PLAIN)?;
                 self.fit_all(parts, fields, fit)?;
             }
-            Tree::List => {
+            ("list", _) => {
                 let elements = self.elements(parts, value)?;
                 self.fit_all(parts, elements, fit)?;
             }
-            Tree::Path(path) | Tree::Call(path) => {
-                let Some((of, variant)) = self.variant(path) else {
-                    return self.refuse("this pattern has no rule");
-                };
-                let value = self.followed(value.clone());
-                self.unify(&of, &value.of)?;
-                let fields = self.parts(&value, variant)?;
-                self.fit_all(parts, fields, fit)?;
-            }
-            Tree::Either => {
+            ("path", _) => self.fit_variant(pattern, &[], value, fit)?,
+            ("call", [path, fields @ ..]) => self.fit_variant(path, fields, value, fit)?,
+            ("either", _) => {
                 let mut tests = Vec::new();
                 for pattern in parts {
                     let own = self.matched(pattern, value)?;
@@ -80,8 +74,24 @@ impl Lowering<'_, '_> {
         Ok(())
     }
 
+    fn fit_variant(
+        &mut self,
+        path: &Node,
+        patterns: &[Node],
+        value: &Term,
+        fit: &mut Fit,
+    ) -> Done<()> {
+        let Some((of, variant)) = self.variant(path) else {
+            return self.refuse("this pattern has no rule");
+        };
+        let value = self.followed(value.clone());
+        self.unify(&of, &value.of)?;
+        let fields = self.parts(&value, variant)?;
+        self.fit_all(patterns, fields, fit)
+    }
+
     // Returns a literal of the type of a value.
-    fn like(&mut self, literal: &Pattern, value: &Term) -> Done<Term> {
+    fn like(&mut self, literal: &Node, value: &Term) -> Done<Term> {
         let Some(term) = self.literal(literal) else {
             return self.refuse("this pattern has no rule");
         };
@@ -92,7 +102,7 @@ impl Lowering<'_, '_> {
     // The same for parts of a value, behind tests.
     fn fit_all(
         &mut self,
-        patterns: &[Pattern],
+        patterns: &[Node],
         (tests, parts): (Vec<Term>, Vec<Term>),
         fit: &mut Fit,
     ) -> Done<()> {
@@ -105,7 +115,7 @@ impl Lowering<'_, '_> {
     }
 
     // Returns whether a slice is as long as its patterns ask, and what each of them is for.
-    fn elements(&mut self, patterns: &[Pattern], slice: &Term) -> Done<(Vec<Term>, Vec<Term>)> {
+    fn elements(&mut self, patterns: &[Node], slice: &Term) -> Done<(Vec<Term>, Vec<Term>)> {
         if !self.known(&slice.of).is_slice() {
             return self.refuse("a slice pattern for what is no slice");
         }
@@ -131,10 +141,10 @@ impl Lowering<'_, '_> {
     }
 
     /// Returns the variant that a path names: its type, and its number.
-    pub fn variant(&mut self, path: &Path) -> Option<(Type, usize)> {
+    pub fn variant(&mut self, path: &Node) -> Option<(Type, usize)> {
         let found = self.world.resolve(self.place.module, path)?;
         match found.definition {
-            _ if found.used != path.segments.len() => None,
+            _ if found.used != path.parts.len() => None,
             Definition::Variant { module, item, variant } => {
                 let id = item_of(Definition::Item { module, item })?;
                 Some((Type::Of(Form::Item(id), Vec::new()), variant))
@@ -185,17 +195,17 @@ impl Lowering<'_, '_> {
     /// Declares the variables of a pattern that every value fits, or all others go to a block that leaves.
     pub fn destructure(
         &mut self,
-        pattern: &Pattern,
+        pattern: &Node,
         value: Term,
-        otherwise: Option<&Expression>,
+        otherwise: Option<&Node>,
     ) -> Done<()> {
         self.at = pattern.span;
-        match &pattern.kind {
-            Tree::Binding { name, is_mutable } if pattern.parts.is_empty() => {
-                self.declare(&name.text, value, *is_mutable);
+        match pattern.kind {
+            "binding" if inner(pattern).is_empty() => {
+                self.declare(pattern.name(), value, pattern.has("mutable"));
                 return Ok(());
             }
-            Tree::Tuple if value.is_tuple() && pattern.parts.len() == value.parts.len() => {
+            "tuple" if value.is_tuple() && pattern.parts.len() == value.parts.len() => {
                 let mut pairs = pattern.parts.iter().zip(value.parts);
                 return pairs.try_for_each(|(it, part)| self.destructure(it, part, None));
             }
@@ -229,10 +239,11 @@ impl Lowering<'_, '_> {
     }
 }
 
-fn is_rest(pattern: &Pattern) -> bool {
-    match pattern.kind {
-        Tree::Rest => true,
-        Tree::Binding { .. } => pattern.parts.iter().any(is_rest),
-        _ => false,
-    }
+fn is_rest(pattern: &Node) -> bool {
+    pattern.kind == "rest" || pattern.kind == "binding" && inner(pattern).iter().any(is_rest)
+}
+
+/// Returns the pattern behind a name and `@`, if there is one.
+pub fn inner(binding: &Node) -> &[Node] {
+    &binding.parts[usize::from(binding.has("mutable")) + 1..]
 }

@@ -1,9 +1,9 @@
 //! Statements: blocks, variables, loops, assignments, and branches, which end in statements, a choice, or a variable.
 
-use super::patterns::{Binding, Fit};
+use super::patterns::{Binding, Fit, inner};
 use super::{Done, Lowering, Target};
 use crate::c::ir::{Kind, Statement, Term, Type};
-use crate::tree::{self, Expression, Kind as Tree, Pattern};
+use crate::tree::Node;
 
 /// One way that an `if` or `match` goes on.
 struct Branch {
@@ -14,33 +14,34 @@ struct Branch {
 
 impl Lowering<'_, '_> {
     /// Evaluates an expression, and moves its value to the target.
-    pub fn evaluate(&mut self, tree: &Expression, target: Target) -> Done<Term> {
+    pub fn evaluate(&mut self, tree: &Node, target: Target) -> Done<Term> {
         let before = std::mem::replace(&mut self.at, tree.span);
         let mut value = self.unit();
-        match (&tree.kind, tree.parts.as_slice()) {
-            (Tree::Group, [inner]) => value = self.evaluate(inner, target)?,
-            (Tree::Block, statements) => value = self.block(statements, target)?,
-            (Tree::If, [condition, then, otherwise @ ..]) => {
+        match (tree.kind, tree.parts.as_slice()) {
+            ("group", [inner]) => value = self.evaluate(inner, target)?,
+            ("block", statements) => value = self.block(statements, target)?,
+            ("if", [condition, then, otherwise @ ..]) => {
                 value = self.if_else(condition, then, otherwise.first(), target)?;
             }
-            (Tree::Match, [found, arms @ ..]) => value = self.match_arms(found, arms, target)?,
-            (Tree::Return, [value]) if target != Target::Value => {
+            ("match", [found, arms @ ..]) => value = self.match_arms(found, arms, target)?,
+            ("return", [value]) if target != Target::Value => {
                 self.evaluate(value, Target::Return)?;
             }
-            // A block without a value.
-            (Tree::Tuple, []) => {}
-            (Tree::Break, _) => self.push(Statement::Break),
-            (Tree::Comments(lines), _) => self.push(Statement::Comment(lines.clone())),
-            (Tree::Let(of), [pattern, value, otherwise @ ..]) => {
-                self.let_statement(of.as_deref(), pattern, value, otherwise.first())?;
-            }
-            (Tree::While, [condition, body]) => {
-                let condition =
-                    self.alone("the condition of a loop", |it| it.term(condition, &Type::Boolean))?;
+            ("break", _) => self.push(Statement::Break),
+            ("comments", lines) => self.comment(lines),
+            ("done", _) => {}
+            ("let", [pattern, parts @ ..]) => self.let_statement(pattern, parts)?,
+            ("while" | "loop", [condition @ .., body]) => {
+                let condition = match condition.first() {
+                    Some(condition) => self.alone("the condition of a loop", |it| {
+                        it.term(condition, &Type::Boolean)
+                    })?,
+                    None => self.boolean(true),
+                };
                 let (body, _) = self.apart(|it| it.evaluate(body, Target::Nothing))?;
                 self.push(Statement::While { condition, body });
             }
-            (Tree::For, [pattern, slice, body]) => {
+            ("for", [pattern, slice, body]) => {
                 let slice = self.any(slice)?;
                 self.walk(slice, |it, element, at| {
                     it.destructure(pattern, element, None)?;
@@ -48,7 +49,7 @@ impl Lowering<'_, '_> {
                     it.evaluate(body, Target::Nothing).map(|_| ())
                 })?;
             }
-            (Tree::Assign { is_sum }, [place, value]) => self.assign(*is_sum, place, value)?,
+            ("assign", [place, sign, value]) => self.assign(sign.text == "+=", place, value)?,
             _ => {
                 value = self.value(tree)?;
                 if target == Target::Return {
@@ -63,8 +64,13 @@ impl Lowering<'_, '_> {
         Ok(value)
     }
 
+    fn comment(&mut self, lines: &[Node]) {
+        let lines = lines.iter().map(|line| line.text.clone());
+        self.push(Statement::Comment(lines.collect()));
+    }
+
     // Puts a block into the current statements, with its value at the target.
-    fn block(&mut self, statements: &[Expression], target: Target) -> Done<Term> {
+    fn block(&mut self, statements: &[Node], target: Target) -> Done<Term> {
         self.scopes.push(Default::default());
         let mut value = self.unit();
         for (number, statement) in statements.iter().enumerate() {
@@ -75,24 +81,21 @@ impl Lowering<'_, '_> {
         Ok(value)
     }
 
-    fn let_statement(
-        &mut self,
-        annotation: Option<&tree::Type>,
-        pattern: &Pattern,
-        value: &Expression,
-        otherwise: Option<&Expression>,
-    ) -> Done<()> {
+    // Declares the variables of a pattern. Behind it stand the type, the value, and what is done with other values.
+    fn let_statement(&mut self, pattern: &Node, parts: &[Node]) -> Done<()> {
+        let annotation = parts.iter().find(|it| it.kind == "annotation");
+        let otherwise = parts.iter().find(|it| it.kind == "otherwise");
         let of = match annotation {
-            Some(of) => self.world.type_in(&self.place, of)?,
+            Some(annotation) => self.world.type_in(&self.place, annotation.last())?,
             None => self.fresh(false),
         };
         self.at = pattern.span;
-        if let (Tree::Binding { name, .. }, []) = (&pattern.kind, pattern.parts.as_slice()) {
-            self.hint = Some(name.text.clone());
+        if pattern.kind == "binding" && inner(pattern).is_empty() {
+            self.hint = Some(pattern.name().into());
         }
-        let found = self.term(value, &of)?;
+        let found = self.term(&parts[usize::from(annotation.is_some())], &of)?;
         self.hint = None;
-        self.destructure(pattern, found, otherwise)
+        self.destructure(pattern, found, otherwise.map(Node::last))
     }
 
     /// Walks over a slice, by what is done with an element and the offset.
@@ -122,7 +125,7 @@ impl Lowering<'_, '_> {
     }
 
     // Puts an assignment into the current statements.
-    fn assign(&mut self, is_sum: bool, place: &Expression, value: &Expression) -> Done<()> {
+    fn assign(&mut self, is_sum: bool, place: &Node, value: &Node) -> Done<()> {
         let place = self.alone("a place", |it| it.any(place))?;
         let mut value = self.term(value, &place.of)?;
         // The value comes first, also where C leaves the order open.
@@ -150,13 +153,13 @@ impl Lowering<'_, '_> {
 
     fn if_else(
         &mut self,
-        condition: &Expression,
-        then: &Expression,
-        otherwise: Option<&Expression>,
+        condition: &Node,
+        then: &Node,
+        otherwise: Option<&Node>,
         target: Target,
     ) -> Done<Term> {
-        let (condition, bindings) = match (&condition.kind, condition.parts.as_slice()) {
-            (Tree::Let(_), [pattern, value]) => self.fits(value, pattern)?,
+        let (condition, bindings) = match (condition.kind, condition.parts.as_slice()) {
+            ("let", [pattern, value]) => self.fits(value, pattern)?,
             _ => (self.term(condition, &Type::Boolean)?, Vec::new()),
         };
         let (statements, value) = self.apart(|it| {
@@ -173,32 +176,25 @@ impl Lowering<'_, '_> {
     }
 
     /// Returns whether a value fits a pattern, and what is bound then.
-    pub fn fits(&mut self, value: &Expression, pattern: &Pattern) -> Done<(Term, Vec<Binding>)> {
+    pub fn fits(&mut self, value: &Node, pattern: &Node) -> Done<(Term, Vec<Binding>)> {
         let found = self.any(value)?;
         let found = self.keep(found, "found");
         let Fit { tests, bindings } = self.matched(pattern, &found)?;
         Ok((self.joined(tests, "&&"), bindings))
     }
 
-    fn match_arms(
-        &mut self,
-        value: &Expression,
-        arms: &[Expression],
-        target: Target,
-    ) -> Done<Term> {
+    fn match_arms(&mut self, value: &Node, arms: &[Node], target: Target) -> Done<Term> {
         let found = self.any(value)?;
         let found = self.keep(found, "found");
         let mut branches: Vec<Branch> = Vec::new();
         for (number, arm) in arms.iter().enumerate() {
-            let (Tree::Arm(comments), [pattern, guard @ .., body]) = (&arm.kind, &arm.parts[..])
-            else {
-                return self.refuse("no arm");
-            };
+            let first = usize::from(arm.has("comments"));
+            let (pattern, body) = (&arm.parts[first], arm.last());
             let Fit { mut tests, bindings } = self.matched(pattern, &found)?;
-            if let Some(guard) = guard.first() {
+            if let Some(guard) = arm.get("guard") {
                 tests.push(self.alone("a guard", |it| {
                     it.bind_all(bindings.clone(), |_, _| true);
-                    it.term(guard, &Type::Boolean)
+                    it.term(guard.last(), &Type::Boolean)
                 })?);
             } else if number + 1 == arms.len() {
                 // All values that are left fit.
@@ -207,9 +203,7 @@ impl Lowering<'_, '_> {
             let is_end = tests.is_empty();
             let condition = (!is_end).then(|| self.joined(tests, "&&"));
             let (statements, value) = self.apart(|it| {
-                if !comments.is_empty() {
-                    it.push(Statement::Comment(comments.clone()));
-                }
+                arm.all("comments").for_each(|comments| it.comment(&comments.parts));
                 // In a value, unless something may change the parts meanwhile.
                 it.bind_all(bindings, |it, part| target == Target::Value && it.is_constant(part));
                 it.evaluate(body, target)

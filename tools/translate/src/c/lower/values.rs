@@ -1,26 +1,28 @@
 //! Expressions as values. Operands are evaluated from left to right: what a later one could change is held first.
 
-use super::{Done, Lowering};
+use super::{Done, Lowering, operator};
 use crate::c::ir::{ERR, Form, Kind, NONE, OK, PLAIN, SOME, Statement, Term, Type};
 use crate::c::world::integer;
-use crate::tree::{Expression, Kind as Tree, Name, Path, Segment, is_comparison, is_shift};
+use crate::lexer::{bytes, number};
+use crate::tree::{Node, is_comparison, is_shift};
 
 impl Lowering<'_, '_> {
     /// Evaluates an expression without branches to a value.
-    pub fn value(&mut self, tree: &Expression) -> Done<Term> {
-        let parts = tree.parts.as_slice();
-        match &tree.kind {
-            Tree::Path(path) => self.path(path),
-            Tree::Call(path) => self.call(path, parts),
-            Tree::Method { name, generics } => self.method(&name.text, generics, parts),
-            Tree::Binary(operator @ ("&&" | "||")) => {
-                let first = self.term(&parts[0], &Type::Boolean)?;
-                let second =
-                    self.alone("what may not run", |it| it.term(&parts[1], &Type::Boolean))?;
-                Ok(self.test(operator, first, second))
+    pub fn value(&mut self, tree: &Node) -> Done<Term> {
+        match (tree.kind, tree.parts.as_slice()) {
+            ("path", _) => self.path(tree),
+            ("call", [path, arguments @ ..]) => self.call(path, arguments),
+            ("method", [receiver, name, generics, arguments @ ..]) => {
+                self.method(&name.text, receiver, generics, arguments)
             }
-            Tree::Try => self.question(&parts[0]),
-            Tree::Matches => Ok(self.fits(&parts[0], &parts[1])?.0),
+            ("binary", [first, sign, second]) if ["&&", "||"].contains(&sign.text.as_str()) => {
+                let first = self.term(first, &Type::Boolean)?;
+                let second =
+                    self.alone("what may not run", |it| it.term(second, &Type::Boolean))?;
+                Ok(self.test(operator(sign), first, second))
+            }
+            ("try", [value]) => self.question(value),
+            ("matches", [value, pattern]) => Ok(self.fits(value, pattern)?.0),
             _ => match self.literal(tree) {
                 Some(literal) => Ok(literal),
                 None => self.operation(tree),
@@ -29,15 +31,16 @@ impl Lowering<'_, '_> {
     }
 
     /// Returns the value of a literal.
-    pub fn literal(&mut self, tree: &Expression) -> Option<Term> {
-        let (kind, of) = match &tree.kind {
-            Tree::Boolean(value) => (Kind::Boolean(*value), Type::Boolean),
-            Tree::Byte(byte) => (Kind::Byte(*byte), Type::BYTE),
-            Tree::Text(bytes) => (Kind::Text(bytes.clone()), Type::slice(Type::BYTE, false)),
-            Tree::Integer(value) => {
-                let digits = self.source.at(tree.span).strip_prefix("0x").unwrap_or_default();
+    pub fn literal(&mut self, tree: &Node) -> Option<Term> {
+        let text = tree.text.as_str();
+        let (kind, of) = match tree.kind {
+            "boolean" => (Kind::Boolean(text == "true"), Type::Boolean),
+            "byte" => (Kind::Byte(*bytes(text)?.first()?), Type::BYTE),
+            "text" => (Kind::Text(bytes(text)?), Type::slice(Type::BYTE, false)),
+            "integer" => {
+                let digits = text.strip_prefix("0x").unwrap_or_default();
                 let hexadecimal = digits.chars().filter(|it| *it != '_').count();
-                (Kind::Number { value: *value, hexadecimal }, self.fresh(true))
+                (Kind::Number { value: number(text)?, hexadecimal }, self.fresh(true))
             }
             _ => return None,
         };
@@ -45,28 +48,35 @@ impl Lowering<'_, '_> {
     }
 
     // Evaluates an expression that is made of the values of its parts.
-    fn operation(&mut self, tree: &Expression) -> Done<Term> {
-        let mut terms = self.operands(&tree.parts)?;
-        match &tree.kind {
-            Tree::Tuple => Ok(self.tuple_of(terms)),
-            Tree::List => self.array(terms),
-            Tree::Struct(path, names) => self.structure(path, names, terms),
-            Tree::Unary(operator) => Ok(self.unary(operator, terms.remove(0))),
-            Tree::Reference { is_mutable } => Ok(self.borrow(*is_mutable, terms.remove(0))),
-            Tree::Binary(operator) => self.binary(operator, terms),
-            Tree::Cast(name) => match integer(name) {
-                Some(of) => Ok(self.make(Kind::Cast, terms, of)),
-                None => self.refuse("this type has no rule"),
-            },
-            Tree::Field(name) => self.field(terms.remove(0), &name.text),
-            Tree::Index => {
+    fn operation(&mut self, tree: &Node) -> Done<Term> {
+        match (tree.kind, tree.parts.as_slice()) {
+            ("tuple", parts) => {
+                let terms = self.operands(parts)?;
+                Ok(self.tuple_of(terms))
+            }
+            ("list", parts) => self.array(parts),
+            ("struct", [path, fields @ ..]) => self.structure(path, fields),
+            ("negation", [sign, operand]) => self.negation(&sign.text, operand),
+            ("reference", [mutable @ .., operand]) => self.borrow(!mutable.is_empty(), operand),
+            ("binary", [left, sign, right]) => self.binary(operator(sign), [left, right]),
+            ("cast", [value, name]) => {
+                let value = self.any(value)?;
+                match integer(&name.text) {
+                    Some(of) => Ok(self.make(Kind::Cast, vec![value], of)),
+                    None => self.refuse("this type has no rule"),
+                }
+            }
+            ("member_of", [receiver, name]) => self.field(receiver, &name.text),
+            ("index", parts) => {
+                let mut terms = self.operands(parts)?;
                 let at = self.coerce(terms.remove(1), &Type::SIZE)?;
                 self.element(terms.remove(0), at, Kind::At)
             }
-            Tree::Part(name) => {
+            ("part", parts) => {
+                let mut terms = self.operands(parts)?;
                 let offsets = self.coerce_all(terms.split_off(1), &[Type::SIZE, Type::SIZE])?;
                 terms.extend(offsets);
-                self.part(name, terms)
+                self.part(tree.rule.trim_start_matches("part."), terms)
             }
             _ => self.refuse("this form has no rule"),
         }
@@ -77,19 +87,23 @@ impl Lowering<'_, '_> {
         self.make(Kind::Make(PLAIN), parts, of)
     }
 
-    fn array(&mut self, terms: Vec<Term>) -> Done<Term> {
+    fn array(&mut self, parts: &[Node]) -> Done<Term> {
         let element = self.fresh(false);
-        let types = vec![element.clone(); terms.len()];
-        let terms = self.coerce_all(terms, &types)?;
+        let terms = self.operands(parts)?;
+        let terms = self.coerce_all(terms, &vec![element.clone(); parts.len()])?;
         let of = Type::array(element, terms.len() as u128);
         Ok(self.make(Kind::Elements, terms, of))
     }
 
     /// Evaluates operands from left to right. Those before one with statements are held in variables, and so
     /// are results of calls that write.
-    pub fn operands(&mut self, operands: &[Expression]) -> Done<Vec<Term>> {
+    pub fn operands<'t>(
+        &mut self,
+        operands: impl IntoIterator<Item = &'t Node>,
+    ) -> Done<Vec<Term>> {
+        let operands: Vec<&Node> = operands.into_iter().collect();
         let mut terms: Vec<Term> = Vec::new();
-        for operand in operands {
+        for operand in &operands {
             let (statements, term) = self.apart(|it| it.any(operand))?;
             let has_effect = term.has_effect() && operands.len() > 1;
             if has_effect || !statements.is_empty() {
@@ -107,7 +121,7 @@ impl Lowering<'_, '_> {
     }
 
     /// Evaluates operands behind a value, which must not depend on what they change.
-    pub fn behind(&mut self, first: Term, operands: &[Expression]) -> Done<Vec<Term>> {
+    pub fn behind(&mut self, first: Term, operands: &[Node]) -> Done<Vec<Term>> {
         let (statements, terms) = self.apart(|it| it.operands(operands))?;
         let changes = !statements.is_empty() || terms.iter().any(Term::has_effect);
         let is_pointer = matches!(self.known(&first.of), Type::Of(Form::Pointer, _));
@@ -144,7 +158,7 @@ impl Lowering<'_, '_> {
     }
 
     /// Returns the type that a path names. Arguments may be left out.
-    pub fn named_type(&mut self, path: &[Segment]) -> Done<Type> {
+    pub fn named_type(&mut self, path: &[Node]) -> Done<Type> {
         let mut of = self.world.named_type(&self.place, path)?;
         if let Type::Of(Form::Item(id), arguments) = &mut of {
             while arguments.len() < self.world.parameters(*id).len() {
@@ -154,21 +168,24 @@ impl Lowering<'_, '_> {
         Ok(of)
     }
 
-    // Makes a struct of the values of fields, and of one more that gives the others.
-    fn structure(&mut self, path: &Path, names: &[Name], mut terms: Vec<Term>) -> Done<Term> {
-        let of = self.named_type(&path.segments)?;
+    // Makes a struct of the values of fields, and maybe of a base that gives the others.
+    fn structure(&mut self, path: &Node, given: &[Node]) -> Done<Term> {
+        let of = self.named_type(&path.parts)?;
         let fields = self.fields_of(&of, PLAIN)?;
-        let is_field = |given: &Name| fields.iter().any(|(name, _)| *name == given.text);
-        if !names.iter().all(is_field) {
+        let named = given.iter().filter(|it| it.kind == "given");
+        let names: Vec<&str> = named.map(name_of_field).collect();
+        if !names.iter().all(|name| fields.iter().any(|(own, _)| own == name)) {
             return self.refuse("no such field");
         }
+        let values = given.iter().map(|it| if it.kind == "given" { it.last() } else { it });
+        let mut terms = self.operands(values)?;
         let base = match terms.drain(names.len()..).next() {
             Some(Term { kind: Kind::Constant(id), .. }) => Some(super::constant(self.world, id)?),
             base => base.map(|base| self.keep(base, "base")),
         };
         let mut all = Vec::new();
         for (number, (name, of)) in fields.into_iter().enumerate() {
-            let given = names.iter().position(|given| given.text == name);
+            let given = names.iter().position(|given| *given == name);
             all.push(match (given, &base) {
                 (Some(at), _) => self.coerce(terms[at].clone(), &of)?,
                 (None, Some(base)) if base.kind == Kind::Make(PLAIN) => base.parts[number].clone(),
@@ -179,18 +196,20 @@ impl Lowering<'_, '_> {
         Ok(self.make(Kind::Make(PLAIN), all, of))
     }
 
-    fn unary(&mut self, operator: &str, term: Term) -> Term {
+    fn negation(&mut self, sign: &str, operand: &Node) -> Done<Term> {
+        let term = self.any(operand)?;
         let of = self.known(&term.of);
-        match operator {
+        Ok(match sign {
             "*" => self.followed(term),
             "!" if of == Type::Boolean => term.negated(),
             "!" => self.make(Kind::Small("not"), vec![term], of),
             _ => self.make(Kind::Small("negate"), vec![term], of),
-        }
+        })
     }
 
-    fn borrow(&mut self, is_mutable: bool, term: Term) -> Term {
-        match (self.known(&term.of), &term.kind) {
+    fn borrow(&mut self, is_mutable: bool, operand: &Node) -> Done<Term> {
+        let term = self.any(operand)?;
+        Ok(match (self.known(&term.of), &term.kind) {
             (Type::Of(Form::Slice { is_mutable: true }, parts), _) if !is_mutable => {
                 let of = Type::slice(parts[0].clone(), false);
                 self.make(Kind::Part("shared"), vec![term], of)
@@ -200,23 +219,25 @@ impl Lowering<'_, '_> {
                 self.make(Kind::Address, vec![term], Type::pointer(of))
             }
             _ => term,
-        }
+        })
     }
 
-    fn binary(&mut self, operator: &'static str, terms: Vec<Term>) -> Done<Term> {
-        let mut terms: Vec<Term> = terms.into_iter().map(|term| self.followed(term)).collect();
-        let of = terms[0].of.clone();
+    fn binary(&mut self, operator: &'static str, operands: [&Node; 2]) -> Done<Term> {
+        let mut terms = self.operands(operands)?;
+        let right = self.followed(terms.remove(1));
+        let left = self.followed(terms.remove(0));
         if !is_shift(operator) {
-            self.unify(&of, &terms[1].of)?;
+            self.unify(&left.of, &right.of)?;
         }
         if is_comparison(operator) {
-            let right = terms.remove(1);
-            return Ok(self.test(operator, terms.remove(0), right));
+            return Ok(self.test(operator, left, right));
         }
-        Ok(self.make(Kind::Binary(operator), terms, of))
+        let of = left.of.clone();
+        Ok(self.make(Kind::Binary(operator), vec![left, right], of))
     }
 
-    fn field(&mut self, receiver: Term, name: &str) -> Done<Term> {
+    fn field(&mut self, receiver: &Node, name: &str) -> Done<Term> {
+        let receiver = self.any(receiver)?;
         let receiver = self.followed(receiver);
         let fields = self.fields_of(&receiver.of, PLAIN)?;
         let Some(place) = fields.iter().position(|(own, _)| own == name) else {
@@ -246,7 +267,7 @@ impl Lowering<'_, '_> {
     }
 
     // `VALUE?`: leaves with the error, or goes on with the value.
-    fn question(&mut self, value: &Expression) -> Done<Term> {
+    fn question(&mut self, value: &Node) -> Done<Term> {
         let name = self.hint.take().map_or("found".to_string(), |hint| format!("{hint}_found"));
         let found = self.any(value)?;
         let found = self.keep(found, &name);
@@ -267,4 +288,9 @@ impl Lowering<'_, '_> {
         self.push_if(leaves, vec![Statement::Return(back)], Vec::new());
         Ok(values.remove(0))
     }
+}
+
+// The name of a field that is given a value, which may be that of a variable.
+fn name_of_field(given: &Node) -> &str {
+    if given.parts.len() == 1 { given.last().names()[0] } else { given.name() }
 }

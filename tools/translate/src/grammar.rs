@@ -1,0 +1,211 @@
+//! The grammar of Rattle as far as the sources use it, and of the facade. Every other form is refused.
+//!
+//! A line says what a rule reads: behind `=`, it makes a node that is named as the rule up to its point; behind `~`,
+//! what it makes stands where the rule is named; behind `=?`, this is so for one node alone. Words between double
+//! quotes name the rule in messages. `/` is between alternatives, of which the first that fits is taken. `?` is
+//! behind what may be missing, `*` behind what may be there many times, `,*` behind what has commas between it. A
+//! sign between single quotes is a token; `@` makes a node of it, and `^` takes it also as the first half of a
+//! symbol. `&` and `!` look at what comes next. Behind `<<` stand nodes that get what was read as their first part,
+//! one by one; behind `<?` at most one does, and behind `<!` one. `PLAIN` reads what has no struct, as a block follows.
+//! Other capital letters name kinds of tokens.
+
+pub const GRAMMAR: &str = r#"
+module             = item* END
+
+item               "an item" ~ use / ghost_use / model / hint / notes <! visible
+visible            "an item" ~ visibility <! declared
+declared           ~ function / constant / constant.static / alias / declaration / struct / enum / trait / implementation
+visibility         = ( public / 'pub' '(' 'crate' ')' )?
+public             = 'pub' !'('
+notes              = note* COMMENTS
+note               "documentation" ~ COMMENTS ( DOC / attribute )
+attribute          ~ inline / always / never / cold / hidden / derive / tactic
+inline             = '#' '[' 'inline' ']'
+always             = '#' '[' 'inline' '(' 'always' ')' ']'
+never              = '#' '[' 'inline' '(' 'never' ')' ']'
+cold               = '#' '[' 'cold' ']'
+hidden             = '#' '[' 'doc' '(' 'hidden' ')' ']'
+derive             = '#' '[' 'derive' '(' derived,* ')' ']'
+derived            "a trait that Rust derives as Rattle does" = 'Clone' / 'Copy' / 'Debug' / 'Drop' / 'Eq' / 'Ord' / 'PartialEq' / 'PartialOrd'
+tactic             = '#' '[' hint_to_prover ']'
+hint               = '#' '!' '[' hint_to_prover ']'
+hint_to_prover     ~ 'tactic' '(' argument_of_hint,* ')'
+argument_of_hint   "a hint to the prover" ~ WORD ( '::' argument_of_hint )? ( '(' argument_of_hint,* ')' )?
+
+name               "a name" ~ NAME
+name.crate         = 'crate'
+name.all           = '*'
+name.self          = 'self'
+name.own           = 'Self'
+name.writer        = 'W'
+
+use                = visibility 'use' import.first ';'
+import.first       = ( name.crate / name ) import_rest
+import             = name import_rest
+import_rest        ~ ( '::' ( import.all / import / '{' import,* '}' ) / 'as' renamed )?
+import.all         = name.all
+renamed            = name
+
+ghost_use          = 'ghost' 'use' GHOST_PATH ';'
+ghost.declared     = 'ghost' WORD ':' CLAUSE ';'
+ghost.defined      = 'ghost' WORD '=' CLAUSE ';'
+ghost.field        = 'ghost' WORD ':' CLAUSE ( ',' / &'}' )
+model              = 'impl' generics 'Model' 'for' type members.model
+members.model      = '{' ( ghost_use / ghost.defined )* '}'
+
+declaration        = 'mod' name ';'
+constant           = 'const' name ':' type value? ';'
+constant.static    = 'static' name ':' type value? ';'
+value              = '=' expression
+alias              = 'type' name generics '=' type ';'
+struct             = 'struct' name generics ( ';' / '{' ( ghost.field / field ( ',' / &'}' ) )* '}' )
+field              = notes visibility name ':' type
+enum               = 'enum' name generics '{' variant,* '}'
+variant            = notes name ( '{' field,* '}' / '(' type,* ')' )?
+trait              = 'trait' name generics ( ':' path.bound )? members.trait
+members.trait      = '{' member_of_trait* '}'
+member_of_trait    "an item" ~ ghost_use / ghost.declared / notes <! ( function / constant )
+implementation     = 'impl' generics ( path.trait 'for' )? type members
+members            = '{' member* '}'
+member             "an item" ~ ghost_use / ghost.defined / notes <! ( visibility <! ( function / constant / alias ) )
+function           = 'fn' ( !'fmt' name generics / name writer ) parameters output? clause* ( block / ';' )
+writer             = '<' name.writer ':' 'fmt' '::' 'Write' '>'
+parameters         ~ '(' ( receiver ( ',' / &')' ) )? parameter,* ')'
+receiver           = shared? mutable? name.self
+parameter          = mutable? name ':' type
+shared             = '&'
+mutable            = 'mut'
+output             = '->' type
+clause             ~ condition / promise
+condition          = 'requires' name? CLAUSE
+promise            = 'ensures' name? CLAUSE
+generics           = ( '<' generic,* ^'>' )?
+generic            ~ LIFETIME / generic.constant / generic.type
+generic.constant   = 'const' name ':' type
+generic.type       = name ( ':' path.bound )?
+
+type               "a type" ~ reference.type / tuple.type / list.type / path.type
+reference.type     = ^'&' LIFETIME? mutable? type
+tuple.type         = '(' ( type ',' &type type,* )? ')'
+list.type          = '[' type ( ';' length )? ']'
+length             ~ INTEGER / path.value
+path.type          = names_of_type
+path.bound         = names_of_type
+path.trait         = names_of_type
+names_of_type      ~ segment.type ( '::' segment.type )?
+segment.type       = ( name / name.own ) arguments
+arguments          = ( '<' argument,* ^'>' )?
+argument           "a type or a literal" ~ LIFETIME / literal / type
+
+pattern            ~ either
+either             =? single ( '|' single )*
+single             "a pattern" ~ wildcard / tuple.pattern / list.pattern / range / literal / call.pattern / struct.pattern
+                     / path.pattern / binding
+wildcard           = '_'
+tuple.pattern      = '(' element,* ')'
+list.pattern       = '[' element,* ']'
+element            ~ rest / pattern
+rest               = '..'
+range              = literal '..=' literal
+call.pattern       = path.pattern '(' element,* ')'
+struct.pattern     = path.made '{' binding.name,* '..'? '}'
+path.pattern       = &CAPITAL names / segment '::' segment
+path.made          = &CAPITAL names
+binding            = mutable? name ( '@' element )?
+binding.name       = name
+
+expression         ~ or <? assign
+assign             "an operator" = ( @'=' / @'+=' ) expression
+or                 ~ and << binary.or
+and                ~ comparison << binary.and
+comparison         ~ bit_or <? binary.comparison
+bit_or             ~ bit_xor << binary.bit_or
+bit_xor            ~ bit_and << binary.bit_xor
+bit_and            ~ shift << binary.bit_and
+shift              ~ sum << binary.shift
+sum                ~ product << binary.sum
+product            ~ cast_or_less << binary.product
+cast_or_less       ~ unary << cast
+binary.or          "an operator" = @'||' and
+binary.and         "an operator" = @'&&' comparison
+binary.comparison  "an operator" = ( @'==' / @'!=' / @'<' / @'>' / @'<=' / @'>=' ) bit_or
+binary.bit_or      "an operator" = @'|' bit_xor
+binary.bit_xor     "an operator" = @'^' bit_and
+binary.bit_and     "an operator" = @'&' shift
+binary.shift       "an operator" = ( @'<<' / @'>>' ) sum
+binary.sum         "an operator" = ( @'+' / @'-' ) product
+binary.product     "an operator" = ( @'*' / @'/' / @'%' ) cast_or_less
+cast               "an operator" = 'as' integer_type
+integer_type       "a type of integers" ~ @'u8' / @'u16' / @'u32' / @'u64' / @'u128' / @'usize' / @'i8' / @'i16'
+                     / @'i32' / @'i64' / @'i128' / @'isize'
+unary              "an expression" ~ reference.value / negation / primary << ( try / index / part / method / member_of )
+reference.value    = ^'&' mutable? unary
+negation           = ( @'!' / @'-' / @'*' ) unary
+try                "an operator" = '?'
+index              "an operator" = '[' expression ']'
+part               "an operator" ~ part.from / part.between / part.to
+part.from          = '[' expression '..' ']'
+part.between       = '[' expression '..' expression ']'
+part.to            = '[' '..' expression ']'
+method             "an operator" = '.' name arguments.value '(' expression,* ')'
+member_of          "an operator" = '.' ( name / INTEGER )
+
+primary            ~ literal / group / tuple / repeat / list / closure / matches / struct.value / call / path.value
+                     / block_like / return / break
+group              = '(' expression ')'
+tuple              = '(' expression,* ')'
+list               = '[' expression,* ']'
+repeat             = '[' ( literal / path.value ) ';' length ']'
+closure            = '|' binding.name '|' expression
+matches            = 'matches' '!' '(' expression ',' pattern ')'
+struct.value       = STRUCTS path.made '{' given,* ( '..' base )? '}'
+given              = name ':' expression / path.given
+base               ~ negation.self / path.given &'}'
+negation.self      = @'*' path.self
+call               = path.callee '(' expression,* ')'
+path.value         = names
+path.callee        = names
+path.given         = segment.given
+path.self          = segment.self
+names              ~ segment ( '::' segment )?
+segment            = ( name / name.self / name.own ) arguments.value
+segment.given      = name
+segment.self       = name.self
+arguments.value    = ( '::' '<' argument,* ^'>' )?
+literal            ~ INTEGER !( '.' INTEGER ) / BYTE / TEXT / boolean
+boolean            = 'true' / 'false'
+
+block_like         ~ if / match / while / loop / for / block
+if                 = 'if' condition_of_if block ( 'else' ( if / block ) )?
+condition_of_if    ~ PLAIN ( let.condition / expression )
+let.condition      = 'let' pattern '=' comparison
+match              = 'match' PLAIN expression '{' arm* '}'
+arm                = COMMENTS pattern guard? '=>' ( ended_block ','? / expression ( ',' / &'}' ) )
+guard              = 'if' expression
+while              = 'while' PLAIN expression block
+loop               = 'loop' block
+for                = 'for' pattern 'in' PLAIN expression block
+return             = 'return' expression?
+break              = 'break'
+block              = '{' statement* COMMENTS '}'
+statement          "a statement" ~ COMMENTS ( let / ended_block done? / expression ( done / &'}' ) )
+ended_block        ~ block_like !'.' !'?'
+let                = 'let' pattern annotation? '=' expression otherwise? ';'
+annotation         = ':' type
+otherwise          = 'else' block
+done               = ';'
+
+facade             = facade_item* END
+facade_item        ~ notices <! ( proved / facade_other )
+facade_other       ~ outer / ignored / export
+proved             = 'mod' 'proved' '{' inner_item* '}'
+inner_item         ~ notices <! facade_other
+notices            = ( DOC / '#' '!' '[' known ']' / notice )*
+notice             = '#' '[' known ']'
+known              "an attribute that the facade may have" ~ ( 'allow' / 'cfg' / 'cfg_attr' / 'no_std' / 'rustfmt' / 'warn' ) in_attribute*
+in_attribute       ~ lanes / '[' in_attribute* ']' / !( ']' / 'path' / 'include' / 'macro_use' / 'proved' ) ANY
+lanes              = '"lanes"'
+outer              = 'pub'? 'mod' !'proved' name ( ';' / '{' inner_item* '}' )
+ignored            = 'extern' 'crate' 'std' ';' / 'compile_error' '!' '(' TEXT ')' ';'
+export             = 'pub' 'use' import.first ';'
+"#;
