@@ -1,24 +1,24 @@
 //! The grammar of Rattle as far as the sources use it, and of the facade. Every other form is refused.
 //!
 //! A line says what a rule reads: behind `=`, it makes a node that is named as the rule up to its point; behind `~`,
-//! what it makes stands where the rule is named; behind `=?`, this is so for one node alone. Words between double
-//! quotes name the rule in messages. `/` is between alternatives, of which the first that fits is taken. `?` is
-//! behind what may be missing, `*` behind what may be there many times, `,*` behind what has commas between it. A
-//! sign between single quotes is a token; `@` makes a node of it, and `^` takes it also as the first half of a
-//! symbol. `&` and `!` look at what comes next. Behind `<<` stand nodes that get what was read as their first part,
-//! one by one; behind `<?` at most one does, and behind `<!` one. `PLAIN` reads what has no struct, as a block follows.
-//! Other capital letters name kinds of tokens.
+//! what it makes stands where the rule is named. Behind `--` stands what messages call it. `/` is between
+//! alternatives, of which the first that fits is taken. `?` is behind what may be missing, `*` behind what may be
+//! there many times, `,*` behind what has commas between it. A sign between quotes is a token; `@` makes a node of it,
+//! and `^` takes it also as the first half of a symbol. `&` and `!` look at what comes next. Behind `<<` stand nodes
+//! that get what was read as their first part, one by one; behind `<?` at most one does, and behind `<!` one. `PLAIN`
+//! reads what has no struct, as a block follows. Other capital letters name kinds of tokens.
 
 pub const GRAMMAR: &str = r#"
 module             = item* END
 
-item               "an item" ~ use / ghost_use / model / hint / notes <! visible
-visible            "an item" ~ visibility <! declared
-declared           ~ function / constant / constant.static / alias / declaration / struct / enum / trait / implementation
+item               ~ use / ghost_use / model / hint / notes <! visible -- an item
+visible            ~ visibility <! declared -- an item
+declared           ~ function / constant / constant.static / alias / declaration / type_or_members
+type_or_members    ~ struct / enum / trait / implementation
 visibility         = ( public / 'pub' '(' 'crate' ')' )?
 public             = 'pub' !'('
 notes              = note* COMMENTS
-note               "documentation" ~ COMMENTS ( DOC / attribute )
+note               ~ COMMENTS ( DOC / attribute ) -- an attribute or documentation
 attribute          ~ inline / always / never / cold / hidden / derive / tactic
 inline             = '#' '[' 'inline' ']'
 always             = '#' '[' 'inline' '(' 'always' ')' ']'
@@ -26,13 +26,14 @@ never              = '#' '[' 'inline' '(' 'never' ')' ']'
 cold               = '#' '[' 'cold' ']'
 hidden             = '#' '[' 'doc' '(' 'hidden' ')' ']'
 derive             = '#' '[' 'derive' '(' derived,* ')' ']'
-derived            "a trait that Rust derives as Rattle does" = 'Clone' / 'Copy' / 'Debug' / 'Drop' / 'Eq' / 'Ord' / 'PartialEq' / 'PartialOrd'
+derived            ~ derived_trait -- a trait that Rust derives as Rattle does
+derived_trait      ~ @'Clone' / @'Copy' / @'Debug' / @'Drop' / @'Eq' / @'Ord' / @'PartialEq' / @'PartialOrd'
 tactic             = '#' '[' hint_to_prover ']'
 hint               = '#' '!' '[' hint_to_prover ']'
 hint_to_prover     ~ 'tactic' '(' argument_of_hint,* ')'
-argument_of_hint   "a hint to the prover" ~ WORD ( '::' argument_of_hint )? ( '(' argument_of_hint,* ')' )?
+argument_of_hint   ~ WORD ( '::' argument_of_hint )? ( '(' argument_of_hint,* ')' )? -- a hint to the prover
 
-name               "a name" ~ NAME
+name               ~ NAME -- a name
 name.crate         = 'crate'
 name.all           = '*'
 name.self          = 'self'
@@ -64,10 +65,10 @@ enum               = 'enum' name generics '{' variant,* '}'
 variant            = notes name ( '{' field,* '}' / '(' type,* ')' )?
 trait              = 'trait' name generics ( ':' path.bound )? members.trait
 members.trait      = '{' member_of_trait* '}'
-member_of_trait    "an item" ~ ghost_use / ghost.declared / notes <! ( function / constant )
+member_of_trait    ~ ghost_use / ghost.declared / notes <! ( function / constant ) -- an item
 implementation     = 'impl' generics ( path.trait 'for' )? type members
 members            = '{' member* '}'
-member             "an item" ~ ghost_use / ghost.defined / notes <! ( visibility <! ( function / constant / alias ) )
+member             ~ ghost_use / ghost.defined / notes <! ( visibility <! ( function / constant / alias ) ) -- an item
 function           = 'fn' ( !'fmt' name generics / name writer ) parameters output? clause* ( block / ';' )
 writer             = '<' name.writer ':' 'fmt' '::' 'Write' '>'
 parameters         ~ '(' ( receiver ( ',' / &')' ) )? parameter,* ')'
@@ -84,7 +85,7 @@ generic            ~ LIFETIME / generic.constant / generic.type
 generic.constant   = 'const' name ':' type
 generic.type       = name ( ':' path.bound )?
 
-type               "a type" ~ reference.type / tuple.type / list.type / path.type
+type               ~ reference.type / tuple.type / list.type / path.type -- a type
 reference.type     = ^'&' LIFETIME? mutable? type
 tuple.type         = '(' ( type ',' &type type,* )? ')'
 list.type          = '[' type ( ';' length )? ']'
@@ -95,12 +96,12 @@ path.trait         = names_of_type
 names_of_type      ~ segment.type ( '::' segment.type )?
 segment.type       = ( name / name.own ) arguments
 arguments          = ( '<' argument,* ^'>' )?
-argument           "a type or a literal" ~ LIFETIME / literal / type
+argument           ~ LIFETIME / literal / type -- a type or a literal
 
-pattern            ~ either
-either             =? single ( '|' single )*
-single             "a pattern" ~ wildcard / tuple.pattern / list.pattern / range / literal / call.pattern / struct.pattern
-                     / path.pattern / binding
+pattern            ~ single << either
+either             = '|' single
+single             ~ wildcard / tuple.pattern / list.pattern / range / literal / variant_or_path / binding -- a pattern
+variant_or_path    ~ call.pattern / struct.pattern / path.pattern
 wildcard           = '_'
 tuple.pattern      = '(' element,* ')'
 list.pattern       = '[' element,* ']'
@@ -115,7 +116,7 @@ binding            = mutable? name ( '@' element )?
 binding.name       = name
 
 expression         ~ or <? assign
-assign             "an operator" = ( @'=' / @'+=' ) expression
+assign             = ( @'=' / @'+=' ) expression -- an operator
 or                 ~ and << binary.or
 and                ~ comparison << binary.and
 comparison         ~ bit_or <? binary.comparison
@@ -126,32 +127,34 @@ shift              ~ sum << binary.shift
 sum                ~ product << binary.sum
 product            ~ cast_or_less << binary.product
 cast_or_less       ~ unary << cast
-binary.or          "an operator" = @'||' and
-binary.and         "an operator" = @'&&' comparison
-binary.comparison  "an operator" = ( @'==' / @'!=' / @'<' / @'>' / @'<=' / @'>=' ) bit_or
-binary.bit_or      "an operator" = @'|' bit_xor
-binary.bit_xor     "an operator" = @'^' bit_and
-binary.bit_and     "an operator" = @'&' shift
-binary.shift       "an operator" = ( @'<<' / @'>>' ) sum
-binary.sum         "an operator" = ( @'+' / @'-' ) product
-binary.product     "an operator" = ( @'*' / @'/' / @'%' ) cast_or_less
-cast               "an operator" = 'as' integer_type
-integer_type       "a type of integers" ~ @'u8' / @'u16' / @'u32' / @'u64' / @'u128' / @'usize' / @'i8' / @'i16'
-                     / @'i32' / @'i64' / @'i128' / @'isize'
-unary              "an expression" ~ reference.value / negation / primary << ( try / index / part / method / member_of )
+binary.or          = @'||' and -- an operator
+binary.and         = @'&&' comparison -- an operator
+binary.comparison  = ( @'==' / @'!=' / @'<' / @'>' / @'<=' / @'>=' ) bit_or -- an operator
+binary.bit_or      = @'|' bit_xor -- an operator
+binary.bit_xor     = @'^' bit_and -- an operator
+binary.bit_and     = @'&' shift -- an operator
+binary.shift       = ( @'<<' / @'>>' ) sum -- an operator
+binary.sum         = ( @'+' / @'-' ) product -- an operator
+binary.product     = ( @'*' / @'/' / @'%' ) cast_or_less -- an operator
+cast               = 'as' integer_type -- an operator
+integer_type       ~ signed / unsigned -- a type of integers
+signed             ~ @'i8' / @'i16' / @'i32' / @'i64' / @'i128' / @'isize'
+unsigned           ~ @'u8' / @'u16' / @'u32' / @'u64' / @'u128' / @'usize'
+unary              ~ reference.value / negation / primary << behind_primary -- an expression
+behind_primary     ~ try / index / part / method / member_of
 reference.value    = ^'&' mutable? unary
 negation           = ( @'!' / @'-' / @'*' ) unary
-try                "an operator" = '?'
-index              "an operator" = '[' expression ']'
-part               "an operator" ~ part.from / part.between / part.to
+try                = '?' -- an operator
+index              = '[' expression ']' -- an operator
+part               ~ part.from / part.between / part.to -- an operator
 part.from          = '[' expression '..' ']'
 part.between       = '[' expression '..' expression ']'
 part.to            = '[' '..' expression ']'
-method             "an operator" = '.' name arguments.value '(' expression,* ')'
-member_of          "an operator" = '.' ( name / INTEGER )
+method             = '.' name arguments.value '(' expression,* ')' -- an operator
+member_of          = '.' ( name / INTEGER ) -- an operator
 
-primary            ~ literal / group / tuple / repeat / list / closure / matches / struct.value / call / path.value
-                     / block_like / return / break
+primary            ~ literal / group / tuple / repeat / list / closure / matches / named / block_like / return / break
+named              ~ struct.value / call / path.value
 group              = '(' expression ')'
 tuple              = '(' expression,* ')'
 list               = '[' expression,* ']'
@@ -172,7 +175,7 @@ segment            = ( name / name.self / name.own ) arguments.value
 segment.given      = name
 segment.self       = name.self
 arguments.value    = ( '::' '<' argument,* ^'>' )?
-literal            ~ INTEGER !( '.' INTEGER ) / BYTE / TEXT / boolean
+literal            ~ INTEGER !( '.' INTEGER ) / BYTE / TEXT / boolean -- a literal
 boolean            = 'true' / 'false'
 
 block_like         ~ if / match / while / loop / for / block
@@ -188,7 +191,7 @@ for                = 'for' pattern 'in' PLAIN expression block
 return             = 'return' expression?
 break              = 'break'
 block              = '{' statement* COMMENTS '}'
-statement          "a statement" ~ COMMENTS ( let / ended_block done? / expression ( done / &'}' ) )
+statement          ~ COMMENTS ( let / ended_block done? / expression ( done / &'}' ) ) -- a statement
 ended_block        ~ block_like !'.' !'?'
 let                = 'let' pattern annotation? '=' expression otherwise? ';'
 annotation         = ':' type
@@ -202,7 +205,8 @@ proved             = 'mod' 'proved' '{' inner_item* '}'
 inner_item         ~ notices <! facade_other
 notices            = ( DOC / '#' '!' '[' known ']' / notice )*
 notice             = '#' '[' known ']'
-known              "an attribute that the facade may have" ~ ( 'allow' / 'cfg' / 'cfg_attr' / 'no_std' / 'rustfmt' / 'warn' ) in_attribute*
+known              ~ known_name in_attribute*
+known_name         ~ 'allow' / 'cfg' / 'cfg_attr' / 'no_std' / 'rustfmt' / 'warn' -- an attribute that is known
 in_attribute       ~ lanes / '[' in_attribute* ']' / !( ']' / 'path' / 'include' / 'macro_use' / 'proved' ) ANY
 lanes              = '"lanes"'
 outer              = 'pub'? 'mod' !'proved' name ( ';' / '{' inner_item* '}' )

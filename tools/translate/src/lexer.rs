@@ -251,7 +251,7 @@ fn name_length(rest: &str) -> usize {
     rest.find(|character| !is_part(character)).unwrap_or(rest.len())
 }
 
-/// Returns the module and the names of a `ghost use`. A path without braces and `as` are not known, as each name must be
+/// Returns the module and the names of a `ghost use`. A path without braces and `as` are not known: each name must be
 /// seen.
 pub fn ghost_names(path: &str) -> Option<(&str, Vec<&str>)> {
     let (module, names) = path.trim().strip_suffix('}')?.split_once(".{")?;

@@ -1,28 +1,24 @@
 //! Reads the notation of the grammar, which is explained there. That it is well formed shows in each run.
 
 use crate::grammar::GRAMMAR;
-use std::collections::BTreeMap;
+use std::collections::HashMap;
+use std::iter::Peekable;
+use std::str::SplitWhitespace;
 use std::sync::LazyLock;
 
 /// The rules of the grammar by their names.
-pub static RULES: LazyLock<BTreeMap<&str, Rule>> = LazyLock::new(rules);
+pub static RULES: LazyLock<HashMap<&str, Rule>> = LazyLock::new(|| {
+    let lines = GRAMMAR.lines().filter(|line| !line.is_empty());
+    lines.map(rule).map(|rule| (rule.name, rule)).collect()
+});
 
 /// A line of the grammar.
 pub struct Rule {
     pub name: &'static str,
     /// What it is in messages, or nothing.
     pub label: &'static str,
-    pub makes: Makes,
+    pub makes_node: bool,
     pub form: Form,
-}
-
-/// When a rule makes a node.
-#[derive(Clone, Copy, PartialEq)]
-pub enum Makes {
-    Node,
-    // Unless it has one part.
-    NodeOfMany,
-    Nothing,
 }
 
 /// How something is read.
@@ -53,72 +49,23 @@ pub enum Form {
     },
 }
 
-fn rules() -> BTreeMap<&'static str, Rule> {
-    let mut lines: Vec<Vec<&str>> = Vec::new();
-    for line in GRAMMAR.lines().filter(|line| !line.is_empty()) {
-        match lines.last_mut() {
-            Some(last) if line.starts_with(' ') => last.extend(words(line)),
-            _ => lines.push(words(line)),
-        }
-    }
-    lines.iter().map(|words| rule(words)).map(|rule| (rule.name, rule)).collect()
+fn rule(line: &'static str) -> Rule {
+    let (line, label) = line.split_once(" -- ").unwrap_or((line, ""));
+    let mut words = line.split_whitespace();
+    let (name, sign) = (words.next().unwrap_or_default(), words.next());
+    let form = Reader { words: words.peekable() }.choice();
+    Rule { name, label, makes_node: sign == Some("="), form }
 }
 
-// Splits a line into names, texts between quotes, and signs.
-fn words(mut line: &'static str) -> Vec<&'static str> {
-    let is_part = |it: char| it.is_ascii_alphanumeric() || "._".contains(it);
-    let mut words = Vec::new();
-    while !line.trim_start().is_empty() {
-        line = line.trim_start();
-        let name = line.find(|it| !is_part(it)).unwrap_or(line.len());
-        let quote = line.chars().next().filter(|it| "'\"".contains(*it));
-        let sign = ["<<", "<?", "<!", ",*", "=?"].iter().find(|it| line.starts_with(**it));
-        let length = match (quote, sign) {
-            (Some(quote), _) => 2 + line[1..].find(quote).unwrap_or_default(),
-            _ if name > 0 => name,
-            (_, sign) => sign.map_or(1, |sign| sign.len()),
-        };
-        words.push(&line[..length]);
-        line = &line[length..];
-    }
-    words
+struct Reader {
+    words: Peekable<SplitWhitespace<'static>>,
 }
 
-fn rule(words: &[&'static str]) -> Rule {
-    let mut reader = Reader { words, at: 1 };
-    let label = if reader.next().starts_with('"') { reader.step().trim_matches('"') } else { "" };
-    let makes = match reader.step() {
-        "=" => Makes::Node,
-        "=?" => Makes::NodeOfMany,
-        _ => Makes::Nothing,
-    };
-    Rule { name: words[0], label, makes, form: reader.choice() }
-}
-
-struct Reader<'a> {
-    words: &'a [&'static str],
-    at: usize,
-}
-
-impl Reader<'_> {
-    fn next(&self) -> &'static str {
-        self.words.get(self.at).copied().unwrap_or_default()
-    }
-
-    fn step(&mut self) -> &'static str {
-        self.at += 1;
-        self.words[self.at - 1]
-    }
-
-    fn eat(&mut self, sign: &str) -> bool {
-        let is_next = self.next() == sign;
-        self.at += usize::from(is_next);
-        is_next
-    }
-
+impl Reader {
+    // Reads alternatives up to a `)` or the end.
     fn choice(&mut self) -> Form {
         let mut forms = vec![self.sequence()];
-        while self.eat("/") {
+        while self.words.next_if_eq(&"/").is_some() {
             forms.push(self.sequence());
         }
         if forms.len() == 1 { forms.remove(0) } else { Form::Choice(forms) }
@@ -126,55 +73,58 @@ impl Reader<'_> {
 
     fn sequence(&mut self) -> Form {
         let mut forms = Vec::new();
-        while !["/", ")", ""].contains(&self.next()) {
-            forms.push(self.chain());
+        while let Some(word) = self.words.next_if(|it| *it != "/" && !it.starts_with(')')) {
+            let (least, most) = match word {
+                "<<" => (0, usize::MAX),
+                "<?" => (0, 1),
+                "<!" => (1, 1),
+                _ => {
+                    forms.push(self.form(word));
+                    continue;
+                }
+            };
+            let (first, then) = (forms.pop().map(Box::new), Box::new(self.next()));
+            forms.extend(first.map(|first| Form::Into { first, then, least, most }));
         }
         if forms.len() == 1 { forms.remove(0) } else { Form::Sequence(forms) }
     }
 
-    fn chain(&mut self) -> Form {
-        let first = self.item();
-        let (least, most) = match self.next() {
-            "<<" => (0, usize::MAX),
-            "<?" => (0, 1),
-            "<!" => (1, 1),
-            _ => return first,
-        };
-        self.step();
-        Form::Into { first: Box::new(first), then: Box::new(self.item()), least, most }
+    // Reads the form that begins with the next word.
+    fn next(&mut self) -> Form {
+        let word = self.words.next().unwrap_or("END");
+        self.form(word)
     }
 
-    fn item(&mut self) -> Form {
-        let form = match self.step() {
-            "&" => return Form::Next(Box::new(self.item())),
-            "!" => return Form::Not(Box::new(self.item())),
-            "PLAIN" => return Form::Plain(Box::new(self.item())),
+    fn form(&mut self, word: &'static str) -> Form {
+        let (first, rest) = word.split_at(1);
+        let end = word.find(['?', '*', ',']).unwrap_or(word.len());
+        match first {
+            "&" => Form::Next(Box::new(self.form(rest))),
+            "!" => Form::Not(Box::new(self.form(rest))),
             "(" => {
                 let form = self.choice();
-                self.step();
-                form
+                repeated(form, self.words.next().unwrap_or_default().trim_start_matches(')'))
             }
-            sign @ ("@" | "^") => {
-                let text = self.step().trim_matches('\'');
-                Form::Sign { text, makes_node: sign == "@", may_be_half: sign == "^" }
+            "'" | "@" | "^" => {
+                let (start, end) = (1 + usize::from(first != "'"), word.rfind('\'').unwrap_or(end));
+                let (makes_node, may_be_half) = (first == "@", first == "^");
+                let sign = Form::Sign { text: &word[start..end], makes_node, may_be_half };
+                repeated(sign, &word[end + 1..])
             }
-            word if word.starts_with('\'') => {
-                let text = word.trim_matches('\'');
-                Form::Sign { text, makes_node: false, may_be_half: false }
+            _ if word == "PLAIN" => Form::Plain(Box::new(self.next())),
+            _ if first.starts_with(char::is_uppercase) => {
+                repeated(Form::Token(&word[..end]), &word[end..])
             }
-            name if name.starts_with(|it: char| it.is_ascii_uppercase()) => Form::Token(name),
-            name => Form::Rule(name),
-        };
-        match self.next() {
-            "?" => self.behind(Form::Optional(Box::new(form))),
-            "*" => self.behind(Form::Many(Box::new(form))),
-            ",*" => self.behind(Form::List(Box::new(form))),
-            _ => form,
+            _ => repeated(Form::Rule(&word[..end]), &word[end..]),
         }
     }
+}
 
-    fn behind(&mut self, form: Form) -> Form {
-        self.step();
-        form
+fn repeated(form: Form, sign: &str) -> Form {
+    match sign {
+        "?" => Form::Optional(Box::new(form)),
+        "*" => Form::Many(Box::new(form)),
+        ",*" => Form::List(Box::new(form)),
+        _ => form,
     }
 }

@@ -32,8 +32,8 @@ pub struct Scopes<'a> {
 }
 
 impl<'a> Scopes<'a> {
-    /// Refuses two items of one name, modules without a file, and imports of what is not there. What another module imports can be
-    /// imported in later modules: the root of a crate is its first, and crates are in their order.
+    /// Refuses two items of one name, modules without a file, and imports of what is not there. What another module
+    /// imports can be imported in later modules: the root of a crate is its first, and crates are in their order.
     pub fn new(package: &'a Package) -> Done<Scopes<'a>> {
         let mut scopes = Scopes { package, modules: vec![BTreeMap::new(); package.modules.len()] };
         for (number, module) in package.modules.iter().enumerate() {

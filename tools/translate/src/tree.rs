@@ -22,11 +22,12 @@ impl Node {
         Node { rule, kind, text, span, parts }
     }
 
-    /// Puts a node before the parts of this one. What stands before an item does not count to its part of the source.
-    pub fn begin_with(&mut self, first: Vec<Node>) {
+    /// Puts nodes before its parts. What stands before an item does not count to its part of the source.
+    pub fn begun_with(mut self, first: Vec<Node>) -> Node {
         let begins = first.iter().find(|it| !["notes", "notices"].contains(&it.kind));
         self.span.start = begins.map_or(self.span.start, |it| it.span.start);
         self.parts.splice(0..0, first);
+        self
     }
 
     /// Returns its parts of a kind.
