@@ -220,7 +220,7 @@ impl<'a> Names<'a> {
         let item = self.scopes.item(&found.definition);
         match (&names[found.used..], &found.definition) {
             ([], Definition::Foreign(path)) => may_be_foreign(path, role),
-            ([], Definition::Variant { .. }) => true,
+            ([], Definition::Variant(..)) => true,
             ([], _) => item.is_some_and(|item| may_be(item, role)),
             ([name], Definition::Foreign(_)) => {
                 has(std_names::ASSOCIATED, name) && is_used(name, role)

@@ -7,13 +7,21 @@ use crate::std_names;
 use crate::tree::{Import, Node};
 use std::collections::BTreeMap;
 
+/// An item of a module, or a member of an `impl` or a trait.
+#[derive(Clone, Copy, Debug, PartialEq, Eq, PartialOrd, Ord)]
+pub struct Id {
+    pub module: usize,
+    pub item: usize,
+    pub member: Option<usize>,
+}
+
 /// What a name stands for. Modules and items are numbered as in the package and in the tree of their module.
 #[derive(Clone, Debug, PartialEq, Eq)]
 pub enum Definition {
     Module(usize),
-    Item { module: usize, item: usize },
-    // A variant of the `enum` that this item is.
-    Variant { module: usize, item: usize, variant: usize },
+    Item(Id),
+    // A variant of the `enum` that this item is, by its number.
+    Variant(Id, usize),
     // What is built in or of Rattle's `std`, by its whole path, such as `u8` or `std::fmt::Display`.
     Foreign(String),
 }
@@ -51,7 +59,7 @@ impl<'a> Scopes<'a> {
     fn declare_items(&mut self, number: usize, module: &Module) -> Done<()> {
         for (item, node) in module.items.iter().enumerate() {
             let Some(name) = node.get("name") else { continue };
-            let mut definition = Definition::Item { module: number, item };
+            let mut definition = Definition::Item(Id { module: number, item, member: None });
             if node.kind == "declaration" {
                 let below = [&*module.path, std::slice::from_ref(&name.text)].concat();
                 let found = self.package.find(module.crate_name, &below);
@@ -125,11 +133,11 @@ impl<'a> Scopes<'a> {
         for (before, name) in others.iter().enumerate() {
             let next = match &definition {
                 Definition::Module(module) => Some(self.get(*module, name)?.clone()),
-                Definition::Item { module, item } => self.variant(*module, *item, name),
+                Definition::Item(id) => self.variant(*id, name),
                 Definition::Foreign(path) if std_names::is_known(&format!("{path}::{name}")) => {
                     Some(foreign(&[path, name]))
                 }
-                Definition::Foreign(_) | Definition::Variant { .. } => None,
+                Definition::Foreign(_) | Definition::Variant(..) => None,
             };
             let Some(next) = next else { return Some(Resolved { definition, used: before + 1 }) };
             definition = next;
@@ -139,10 +147,7 @@ impl<'a> Scopes<'a> {
 
     /// Returns the item that a definition is.
     pub fn item(&self, definition: &Definition) -> Option<&'a Node> {
-        match definition {
-            Definition::Item { module, item } => Some(&self.module(*module).items[*item]),
-            _ => None,
-        }
+        definition.item().map(|id| &self.module(id.module).items[id.item])
     }
 
     /// Returns a module by its number.
@@ -161,10 +166,16 @@ impl<'a> Scopes<'a> {
     }
 
     // Returns a variant, if the item is an `enum` that has it.
-    fn variant(&self, module: usize, item: usize, name: &str) -> Option<Definition> {
-        let mut variants = self.module(module).items[item].all("variant");
-        let variant = variants.position(|it| it.name() == name)?;
-        Some(Definition::Variant { module, item, variant })
+    fn variant(&self, id: Id, name: &str) -> Option<Definition> {
+        let mut variants = self.module(id.module).items[id.item].all("variant");
+        Some(Definition::Variant(id, variants.position(|it| it.name() == name)?))
+    }
+}
+
+impl Definition {
+    /// Returns the item that it is.
+    pub fn item(&self) -> Option<Id> {
+        if let Definition::Item(id) = self { Some(*id) } else { None }
     }
 }
 

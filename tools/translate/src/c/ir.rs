@@ -1,26 +1,15 @@
 //! The typed form between the trees and C. Control flow and effects are statements, and `lower` puts terms into the
 //! order of Rust.
 
+pub use crate::resolve::Id;
 pub use crate::source::Done;
 use crate::source::Span;
 use crate::tree::is_comparison;
 use std::collections::BTreeMap;
 
-/// An item of a module, or a member of an `impl` or a trait.
+/// A type of integers, by its name in Rust.
 #[derive(Clone, Copy, Debug, PartialEq, Eq, PartialOrd, Ord)]
-pub struct Id {
-    pub module: usize,
-    pub item: usize,
-    pub member: Option<usize>,
-}
-
-#[derive(Clone, Copy, Debug, PartialEq, Eq, PartialOrd, Ord)]
-pub struct Integer {
-    pub bits: u32,
-    pub is_signed: bool,
-    /// Whether it is `usize` or `isize`.
-    pub is_size: bool,
-}
+pub struct Integer(pub &'static str);
 
 /// A type. A shared reference is the type of what it refers to, as nothing changes while it lives.
 #[derive(Clone, Debug, PartialEq, Eq, PartialOrd, Ord)]
@@ -151,13 +140,35 @@ pub const NONE: usize = 1;
 pub const OK: usize = 0;
 pub const ERR: usize = 1;
 
+impl Integer {
+    pub fn bits(self) -> u32 {
+        self.0[1..].parse().unwrap_or(64)
+    }
+
+    pub fn is_signed(self) -> bool {
+        self.0.starts_with('i')
+    }
+
+    /// Returns its name in other names of C.
+    pub fn name(self) -> &'static str {
+        if self.0 == "usize" { "size" } else { self.0 }
+    }
+
+    /// Returns the type of C.
+    pub fn type_name(self) -> String {
+        match (self.bits(), self.is_signed()) {
+            _ if self.0 == "usize" => "size_t".into(),
+            (128, _) => format!("tk_{}", self.0),
+            (bits, true) => format!("int{bits}_t"),
+            (bits, false) => format!("uint{bits}_t"),
+        }
+    }
+}
+
 impl Type {
     pub const UNIT: Type = Type::Of(Form::Tuple, Vec::new());
-    pub const SIZE: Type = Type::Integer(Integer { bits: 64, is_signed: false, is_size: true });
-    pub const BYTE: Type = Type::Integer(Integer { bits: 8, is_signed: false, is_size: false });
-    pub const I32: Type = Type::Integer(Integer { bits: 32, is_signed: true, is_size: false });
-    pub const U64: Type = Type::Integer(Integer { bits: 64, is_signed: false, is_size: false });
-    pub const U32: Type = Type::Integer(Integer { bits: 32, is_signed: false, is_size: false });
+    pub const SIZE: Type = Type::Integer(Integer("usize"));
+    pub const BYTE: Type = Type::Integer(Integer("u8"));
 
     pub fn slice(element: Type, is_mutable: bool) -> Type {
         Type::Of(Form::Slice { is_mutable }, vec![element])

@@ -18,7 +18,7 @@ use instances::Instances;
 use ir::{Bindings, Callee, Done, Form, Function, Type};
 use std::collections::BTreeSet;
 use std::path::Path;
-use world::{World, item_of};
+use world::World;
 
 /// The types whose calls C has.
 pub const TYPES: [&str; 10] =
@@ -170,7 +170,7 @@ fn callees(world: &World, crate_name: &str, path: &str, types: &[&str]) -> Done<
     let module = world.package.find(crate_name, &[]).ok_or_else(missing)?;
     let item = |name: &str| {
         let found = world.scopes.resolve(module, &[name]);
-        found.and_then(|it| item_of(it.definition)).ok_or_else(missing)
+        found.and_then(|it| it.definition.item()).ok_or_else(missing)
     };
     let mut found: Vec<Callee> = Vec::new();
     for of in types.iter().filter_map(|it| world::integer(it)) {

@@ -234,7 +234,7 @@ impl<'a> Printer<'a> {
 
     fn assign(&mut self, place: &Term, value: &Term) -> Done<()> {
         let target = self.term(place)?;
-        let is_short = place.of.integer().is_some_and(|it| (32..=64).contains(&it.bits));
+        let is_short = place.of.integer().is_some_and(|it| (32..=64).contains(&it.bits()));
         let is_sum = value.kind == Kind::Binary("+") && !self.is_checked;
         let mut text = format!("{} = {}", target.text, self.term(value)?.text);
         if is_sum && is_short && self.term(&value.parts[0])?.text == target.text {

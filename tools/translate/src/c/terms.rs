@@ -4,7 +4,7 @@ use super::ir::{Done, Form, Id, Integer, Kind, PLAIN, Term, Type};
 use super::lower;
 use super::print::{Printer, explained};
 use super::text::{self, AND, ATOM, CHOICE, EQUALITY, OR, SHIFT, SUM, Text, UNARY};
-use super::types::{declared, integer_name, integer_type};
+use super::types::declared;
 use crate::source::Fault;
 use crate::tree::{is_comparison, is_shift};
 
@@ -39,7 +39,7 @@ pub fn print(printer: &mut Printer, term: &Term) -> Done<Text> {
         }
         Kind::Small(name) => {
             let own = term.parts[0].of.integer().or(term.of.integer());
-            let name = own.map_or(String::new(), |own| format!("{}_{name}", integer_name(own)));
+            let name = own.map_or(String::new(), |own| format!("{}_{name}", own.name()));
             if !SMALL.split(' ').any(|it| it == name) {
                 return Err(refuse(printer, term, "this operation"));
             }
@@ -122,18 +122,18 @@ fn number(value: u128, hexadecimal: usize, of: &Type) -> Option<Text> {
         0 => value.to_string(),
         width => format!("0x{value:0width$X}"),
     };
-    Some(Text::atom(match integer.bits {
+    Some(Text::atom(match integer.bits() {
         128 => {
-            let (name, high) = (integer_name(integer), value >> 64);
-            let low = number(u128::from(value as u64), 0, &Type::U64)?.text;
+            let (name, high) = (integer.name(), value >> 64);
+            let low = number(u128::from(value as u64), 0, &Type::Integer(Integer("u64")))?.text;
             match high {
                 0 => format!("tk_{name}_of({low})"),
                 _ => format!("tk_{name}_make(UINT64_C({high}), {low})"),
             }
         }
         _ if value <= 0x7FFF_FFFF => digits,
-        32 if !integer.is_signed => format!("{digits}u"),
-        64 if !integer.is_signed => format!("UINT64_C({digits})"),
+        32 if !integer.is_signed() => format!("{digits}u"),
+        64 if !integer.is_signed() => format!("UINT64_C({digits})"),
         _ => return None,
     }))
 }
@@ -191,33 +191,33 @@ pub fn initializer(printer: &mut Printer, value: &Term) -> Done<String> {
 
 fn cast(printer: &Printer, inner: &Term, text: &Text, of: &Type) -> Done<Text> {
     let to = of.integer().ok_or_else(|| refuse(printer, inner, "a cast to this type"))?;
-    let (name, value) = (integer_name(to), &text.text);
+    let (name, value) = (to.name(), &text.text);
     let Some(from) = inner.of.integer() else {
-        return match (&inner.of, to.bits) {
+        return match (&inner.of, to.bits()) {
             (Type::Boolean, 128) => Ok(Text::atom(format!("tk_{name}_of({value})"))),
             (Type::Boolean, 64) if name == "u64" => Ok(Text::atom(format!("tk_bit({value})"))),
             (Type::Boolean, _) => Ok(cast_to(to, text)),
             _ => Err(refuse(printer, inner, "a cast of this type")),
         };
     };
-    let from_name = integer_name(from);
-    Ok(match (from.bits, to.bits) {
+    let from_name = from.name();
+    Ok(match (from.bits(), to.bits()) {
         _ if from == to => Text::new(value.clone(), text.level),
         (128, 128) => Text::atom(format!("tk_{from_name}_as_{name}({value})")),
-        (_, 128) if from.is_signed => {
+        (_, 128) if from.is_signed() => {
             return Err(refuse(printer, inner, "a signed number of 128 bits"));
         }
         (_, 128) => Text::atom(format!("tk_{name}_of({value})")),
         (128, bits) => {
             let low = Text::atom(format!("tk_{from_name}_low({value})"));
-            if bits == 64 && !to.is_signed { low } else { cast_to(to, &low) }
+            if bits == 64 && !to.is_signed() { low } else { cast_to(to, &low) }
         }
         _ => cast_to(to, text),
     })
 }
 
 fn cast_to(to: Integer, text: &Text) -> Text {
-    Text::atom(format!("TK_CAST({}, {})", integer_type(to), text.text))
+    Text::atom(format!("TK_CAST({}, {})", to.type_name(), text.text))
 }
 
 fn made(printer: &mut Printer, variant: usize, texts: &[Text], of: &Type) -> Done<Text> {
@@ -262,7 +262,7 @@ fn binary(
     mut texts: Vec<Text>,
 ) -> Done<Text> {
     let own = match term.parts[0].of {
-        Type::Integer(own) if own.bits == 128 => {
+        Type::Integer(own) if own.bits() == 128 => {
             return Ok(wide(own, operator, is_wrapping, texts));
         }
         Type::Integer(own) => Some(own).filter(|_| !is_comparison(operator)),
@@ -271,19 +271,19 @@ fn binary(
     };
     let level = known(operator).0;
     let Some(own) = own else { return Ok(Text::new(joined(operator, &texts), level)) };
-    if is_wrapping && (own.is_signed || own.bits < 32) {
+    if is_wrapping && (own.is_signed() || own.bits() < 32) {
         return Err(refuse(printer, term, "a wrapping operation on this type"));
     }
     // A product or a shift of 16 bits may be more than an `int`.
-    if own.bits < 32 && matches!(operator, "*" | "<<") {
+    if own.bits() < 32 && matches!(operator, "*" | "<<") {
         return Err(refuse(printer, term, "this operation on so few bits"));
     }
-    if is_shift(operator) && own.is_signed {
+    if is_shift(operator) && own.is_signed() {
         return Err(refuse(printer, term, "a shift of a signed number"));
     }
     // A literal would be an `int`.
     if let (true, Kind::Number { value, .. }) = (is_shift(operator), &term.parts[0].kind) {
-        let is_long = own.bits == 64;
+        let is_long = own.bits() == 64;
         texts[0].text = if is_long { format!("UINT64_C({value})") } else { format!("{value}u") };
     }
     let checked = if is_wrapping { None } else { checked(printer, own, operator) };
@@ -299,7 +299,7 @@ fn wide(own: Integer, operator: &str, is_wrapping: bool, mut texts: Vec<Text>) -
         texts.reverse();
     }
     let wrapping = if is_wrapping { "wrapping_" } else { "" };
-    let name = format!("tk_{}_{wrapping}{}", integer_name(own), known(operator).1);
+    let name = format!("tk_{}_{wrapping}{}", own.name(), known(operator).1);
     let call = call(name, &texts);
     match operator {
         "!=" | "<=" | ">=" => Text::new(format!("!{}", call.text), UNARY),
@@ -323,11 +323,11 @@ fn joined(sign: &str, texts: &[Text]) -> String {
 // Adds a function that asserts what is proved of the operands of an operator, if that is wanted, and returns its name.
 fn checked(printer: &mut Printer, own: Integer, operator: &str) -> Option<String> {
     let (_, function, proved) = known(operator);
-    if !printer.is_checked || own.is_signed || proved.is_empty() {
+    if !printer.is_checked || own.is_signed() || proved.is_empty() {
         return None;
     }
-    let (of, name) = (integer_type(own), format!("tk_{}_{function}", integer_name(own)));
-    let check = proved.replace("TYPE", &of).replace("BITS", &own.bits.to_string());
+    let (of, name) = (own.type_name(), format!("tk_{}_{function}", own.name()));
+    let check = proved.replace("TYPE", &of).replace("BITS", &own.bits().to_string());
     let second = if is_shift(operator) { "uint64_t" } else { of.as_str() };
     let value = narrow(own, Text::new(format!("a {operator} b"), 0)).text;
     printer.small(&name, &format!("{of} {name}({of} a, {second} b)"), &check, &value);
@@ -336,5 +336,5 @@ fn checked(printer: &mut Printer, own: Integer, operator: &str) -> Option<String
 
 // C computes with `int` where a type has fewer bits.
 fn narrow(own: Integer, text: Text) -> Text {
-    if own.bits < 32 { cast_to(own, &text) } else { text }
+    if own.bits() < 32 { cast_to(own, &text) } else { text }
 }

@@ -1,6 +1,6 @@
 //! The types of C: their names, and the structs that stand for tuples, `Option`, `Result`, structs and enums.
 
-use super::ir::{Done, Form, Integer, NONE, Type};
+use super::ir::{Done, Form, NONE, Type};
 use super::print::{Printer, explained};
 use super::text::{self, EQUALITY, Text, UNARY};
 use super::world::{Variant, World};
@@ -24,7 +24,7 @@ const RENAMED: [(&str, &str); 1] = [("AtoiSimdError", "error")];
 /// Returns a name for a type that can be part of other names.
 pub fn short(world: &World, of: &Type) -> String {
     match of {
-        Type::Integer(integer) => integer_name(*integer),
+        Type::Integer(integer) => integer.name().into(),
         Type::Boolean => "bool".into(),
         Type::Of(form, parts) => short_of(world, *form, parts),
         _ => "unknown".into(),
@@ -56,7 +56,7 @@ impl Printer<'_> {
     /// Returns a type as C names it, and defines it before.
     pub fn name(&mut self, of: &Type) -> Done<String> {
         Ok(match of {
-            Type::Integer(integer) => integer_type(*integer),
+            Type::Integer(integer) => integer.type_name(),
             Type::Boolean => "bool".into(),
             Type::Of(Form::Array { .. }, parts) => format!("const {} *", self.name(&parts[0])?),
             Type::Of(Form::Pointer, parts) => match &parts[0] {
@@ -229,7 +229,7 @@ impl Printer<'_> {
     // Returns a value for a member that is not used: `None`, or one of the first variant.
     fn zero(&self, of: &Type) -> Done<String> {
         Ok(match of {
-            Type::Integer(it) if it.bits == 128 => format!("tk_{}_of(0)", integer_name(*it)),
+            Type::Integer(it) if it.bits() == 128 => format!("tk_{}_of(0)", it.name()),
             Type::Integer(_) => "0".into(),
             Type::Boolean => "false".into(),
             Type::Of(Form::Array { .. } | Form::Pointer, _) => "NULL".into(),
@@ -247,21 +247,4 @@ impl Printer<'_> {
 /// Returns a declaration of a name.
 pub fn declared(of: &str, name: &str) -> String {
     if of.ends_with('*') { format!("{of}{name}") } else { format!("{of} {name}") }
-}
-
-pub fn integer_name(integer: Integer) -> String {
-    match (integer.is_size, integer.is_signed) {
-        (true, _) => "size".into(),
-        (_, false) => format!("u{}", integer.bits),
-        (_, true) => format!("i{}", integer.bits),
-    }
-}
-
-pub fn integer_type(integer: Integer) -> String {
-    match integer {
-        Integer { is_size: true, .. } => "size_t".into(),
-        Integer { bits: 128, .. } => format!("tk_{}", integer_name(integer)),
-        Integer { bits, is_signed: true, .. } => format!("int{bits}_t"),
-        Integer { bits, .. } => format!("uint{bits}_t"),
-    }
 }

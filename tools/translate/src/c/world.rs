@@ -5,6 +5,7 @@ use crate::lexer::number;
 use crate::modules::{Module, Package};
 use crate::resolve::{Definition, Resolved, Scopes};
 use crate::source::{Fault, Source, Span};
+use crate::std_names::INTEGERS;
 use crate::tree::Node;
 
 pub struct World<'a> {
@@ -83,7 +84,7 @@ impl<'a> World<'a> {
     }
 
     fn trait_of(&self, module: usize, path: &Node) -> Option<Id> {
-        item_of(self.resolve(module, path)?.definition)
+        self.resolve(module, path)?.definition.item()
     }
 
     /// Returns the place in an item: what it and its owner declare, and what is known of that.
@@ -141,11 +142,11 @@ impl<'a> World<'a> {
         let arguments = path[path.len() - 1].last().parts.iter();
         let arguments = arguments.map(|argument| self.type_in(place, argument));
         let arguments = arguments.collect::<Done<Vec<Type>>>()?;
-        if let Definition::Foreign(name) = found.definition {
-            return foreign_type(&name, arguments).ok_or_else(unknown);
+        if let Definition::Foreign(name) = &found.definition {
+            return foreign_type(name, arguments).ok_or_else(unknown);
         }
         let is_whole = found.used == path.len();
-        let id = item_of(found.definition).filter(|_| is_whole).ok_or_else(unknown)?;
+        let id = found.definition.item().filter(|_| is_whole).ok_or_else(unknown)?;
         match self.item(id).kind {
             "struct" | "enum" => Ok(Type::Of(Form::Item(id), arguments)),
             "alias" => self.type_in(&self.place_of(id, &arguments)?, self.item(id).last()),
@@ -292,24 +293,10 @@ fn matched(target: &Type, of: &Type) -> Option<Bindings> {
     }
 }
 
-/// Returns the item that a definition is.
-pub fn item_of(definition: Definition) -> Option<Id> {
-    match definition {
-        Definition::Item { module, item } => Some(Id { module, item, member: None }),
-        _ => None,
-    }
-}
-
 /// Returns a type of integers by its name.
 pub fn integer(name: &str) -> Option<Type> {
-    let (is_signed, bits) = (name.starts_with('i'), name.get(1..)?);
-    let bits = match bits {
-        "8" | "16" | "32" | "64" | "128" => bits.parse().ok()?,
-        _ if name == "usize" => return Some(Type::SIZE),
-        _ => return None,
-    };
-    let is_known = is_signed || name.starts_with('u');
-    is_known.then_some(Type::Integer(Integer { bits, is_signed, is_size: false }))
+    let known = INTEGERS.iter().find(|it| **it == name && name != "isize");
+    known.map(|name| Type::Integer(Integer(name)))
 }
 
 fn foreign_type(name: &str, arguments: Vec<Type>) -> Option<Type> {

@@ -2,7 +2,7 @@
 
 use super::{Done, Lowering, signature};
 use crate::c::ir::{Bindings, Callee, Kind, PLAIN, Term, Type};
-use crate::c::world::{integer, item_of};
+use crate::c::world::integer;
 use crate::resolve::Definition;
 use crate::tree::Node;
 
@@ -28,7 +28,7 @@ impl Lowering<'_, '_> {
             Some(Definition::Foreign(name)) if name == "std::marker::PhantomData" => {
                 return Ok(self.make(Kind::Make(PLAIN), Vec::new(), Type::Marker));
             }
-            found => found.and_then(item_of),
+            found => found.and_then(|it| it.item()),
         };
         match id.filter(|id| self.world.item(*id).kind == "constant") {
             Some(id) => {
@@ -81,7 +81,7 @@ impl Lowering<'_, '_> {
         let is_own = self.place.bindings.contains_key(first.name());
         let found = self.world.resolve(self.place.module, path);
         let is_type =
-            found.is_some_and(|it| it.used == before.len() && item_of(it.definition).is_some());
+            found.is_some_and(|it| it.used == before.len() && it.definition.item().is_some());
         if !(is_own && before.len() == 1 || is_type) {
             return Ok(None);
         }
@@ -104,7 +104,7 @@ impl Lowering<'_, '_> {
             let of = integer(owner).filter(|_| matches!(*name, "from" | "from_le_bytes"));
             if let Some(of) = of {
                 let value = self.any(argument)?;
-                let length = of.integer().map_or(0, |it| u128::from(it.bits) / 8);
+                let length = of.integer().map_or(0, |it| u128::from(it.bits()) / 8);
                 if *name == "from" {
                     return Ok(self.make(Kind::Cast, vec![value], of));
                 }
@@ -115,7 +115,7 @@ impl Lowering<'_, '_> {
         let found = match self.owner(path)? {
             Some((owner, name)) => self.member(&owner, name)?,
             None => {
-                let id = self.definition(path).and_then(item_of);
+                let id = self.definition(path).and_then(|it| it.item());
                 id.map(|id| Callee { id, bindings: Bindings::new() })
             }
         };
@@ -202,10 +202,10 @@ fn limit(path: &Node) -> Option<(u128, Type)> {
     let [owner, name] = path.names()[..] else { return None };
     let of = integer(owner)?;
     let integer = of.integer()?;
-    let greatest = u128::MAX >> (128 - integer.bits + u32::from(integer.is_signed));
+    let greatest = u128::MAX >> (128 - integer.bits() + u32::from(integer.is_signed()));
     match name {
         "MAX" => Some((greatest, of)),
-        "MIN" => Some((if integer.is_signed { greatest + 1 } else { 0 }, of)),
+        "MIN" => Some((if integer.is_signed() { greatest + 1 } else { 0 }, of)),
         _ => None,
     }
 }

@@ -1,7 +1,9 @@
 //! The types of variables, by unification. What has no rule here is refused.
 
 use super::{Done, Lowering};
-use crate::c::ir::{Callee, Form, Function, Kind, Statement, Term, Type, all_kinds, each_term};
+use crate::c::ir::{
+    Callee, Form, Function, Integer, Kind, Statement, Term, Type, all_kinds, each_term,
+};
 
 impl Lowering<'_, '_> {
     /// Returns a type that is not known yet.
@@ -23,7 +25,7 @@ impl Lowering<'_, '_> {
     /// Returns a type with all that is known. Integers that nothing decides are `i32`, as in Rust.
     pub fn full(&self, of: &Type) -> Type {
         match self.known(of) {
-            Type::Variable { is_integer: true, .. } => Type::I32,
+            Type::Variable { is_integer: true, .. } => Type::Integer(Integer("i32")),
             found => found.map(&mut |part| self.full(part)),
         }
     }

@@ -2,6 +2,7 @@
 
 use super::{Done, Lowering};
 use crate::c::ir::{Form, Integer, Kind, OK, Statement, Term, Type};
+use crate::c::world::integer;
 use crate::lexer::number;
 use crate::tree::Node;
 
@@ -71,9 +72,10 @@ impl Lowering<'_, '_> {
             ("min", 2) => (Kind::Small("min"), of),
             ("max", 2) => (Kind::Small("max"), of),
             ("is_ascii_digit", 1) => (Kind::Small("is_digit"), Type::Boolean),
-            ("trailing_zeros", 1) => (Kind::Small("trailing_zeros"), Type::U32),
+            ("trailing_zeros", 1) => (Kind::Small("trailing_zeros"), Type::Integer(Integer("u32"))),
             ("unsigned_abs", 1) => {
-                (Kind::Small("unsigned_abs"), Type::Integer(Integer { is_signed: false, ..own }))
+                let unsigned = integer(&own.0.replace('i', "u")).unwrap_or(of);
+                (Kind::Small("unsigned_abs"), unsigned)
             }
             ("checked_add", 2) => return Ok(self.checked("sum_fits", "+", terms)),
             ("checked_mul", 2) => return Ok(self.checked("product_fits", "*", terms)),

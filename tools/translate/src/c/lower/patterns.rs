@@ -2,7 +2,6 @@
 
 use super::{Done, Lowering, Target};
 use crate::c::ir::{ERR, Form, Kind, NONE, OK, PLAIN, SOME, Term, Type};
-use crate::c::world::item_of;
 use crate::resolve::Definition;
 use crate::tree::Node;
 use std::cmp::Ordering;
@@ -145,8 +144,7 @@ impl Lowering<'_, '_> {
         let found = self.world.resolve(self.place.module, path)?;
         match found.definition {
             _ if found.used != path.parts.len() => None,
-            Definition::Variant { module, item, variant } => {
-                let id = item_of(Definition::Item { module, item })?;
+            Definition::Variant(id, variant) => {
                 Some((Type::Of(Form::Item(id), Vec::new()), variant))
             }
             Definition::Foreign(name) => {
