@@ -33,7 +33,7 @@ hint               = '#' '!' '[' hint_to_prover ']'
 hint_to_prover     ~ 'tactic' '(' argument_of_hint,* ')'
 argument_of_hint   ~ WORD ( '::' argument_of_hint )? ( '(' argument_of_hint,* ')' )? -- a hint to the prover
 
-name               ~ NAME -- a name
+name               ~ NAME
 name.crate         = 'crate'
 name.all           = '*'
 name.self          = 'self'

@@ -1,4 +1,4 @@
-//! Reads the tokens of a source. What is no token of Rattle is refused.
+//! Reads the tokens of a source. What is a token only in clauses, or in none of our sources, is of the last kind.
 
 use crate::source::{Done, Source, Span};
 
@@ -7,7 +7,6 @@ pub enum TokenKind {
     /// A name or a keyword.
     Name,
     Lifetime,
-    /// A whole number, without a suffix.
     Integer,
     Byte,
     /// A text, or the bytes of one, with its quotes.
@@ -16,10 +15,7 @@ pub enum TokenKind {
     Symbol,
     /// A line that documents what follows, `/// ..`.
     Doc,
-    /// A clause, from its `{` to the `}` that closes it.
-    Clause,
-    /// What a `ghost use` imports, up to its `;`.
-    GhostPath,
+    Other,
     End,
 }
 
@@ -63,11 +59,7 @@ struct Lexer<'a> {
 impl<'a> Lexer<'a> {
     fn run(mut self) -> Done<Vec<Token>> {
         while !self.skip_space().is_empty() {
-            match self.token()? {
-                "requires" | "ensures" => self.contract()?,
-                "ghost" => self.ghost()?,
-                _ => {}
-            }
+            self.token()?;
         }
         self.push(TokenKind::End, 0);
         Ok(self.tokens)
@@ -93,12 +85,11 @@ impl<'a> Lexer<'a> {
         Err(self.source.fault(Span { start: self.at, end: self.at }, reason))
     }
 
-    // Adds the next `length` bytes as a token, and returns its text.
-    fn push(&mut self, kind: TokenKind, length: usize) -> &'a str {
+    // Adds the next `length` bytes as a token.
+    fn push(&mut self, kind: TokenKind, length: usize) {
         let span = Span { start: self.at, end: self.at + length };
         self.at = span.end;
         self.tokens.push(Token { kind, span, comments: std::mem::take(&mut self.comments) });
-        self.source.at(span)
     }
 
     // Skips spaces, ends of lines and comments, and returns what follows them.
@@ -118,127 +109,83 @@ impl<'a> Lexer<'a> {
         }
     }
 
-    // Reads a token, and returns its text.
-    fn token(&mut self) -> Done<&'a str> {
+    fn token(&mut self) -> Done<()> {
         let rest = self.rest();
         let name = name_length(rest);
         if RAW.contains(&&rest[..name]) && rest[name..].starts_with(['"', '#']) {
             return self.refuse("a raw text, a raw name or a text of C");
         }
-        Ok(match rest.as_bytes() {
-            [b'/', b'/', ..] => self.push(TokenKind::Doc, line_length(rest)),
+        let (kind, length) = match rest.as_bytes() {
+            [b'/', b'/', ..] => (TokenKind::Doc, line_length(rest)),
             [b'/', b'*', ..] => return self.refuse("a comment between `/*` and `*/`"),
-            [b'"', ..] => self.quoted(TokenKind::Text, 0)?,
-            [b'b', b'"', ..] => self.quoted(TokenKind::Text, 1)?,
-            [b'b', b'\'', ..] => self.quoted(TokenKind::Byte, 1)?,
+            [b'"', ..] => (TokenKind::Text, quoted_length(rest, 0)),
+            [b'b', b'"', ..] => (TokenKind::Text, quoted_length(rest, 1)),
+            [b'b', b'\'', ..] => (TokenKind::Byte, quoted_length(rest, 1)),
             [b'\'', ..] if name_length(&rest[1..]) > 0 => {
-                self.push(TokenKind::Lifetime, 1 + name_length(&rest[1..]))
+                (TokenKind::Lifetime, 1 + name_length(&rest[1..]))
             }
-            [b'0'..=b'9', ..] if number(&rest[..name]).is_none() => {
-                return self.refuse(format!("`{}` is not known here", &rest[..name]));
-            }
-            [b'0'..=b'9', ..] => self.push(TokenKind::Integer, name),
-            _ if name > 0 => self.push(TokenKind::Name, name),
-            _ => self.symbol()?,
-        })
-    }
-
-    fn symbol(&mut self) -> Done<&'a str> {
-        let rest = self.rest();
-        if let Some(symbol) = SYMBOLS.iter().find(|symbol| rest.starts_with(**symbol)) {
-            return Ok(self.push(TokenKind::Symbol, symbol.len()));
-        }
-        match rest.chars().next() {
-            Some(first) if SINGLE.contains(first) => Ok(self.push(TokenKind::Symbol, 1)),
-            first => self.refuse(format!("`{}` outside of a clause", first.unwrap_or(' '))),
-        }
-    }
-
-    // Reads a text or byte whose first quote is at `from`.
-    fn quoted(&mut self, kind: TokenKind, from: usize) -> Done<&'a str> {
-        let rest = self.rest().as_bytes();
-        let mut inner = rest.iter().enumerate().skip(from + 1);
-        while let Some((offset, byte)) = inner.next() {
-            match byte {
-                b'\\' => _ = inner.next(),
-                b'\n' => break,
-                _ if *byte == rest[from] => {
-                    let text = &self.rest()[..=offset];
-                    let is_right = |it: Vec<u8>| kind == TokenKind::Text || it.len() == 1;
-                    return match bytes(text).is_some_and(is_right) {
-                        true => Ok(self.push(kind, offset + 1)),
-                        false => self.refuse(format!("`{text}` is not known here")),
-                    };
-                }
-                _ => {}
-            }
-        }
-        self.refuse("a text without its last quote on the same line")
-    }
-
-    // Reads the name of a clause, if it has one, and the clause.
-    fn contract(&mut self) -> Done<()> {
-        let name = name_length(self.skip_space());
-        if name > 0 {
-            self.push(TokenKind::Name, name);
-        }
-        self.clause()
-    }
-
-    // Reads what follows `ghost`: `use PATH;`, `NAME: {..}` or `NAME = {..}`.
-    fn ghost(&mut self) -> Done<()> {
-        let name = name_length(self.skip_space());
-        if self.push(TokenKind::Name, name) == "use" {
-            return self.ghost_path();
-        }
-        if name == 0 || !self.skip_space().starts_with([':', '=']) {
-            return self.refuse("a ghost item without `:` or `=`");
-        }
-        self.push(TokenKind::Symbol, 1);
-        self.clause()
-    }
-
-    // Reads the path of a `ghost use`. The parser reads the `;` behind it.
-    fn ghost_path(&mut self) -> Done<()> {
-        let Some((path, _)) = self.skip_space().split_once(';') else {
-            return self.refuse("a `ghost use` without `;`");
+            [b'0'..=b'9', ..] => (TokenKind::Integer, name),
+            _ if name > 0 => (TokenKind::Name, name),
+            _ => (TokenKind::Symbol, symbol_length(rest)),
         };
-        if path.contains('"') || HIDING.iter().any(|sign| path.contains(sign)) {
-            return self.refuse("a comment or a text in a `ghost use`");
+        match length {
+            0 => self.push(TokenKind::Other, rest.chars().next().map_or(0, char::len_utf8)),
+            length => self.push(kind, length),
         }
-        if ghost_names(path).is_none() {
-            return self.refuse("a `ghost use` that is not `MODULE.{NAMES}`");
-        }
-        self.push(TokenKind::GhostPath, path.len());
         Ok(())
     }
+}
 
-    // Reads a clause. It is not Rust: its names may have any characters. What could hide a brace is refused, so that
-    // its braces are those that Rattle counts.
-    fn clause(&mut self) -> Done<()> {
-        let rest = self.skip_space();
-        if !rest.starts_with('{') {
-            return self.refuse("a clause without `{`");
+fn symbol_length(rest: &str) -> usize {
+    let single = usize::from(rest.starts_with(|first| SINGLE.contains(first)));
+    SYMBOLS.iter().find(|symbol| rest.starts_with(**symbol)).map_or(single, |it| it.len())
+}
+
+// Returns the length of a text or byte whose first quote is at `from`, if it ends on the same line, or 0.
+fn quoted_length(rest: &str, from: usize) -> usize {
+    let quote = rest.as_bytes()[from];
+    let mut bytes = rest.bytes().enumerate().skip(from + 1);
+    while let Some((offset, byte)) = bytes.next() {
+        match byte {
+            b'\\' => _ = bytes.next(),
+            b'\n' => return 0,
+            _ if byte == quote => return offset + 1,
+            _ => {}
         }
-        let (mut depth, mut in_text) = (0, false);
-        for (offset, character) in rest.char_indices() {
-            if let Some(sign) = HIDING.iter().find(|sign| rest[offset..].starts_with(**sign)) {
-                return self.refuse(format!("`{sign}` in a clause"));
-            }
-            match character {
-                '"' => in_text = !in_text,
-                '\n' if in_text => return self.refuse("an unbalanced quote in a clause"),
-                '{' if !in_text => depth += 1,
-                '}' if !in_text => depth -= 1,
-                _ => {}
-            }
-            if depth == 0 {
-                self.push(TokenKind::Clause, offset + 1);
-                return Ok(());
-            }
-        }
-        self.refuse("a clause without its last `}`")
     }
+    0
+}
+
+/// Returns the length of the clause at the start of `rest`. It is not Rust: its names may have any characters. What
+/// could hide a brace is refused, so that its braces are those that Rattle counts.
+pub fn clause_length(rest: &str) -> Result<usize, String> {
+    let (mut depth, mut in_text) = (0, false);
+    for (offset, character) in rest.char_indices() {
+        if let Some(sign) = HIDING.iter().find(|sign| rest[offset..].starts_with(**sign)) {
+            return Err(format!("`{sign}` in a clause"));
+        }
+        match character {
+            '"' => in_text = !in_text,
+            '\n' if in_text => return Err("an unbalanced quote in a clause".into()),
+            '{' if !in_text => depth += 1,
+            '}' if !in_text => depth -= 1,
+            _ => {}
+        }
+        if depth == 0 {
+            return Ok(offset + character.len_utf8());
+        }
+    }
+    Err("a clause without its last `}`".into())
+}
+
+/// Returns the length of the path of a `ghost use`, up to its `;`.
+pub fn ghost_length(rest: &str) -> Result<usize, String> {
+    let path = rest.split(';').next().unwrap_or_default().trim_end();
+    if path.contains('"') || HIDING.iter().any(|sign| path.contains(sign)) {
+        return Err("a comment or a text in a `ghost use`".into());
+    }
+    let length = ghost_names(path).map(|_| path.len());
+    length.ok_or_else(|| "a `ghost use` that is not `MODULE.{NAMES};`".into())
 }
 
 fn line_length(rest: &str) -> usize {

@@ -1,7 +1,7 @@
 //! Reads the tree of a source by the rules of the grammar. What they do not take is refused, at the last token that
 //! they reach.
 
-use crate::lexer::{Token, TokenKind, lex};
+use crate::lexer::{Token, TokenKind, bytes, clause_length, ghost_length, lex, number};
 use crate::notation::{Form, RULES};
 use crate::source::{Done, Fault, Source, Span};
 use crate::std_names::{has, is_capital};
@@ -25,10 +25,11 @@ pub fn parse(source: &Source, rule: &str) -> Done<Vec<Node>> {
         furthest: 0,
         expected: Vec::new(),
         nodes: Vec::new(),
+        fault: None,
     };
     match parser.rule(rule) {
         true => Ok(parser.nodes.remove(0).parts),
-        false => Err(parser.fault()),
+        false => Err(parser.fault.take().unwrap_or_else(|| parser.unexpected())),
     }
 }
 
@@ -46,6 +47,8 @@ struct Parser<'a> {
     expected: Vec<&'static str>,
     // The nodes that were made, and are no parts of others yet.
     nodes: Vec<Node>,
+    // What is wrong in a clause.
+    fault: Option<Fault>,
 }
 
 impl<'a> Parser<'a> {
@@ -58,8 +61,8 @@ impl<'a> Parser<'a> {
         &self.source.at(self.token().span)[self.at % 2..]
     }
 
-    // Says why a source is refused, at the last token that was reached.
-    fn fault(&mut self) -> Fault {
+    // Says that the last token that was reached is not what was expected.
+    fn unexpected(&mut self) -> Fault {
         self.at = self.furthest;
         let found = match self.token().kind {
             TokenKind::End => "the end of the file".into(),
@@ -212,30 +215,55 @@ impl<'a> Parser<'a> {
     // Reads a token by the name of its kind, or what else has such a name.
     fn token_of(&mut self, name: &'static str) -> bool {
         let (start, kind, text) = (self.at, self.token().kind, self.text());
-        let (fits, rule) = match name {
+        let is_one = |bytes: Vec<u8>| bytes.len() == 1;
+        let (fits, rule, label) = match name {
             "COMMENTS" => return self.comments(),
             "STRUCTS" => return !self.is_plain,
             "CAPITAL" => return kind == TokenKind::Name && is_capital(text),
-            "END" => return kind == TokenKind::End || self.expect("an end"),
-            "ANY" => (kind != TokenKind::End, ""),
-            "NAME" => (kind == TokenKind::Name && !has(KEYWORDS, text), "name"),
-            "WORD" => (kind == TokenKind::Name, "word"),
-            "LIFETIME" => (kind == TokenKind::Lifetime, ""),
-            "INTEGER" => (kind == TokenKind::Integer, "integer"),
-            "BYTE" => (kind == TokenKind::Byte, "byte"),
-            "TEXT" => (kind == TokenKind::Text, "text"),
-            "DOC" => (kind == TokenKind::Doc, "doc"),
-            "CLAUSE" => (kind == TokenKind::Clause, "clause"),
-            _ => (kind == TokenKind::GhostPath, "ghost_path"),
+            "END" => return kind == TokenKind::End || self.expect("an end of the file"),
+            "CLAUSE" if text == "{" => return self.skip("clause", clause_length),
+            "GHOST_PATH" => return self.skip("ghost_path", ghost_length),
+            "ANY" => (kind != TokenKind::End, "", "a token"),
+            "NAME" => (kind == TokenKind::Name && !has(KEYWORDS, text), "name", "a name"),
+            "WORD" => (kind == TokenKind::Name, "word", "a word"),
+            "LIFETIME" => (kind == TokenKind::Lifetime, "", "a lifetime"),
+            "INTEGER" => {
+                (kind == TokenKind::Integer && number(text).is_some(), "integer", "a number")
+            }
+            "BYTE" => {
+                (kind == TokenKind::Byte && bytes(text).is_some_and(is_one), "byte", "a byte")
+            }
+            "TEXT" => (kind == TokenKind::Text && bytes(text).is_some(), "text", "a text"),
+            "DOC" => (kind == TokenKind::Doc, "doc", "a documentation"),
+            _ => (false, "", "a clause"),
         };
         if !fits {
-            return self.expect(name);
+            return self.expect(label);
         }
         self.at = (self.at / 2 + 1) * 2;
         if !rule.is_empty() {
             self.push(rule, start, Vec::new());
         }
         true
+    }
+
+    // Makes a node of what is as long as it says itself, and ends where a token does.
+    fn skip(&mut self, rule: &'static str, length: fn(&str) -> Result<usize, String>) -> bool {
+        let (start, span) = (self.at, self.token().span);
+        let length = length(&self.source.text[span.start..]);
+        let end = length.as_ref().map_or(span.end, |length| span.start + length);
+        while self.token().span.end <= end && self.token().kind != TokenKind::End {
+            self.at += 2;
+        }
+        let is_whole = self.token().span.start >= end;
+        match length {
+            Ok(_) if is_whole => self.push(rule, start, Vec::new()),
+            Ok(_) => {
+                self.fault = Some(self.source.fault(span, "a text behind the end of a clause"))
+            }
+            Err(reason) => self.fault = Some(self.source.fault(span, reason)),
+        }
+        self.fault.is_none()
     }
 
     // Makes a node of the comments before the next token.
