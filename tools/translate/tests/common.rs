@@ -39,7 +39,7 @@ pub fn c(text: &str, is_checked: bool) -> Done<String> {
     let package = package("atoi_core", text)?;
     let scopes = Scopes::new(&package)?;
     let world = World::new(&package, &scopes);
-    Ok(c::print(&world, &[("atoi_core", "f")], &[], &["u32"], is_checked)?.1)
+    Ok(c::print(&world, &[("atoi_core", "f", "")], &["u32"], is_checked)?.1)
 }
 
 /// Returns the words of a text, without the places of functions.

@@ -51,21 +51,29 @@ impl<'w> Instances<'w> {
         if let Some(Attempt::Made(function)) = self.tried.get(key) { Some(function) } else { None }
     }
 
-    /// Adds functions and those that they call, each behind those that it calls. What ends calls is not looked into.
-    pub fn visit<'s>(
+    /// Returns functions and those that they call, each behind those that it calls, and their set. What ends calls is
+    /// not looked into.
+    pub fn reached<'s>(
         &'s self,
-        keys: &[Callee],
+        keys: impl Iterator<Item = &'s Callee>,
         is_end: &dyn Fn(&Function) -> bool,
-        seen: &mut BTreeSet<Callee>,
+    ) -> (Vec<&'s Function>, BTreeSet<Callee>) {
+        let (mut found, mut seen) = (Vec::new(), BTreeSet::new());
+        keys.for_each(|key| self.visit(key, is_end, &mut found, &mut seen));
+        (found, seen)
+    }
+
+    fn visit<'s>(
+        &'s self,
+        key: &Callee,
+        is_end: &dyn Fn(&Function) -> bool,
         found: &mut Vec<&'s Function>,
+        seen: &mut BTreeSet<Callee>,
     ) {
-        for function in keys.iter().filter_map(|key| self.get(key)) {
-            if seen.insert(function.key.clone()) {
-                let inner = if is_end(function) { Vec::new() } else { called(function) };
-                self.visit(&inner, is_end, seen, found);
-                found.push(function);
-            }
-        }
+        let Some(function) = self.get(key).filter(|_| seen.insert(key.clone())) else { return };
+        let inner = if is_end(function) { Vec::new() } else { called(function) };
+        inner.iter().for_each(|key| self.visit(key, is_end, found, seen));
+        found.push(function);
     }
 }
 

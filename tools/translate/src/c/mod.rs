@@ -16,6 +16,7 @@ use crate::resolve::Scopes;
 use crate::source::{Fault, Source};
 use instances::Instances;
 use ir::{Bindings, Callee, Done, Form, Function, Type};
+use print::{Printer, qualifier};
 use std::collections::BTreeSet;
 use std::path::Path;
 use world::World;
@@ -24,50 +25,42 @@ use world::World;
 pub const TYPES: [&str; 10] =
     ["i8", "u8", "i16", "u16", "i32", "u32", "i64", "u64", "i128", "u128"];
 
-/// What C calls: functions by their crate and path, `Self::` for one of a type, and for each type of integers.
-const ROOTS: [(&str, &str); 19] = [
-    ("atoi_fast", "one_digit"),
-    ("atoi_fast", "quick_slice"),
-    ("atoi_fast", "long_slice"),
-    ("atoi_fast", "quick_prefix"),
-    ("atoi_fast", "prefix_by_digits"),
-    ("atoi_fast", "whole_by_digits"),
-    ("atoi_simd", "T::atoi_simd_parse"),
-    ("atoi_simd", "T::atoi_simd_parse_prefix"),
-    ("atoi_simd", "T::atoi_simd_parse_pos"),
-    ("atoi_simd", "T::atoi_simd_parse_prefix_pos"),
-    ("atoi_core", "AtoiSimdError::text"),
-    ("atoi_formats", "canonical"),
-    ("atoi_formats", "json_integer"),
-    ("atoi_column", "is_separator"),
-    ("atoi_column", "Fields::new"),
-    ("atoi_column", "Fields::lines"),
-    ("atoi_column", "Fields::position"),
-    ("atoi_column", "Fields::next"),
-    ("atoi_column", "Fields::read"),
+/// What C calls, for each type of integers: functions by their crate and path, `Self::` for one of a type. What is
+/// `inline` is in `torkettle.h`, and a compiler of C++20 may call what is `constant` and inline, with all that it calls.
+const ROOTS: [(&str, &str, &str); 19] = [
+    ("atoi_fast", "one_digit", "inline"),
+    ("atoi_fast", "quick_slice", ""),
+    ("atoi_fast", "long_slice", ""),
+    ("atoi_fast", "quick_prefix", "inline"),
+    ("atoi_fast", "prefix_by_digits", "inline constant"),
+    ("atoi_fast", "whole_by_digits", "inline constant"),
+    ("atoi_simd", "T::atoi_simd_parse", ""),
+    ("atoi_simd", "T::atoi_simd_parse_prefix", ""),
+    ("atoi_simd", "T::atoi_simd_parse_pos", ""),
+    ("atoi_simd", "T::atoi_simd_parse_prefix_pos", ""),
+    ("atoi_core", "AtoiSimdError::text", ""),
+    ("atoi_formats", "canonical", ""),
+    ("atoi_formats", "json_integer", ""),
+    ("atoi_column", "is_separator", "inline"),
+    ("atoi_column", "Fields::new", ""),
+    ("atoi_column", "Fields::lines", ""),
+    ("atoi_column", "Fields::position", ""),
+    ("atoi_column", "Fields::next", ""),
+    ("atoi_column", "Fields::read", ""),
 ];
 
 const HEAD: &str =
     "/* Made by .ci/translate from the proved sources and c/interface. Do not edit. */\n";
 
-/// The roots that `torkettle.h` has inline.
-const INLINE: [&str; 5] =
-    ["one_digit", "quick_prefix", "prefix_by_digits", "whole_by_digits", "is_separator"];
-
-/// The roots that a compiler of C++20 may call, with all that they call.
-const CONSTANT: [&str; 2] = ["prefix_by_digits", "whole_by_digits"];
-
-/// What these call, and the header does not contain, as it is long.
-const FAR: [&str; 1] = ["prefix_of_three_words"];
-
 /// What C calls where Rust inlines it: long functions that few numbers need. Each type would have a copy.
-const CALLED: [(&str, &str); 8] = [
+const CALLED: [(&str, &str); 9] = [
     ("atoi_core", "narrow_prefix"),
     ("atoi_core", "whole_64"),
     ("atoi_core", "whole_128"),
     ("atoi_fast", "loaded_slice"),
     ("atoi_fast", "prefix_64"),
     ("atoi_fast", "prefix_128"),
+    ("atoi_fast", "prefix_of_three_words"),
     ("atoi_fast", "window"),
     ("atoi_simd", "atoi_simd_parse_prefix"),
 ];
@@ -97,7 +90,7 @@ pub fn made(top: &Path, is_checked: bool) -> Done<[(&'static str, String); 2]> {
     let scopes = Scopes::new(&package)?;
     checks::check(&package, &scopes)?;
     let world = World::new(&package, &scopes);
-    let (inline, rest) = print(&world, &ROOTS, &INLINE, &TYPES, is_checked)?;
+    let (inline, rest) = print(&world, &ROOTS, &TYPES, is_checked)?;
     let part = |name: &str| Done::Ok(Source::read(top, &Path::new(INTERFACE).join(name))?.text);
     let inline = format!("{}\n{inline}", part("prelude.h")?);
     let names = inline
@@ -115,42 +108,35 @@ pub fn made(top: &Path, is_checked: bool) -> Done<[(&'static str, String); 2]> {
     ])
 }
 
-/// Prints functions, and all that they call, as the part that the roots of the second list need in each file, and
-/// the rest. Functions that are never inlined are in the rest, and the inline part declares them.
+/// Prints functions, and all that they call, as the part that the inline ones need in each file, and the rest. Functions
+/// that are never inlined are in the rest, and the inline part declares them.
 pub fn print(
     world: &World,
-    roots: &[(&str, &str)],
-    inline: &[&str],
+    roots: &[(&str, &str, &str)],
     types: &[&str],
     is_checked: bool,
 ) -> Done<(String, String)> {
     let mut instances = Instances::new(world);
-    let (mut all, mut open) = (Vec::new(), Vec::new());
-    for (crate_name, path) in roots {
+    let mut keys = Vec::new();
+    for (crate_name, path, place) in roots {
         for callee in callees(world, crate_name, path, types)? {
-            all.push(instances.add(&callee)?);
-            open.extend(all.last().filter(|_| inline.contains(path)).cloned());
+            keys.push((instances.add(&callee)?, *place));
         }
     }
-    let reached = |keys: &[Callee], is_end: &dyn Fn(&Function) -> bool| {
-        let (mut seen, mut found) = (BTreeSet::new(), Vec::new());
-        instances.visit(keys, is_end, &mut seen, &mut found);
-        (seen, found)
+    let reached = |place: &str, is_end: &dyn Fn(&Function) -> bool| {
+        let keys = keys.iter().filter(|(_, places)| places.contains(place));
+        instances.reached(keys.map(|(key, _)| key), is_end)
     };
-    let is_far = |it: &Function| {
-        let qualifier = print::qualifier(world, it);
-        FAR.contains(&world.name(it.key.id)) || matches!(qualifier, "TK_NOINLINE" | "TK_COLD")
-    };
-    let (_, functions) = reached(&all, &|_| false);
-    let mut printer = print::Printer::new(world, &functions, is_checked)?;
-    let (inline, _) = reached(&open, &is_far);
-    all.retain(|it| CONSTANT.contains(&world.name(it.id)));
-    let (constant, _) = reached(&all, &|_| false);
+    let is_far = |it: &Function| matches!(qualifier(world, it), "TK_NOINLINE" | "TK_COLD");
+    let (functions, _) = reached("", &|_| false);
+    let (_, inline) = reached("inline", &is_far);
+    let (_, constant) = reached("constant", &|_| false);
     let qualifier = |it: &Function| match inline.contains(&it.key) && is_far(it) {
         true => "TK_FAR",
         false if constant.contains(&it.key) => "TK_CONSTEXPR",
-        false => print::qualifier(world, it),
+        false => qualifier(world, it),
     };
+    let mut printer = Printer::new(world, &functions, is_checked)?;
     for far in functions.iter().filter(|it| qualifier(it) == "TK_FAR") {
         printer.declaration(far, "TK_FAR")?;
     }
