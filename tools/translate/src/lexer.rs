@@ -1,39 +1,10 @@
-//! Reads the tokens of a source. What is a token only in clauses, or in none of our sources, is of the last kind.
+//! Where tokens begin and end. What is a token only in clauses, or in none of our sources, is no token that a rule takes.
 
 use crate::source::{Done, Source, Span};
-
-#[derive(Clone, Copy, Debug, PartialEq, Eq)]
-pub enum TokenKind {
-    /// A name or a keyword.
-    Name,
-    Lifetime,
-    Integer,
-    Byte,
-    /// A text, or the bytes of one, with its quotes.
-    Text,
-    /// An operator or a bracket, as long as it can be.
-    Symbol,
-    /// A line that documents what follows, `/// ..`.
-    Doc,
-    Other,
-    End,
-}
-
-/// A token, and the comments between it and the token before.
-#[derive(Clone, Debug)]
-pub struct Token {
-    pub kind: TokenKind,
-    pub span: Span,
-    pub comments: Vec<Span>,
-}
 
 // The longer symbols first, of which a shorter one is the start.
 const SYMBOLS: &[&str] =
     &["..=", "->", "=>", "::", "..", "&&", "||", "==", "!=", "<=", ">=", "+=", "<<", ">>"];
-const SINGLE: &str = "+-*/%&|^!=<>.,;:#(){}[]?@$~";
-
-// Prefixes of quotes and of `#` that begin raw texts, raw names and texts of C.
-const RAW: &[&str] = &["r", "br", "cr", "c"];
 
 // Comments, escapes and quotations of Rattle, which could hide a brace or an end.
 const HIDING: &[&str] = &["--", "{-", "-}", "//", "/*", "*/", "\\", "«", "'\"", "'{", "'}"];
@@ -41,104 +12,45 @@ const HIDING: &[&str] = &["--", "{-", "-}", "//", "/*", "*/", "\\", "«", "'\"",
 // These marks make a text look like another.
 const MARKS: &str = "\u{200E}\u{200F}\u{202A}\u{202B}\u{202C}\u{202D}\u{202E}\u{2066}\u{2067}\u{2068}\u{2069}\u{FEFF}";
 
-/// Returns all tokens, of which the last is the end.
-pub fn lex(source: &Source) -> Done<Vec<Token>> {
-    let lexer = Lexer { source, at: 0, tokens: Vec::new(), comments: Vec::new() };
-    lexer.check_characters()?;
-    lexer.run()
-}
-
-struct Lexer<'a> {
-    source: &'a Source,
-    at: usize,
-    tokens: Vec<Token>,
-    // The comments behind the last token.
-    comments: Vec<Span>,
-}
-
-impl<'a> Lexer<'a> {
-    fn run(mut self) -> Done<Vec<Token>> {
-        while !self.skip_space().is_empty() {
-            self.token()?;
+/// Refuses control characters and invisible marks, also in comments and texts.
+pub fn check_characters(source: &Source) -> Done<()> {
+    let is_unknown = |it: char| it != '\n' && it.is_control() || MARKS.contains(it);
+    match source.text.char_indices().find(|(_, character)| is_unknown(*character)) {
+        Some((start, character)) => {
+            let reason = format!("the character U+{:04X}", u32::from(character));
+            Err(source.fault(Span { start, end: start + 1 }, reason))
         }
-        self.push(TokenKind::End, 0);
-        Ok(self.tokens)
-    }
-
-    // Refuses control characters and invisible marks, also in comments and texts.
-    fn check_characters(&self) -> Done<()> {
-        let is_unknown = |it: char| it != '\n' && it.is_control() || MARKS.contains(it);
-        match self.source.text.char_indices().find(|(_, character)| is_unknown(*character)) {
-            Some((start, character)) => {
-                let reason = format!("the character U+{:04X}", u32::from(character));
-                Err(self.source.fault(Span { start, end: start + 1 }, reason))
-            }
-            None => Ok(()),
-        }
-    }
-
-    fn rest(&self) -> &'a str {
-        &self.source.text[self.at..]
-    }
-
-    fn refuse<T>(&self, reason: impl Into<String>) -> Done<T> {
-        Err(self.source.fault(Span { start: self.at, end: self.at }, reason))
-    }
-
-    // Adds the next `length` bytes as a token.
-    fn push(&mut self, kind: TokenKind, length: usize) {
-        let span = Span { start: self.at, end: self.at + length };
-        self.at = span.end;
-        self.tokens.push(Token { kind, span, comments: std::mem::take(&mut self.comments) });
-    }
-
-    // Skips spaces, ends of lines and comments, and returns what follows them.
-    fn skip_space(&mut self) -> &'a str {
-        loop {
-            let rest = self.rest().trim_start_matches([' ', '\n']);
-            self.at = self.source.text.len() - rest.len();
-            // Four slashes document nothing.
-            let is_doc = rest.starts_with("///") && !rest.starts_with("////");
-            if !rest.starts_with("//") || is_doc {
-                return rest;
-            }
-            let comment = Span { start: self.at, end: self.at + line_length(rest) };
-            // What documents the file belongs to nothing in it.
-            self.comments.extend((!rest.starts_with("//!")).then_some(comment));
-            self.at = comment.end;
-        }
-    }
-
-    fn token(&mut self) -> Done<()> {
-        let rest = self.rest();
-        let name = name_length(rest);
-        if RAW.contains(&&rest[..name]) && rest[name..].starts_with(['"', '#']) {
-            return self.refuse("a raw text, a raw name or a text of C");
-        }
-        let (kind, length) = match rest.as_bytes() {
-            [b'/', b'/', ..] => (TokenKind::Doc, line_length(rest)),
-            [b'/', b'*', ..] => return self.refuse("a comment between `/*` and `*/`"),
-            [b'"', ..] => (TokenKind::Text, quoted_length(rest, 0)),
-            [b'b', b'"', ..] => (TokenKind::Text, quoted_length(rest, 1)),
-            [b'b', b'\'', ..] => (TokenKind::Byte, quoted_length(rest, 1)),
-            [b'\'', ..] if name_length(&rest[1..]) > 0 => {
-                (TokenKind::Lifetime, 1 + name_length(&rest[1..]))
-            }
-            [b'0'..=b'9', ..] => (TokenKind::Integer, name),
-            _ if name > 0 => (TokenKind::Name, name),
-            _ => (TokenKind::Symbol, symbol_length(rest)),
-        };
-        match length {
-            0 => self.push(TokenKind::Other, rest.chars().next().map_or(0, char::len_utf8)),
-            length => self.push(kind, length),
-        }
-        Ok(())
+        None => Ok(()),
     }
 }
 
-fn symbol_length(rest: &str) -> usize {
-    let single = usize::from(rest.starts_with(|first| SINGLE.contains(first)));
-    SYMBOLS.iter().find(|symbol| rest.starts_with(**symbol)).map_or(single, |it| it.len())
+/// Returns what follows spaces, ends of lines and comments.
+pub fn skip_space(mut rest: &str) -> &str {
+    loop {
+        rest = rest.trim_start_matches([' ', '\n']);
+        // Four slashes document nothing.
+        let is_doc = rest.starts_with("///") && !rest.starts_with("////");
+        if !rest.starts_with("//") || is_doc {
+            return rest;
+        }
+        rest = &rest[line_length(rest)..];
+    }
+}
+
+/// Returns the token at the start of `rest`, as long as it can be. Comments between `/*` and `*/` are not known.
+pub fn token(rest: &str) -> &str {
+    let name = name_length(rest);
+    let length = match rest.as_bytes() {
+        [b'/', b'/', ..] => line_length(rest),
+        [b'/', b'*', ..] => 2,
+        [b'"', ..] => quoted_length(rest, 0),
+        [b'b', b'"' | b'\'', ..] => quoted_length(rest, 1),
+        [b'\'', ..] if name_length(&rest[1..]) > 0 => 1 + name_length(&rest[1..]),
+        _ if name > 0 => name,
+        _ => SYMBOLS.iter().find(|it| rest.starts_with(**it)).map_or(0, |it| it.len()),
+    };
+    let first = rest.chars().next().map_or(0, char::len_utf8);
+    &rest[..length.max(first)]
 }
 
 // Returns the length of a text or byte whose first quote is at `from`, if it ends on the same line, or 0.
@@ -218,7 +130,8 @@ pub fn number(text: &str) -> Option<u128> {
 
 /// Returns the bytes of a text or a byte between quotes, if its escapes are known.
 pub fn bytes(quoted: &str) -> Option<Vec<u8>> {
-    let quoted = quoted.trim_start_matches('b');
-    let text = quoted[1..quoted.len() - 1].replace("\\n", "\n").replace("\\r", "\r");
+    let inner = quoted.trim_start_matches('b').get(1..)?;
+    let inner = &inner[..inner.len().checked_sub(1)?];
+    let text = inner.replace("\\n", "\n").replace("\\r", "\r");
     (!text.contains('\\')).then(|| text.into_bytes())
 }

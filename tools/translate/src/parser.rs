@@ -1,7 +1,9 @@
 //! Reads the tree of a source by the rules of the grammar. What they do not take is refused, at the last token that
 //! they reach.
 
-use crate::lexer::{Token, TokenKind, bytes, clause_length, ghost_length, lex, number};
+use crate::lexer::{
+    bytes, check_characters, clause_length, ghost_length, number, skip_space, token,
+};
 use crate::notation::{Form, RULES};
 use crate::source::{Done, Fault, Source, Span};
 use crate::std_names::{has, is_capital};
@@ -15,14 +17,14 @@ const KEYWORDS: &str = "_ as async await break const continue crate dyn else enu
 
 /// Reads all of a source by a rule, and returns the parts of its node.
 pub fn parse(source: &Source, rule: &str) -> Done<Vec<Node>> {
-    let tokens = lex(source)?;
+    check_characters(source)?;
+    let first = place(source, 0);
     let mut parser = Parser {
         source,
-        tokens: &tokens,
-        at: 0,
+        at: first,
         is_plain: false,
         is_silent: false,
-        furthest: 0,
+        furthest: first,
         expected: Vec::new(),
         nodes: Vec::new(),
         fault: None,
@@ -33,17 +35,28 @@ pub fn parse(source: &Source, rule: &str) -> Done<Vec<Node>> {
     }
 }
 
+/// Where what was read ends, and the next token.
+#[derive(Clone, Copy)]
+struct Place<'a> {
+    end: usize,
+    start: usize,
+    token: &'a str,
+}
+
+fn place(source: &Source, end: usize) -> Place<'_> {
+    let rest = skip_space(&source.text[end..]);
+    Place { end, start: source.text.len() - rest.len(), token: token(rest) }
+}
+
 struct Parser<'a> {
     source: &'a Source,
-    tokens: &'a [Token],
-    // Twice the number of the next token, and one more behind its first half.
-    at: usize,
+    at: Place<'a>,
     // Whether `NAME {` is a name before a block, and no struct.
     is_plain: bool,
     // Whether what is read is no part of what is expected.
     is_silent: bool,
     // The last place where something was expected, and what.
-    furthest: usize,
+    furthest: Place<'a>,
     expected: Vec<&'static str>,
     // The nodes that were made, and are no parts of others yet.
     nodes: Vec<Node>,
@@ -52,36 +65,38 @@ struct Parser<'a> {
 }
 
 impl<'a> Parser<'a> {
-    fn token(&self) -> &'a Token {
-        &self.tokens[self.at / 2]
+    // Goes to the end of what was read.
+    fn go_to(&mut self, end: usize) {
+        self.at = place(self.source, end);
     }
 
-    // The text of the next token that is left.
-    fn text(&self) -> &'a str {
-        &self.source.at(self.token().span)[self.at % 2..]
+    fn step(&mut self) -> bool {
+        self.go_to(self.at.start + self.at.token.len());
+        true
     }
 
     // Says that the last token that was reached is not what was expected.
-    fn unexpected(&mut self) -> Fault {
-        self.at = self.furthest;
-        let found = match self.token().kind {
-            TokenKind::End => "the end of the file".into(),
-            _ => format!("`{}`", self.text().lines().next().unwrap_or_default()),
+    fn unexpected(&self) -> Fault {
+        let Place { start, token, .. } = self.furthest;
+        let found = match token.lines().next() {
+            None => "the end of the file".into(),
+            Some(line) => format!("`{line}`"),
         };
         let is_label = |it: &str| it.starts_with("a ") || it.starts_with("an ");
         let name = |it: &&str| if is_label(it) { it.to_string() } else { format!("`{it}`") };
         let expected: Vec<String> = self.expected.iter().map(name).collect();
         let reason = format!("{found}, and not {}", expected.join(" or "));
-        self.source.fault(self.token().span, reason)
+        self.source.fault(Span { start, end: start }, reason)
     }
 
     // Notes what is expected next, and does not fit.
     fn expect(&mut self, what: &'static str) -> bool {
-        if !self.is_silent && self.at > self.furthest {
+        if !self.is_silent && self.at.start > self.furthest.start {
             self.furthest = self.at;
             self.expected.clear();
         }
-        if !self.is_silent && self.at == self.furthest && !self.expected.contains(&what) {
+        if !self.is_silent && self.at.start == self.furthest.start && !self.expected.contains(&what)
+        {
             self.expected.push(what);
         }
         false
@@ -91,29 +106,24 @@ impl<'a> Parser<'a> {
     fn rule(&mut self, name: &str) -> bool {
         let rule = &RULES[name];
         let (start, first) = (self.at, self.nodes.len());
-        let before = if self.furthest == start { self.expected.len() } else { 0 };
+        let before = if self.furthest.start == start.start { self.expected.len() } else { 0 };
         let fits = self.form(&rule.form);
-        if !fits && !rule.label.is_empty() && self.furthest == start {
+        if !fits && !rule.label.is_empty() && self.furthest.start == start.start {
             self.expected.truncate(before);
             self.at = start;
             self.expect(rule.label);
         }
         if fits && rule.makes_node {
             let parts = self.nodes.split_off(first);
-            self.push(rule.name, start, parts);
+            self.push(rule.name, start.start, parts);
         }
         fits
     }
 
     // Adds a node for what was read from `start` on.
     fn push(&mut self, rule: &'static str, start: usize, parts: Vec<Node>) {
-        let from = self.tokens[start / 2].span.start + start % 2;
-        let end = match self.at {
-            at if at == start => from,
-            at if at % 2 == 1 => self.tokens[at / 2].span.start + 1,
-            at => self.tokens[at / 2 - 1].span.end,
-        };
-        self.nodes.push(Node::new(self.source, rule, Span { start: from, end }, parts));
+        let span = Span { start, end: self.at.end.max(start) };
+        self.nodes.push(Node::new(self.source, rule, span, parts));
     }
 
     fn form(&mut self, form: &'static Form) -> bool {
@@ -198,11 +208,9 @@ impl<'a> Parser<'a> {
     }
 
     fn sign(&mut self, text: &'static str, makes_node: bool, may_be_half: bool) -> bool {
-        let start = self.at;
-        if self.text() == text {
-            self.at = (self.at / 2 + 1) * 2;
-        } else if may_be_half && self.text() == text.repeat(2) {
-            self.at += 1;
+        let Place { start, token, .. } = self.at;
+        if token == text || may_be_half && token == text.repeat(2) {
+            self.go_to(start + text.len());
         } else {
             return self.expect(text);
         }
@@ -214,66 +222,59 @@ impl<'a> Parser<'a> {
 
     // Reads a token by the name of its kind, or what else has such a name.
     fn token_of(&mut self, name: &'static str) -> bool {
-        let (start, kind, text) = (self.at, self.token().kind, self.text());
+        let Place { start, token: text, .. } = self.at;
         let is_one = |bytes: Vec<u8>| bytes.len() == 1;
+        let is_letter = |it: char| it.is_ascii_alphabetic() || it == '_';
+        let is_word = text.starts_with(is_letter) && !text.ends_with(['"', '\'']);
+        // A quote or `#` is behind a name only in raw texts and names, and in texts of C.
+        let is_raw = || self.source.text[start + text.len()..].starts_with(['"', '#']);
         let (fits, rule, label) = match name {
             "COMMENTS" => return self.comments(),
             "STRUCTS" => return !self.is_plain,
-            "CAPITAL" => return kind == TokenKind::Name && is_capital(text),
-            "END" => return kind == TokenKind::End || self.expect("an end of the file"),
+            "CAPITAL" => return is_capital(text),
+            "END" => return text.is_empty() || self.expect("an end of the file"),
             "CLAUSE" if text == "{" => return self.skip("clause", clause_length),
             "GHOST_PATH" => return self.skip("ghost_path", ghost_length),
-            "ANY" => (kind != TokenKind::End, "", "a token"),
-            "NAME" => (kind == TokenKind::Name && !has(KEYWORDS, text), "name", "a name"),
-            "WORD" => (kind == TokenKind::Name, "word", "a word"),
-            "LIFETIME" => (kind == TokenKind::Lifetime, "", "a lifetime"),
-            "INTEGER" => {
-                (kind == TokenKind::Integer && number(text).is_some(), "integer", "a number")
-            }
-            "BYTE" => {
-                (kind == TokenKind::Byte && bytes(text).is_some_and(is_one), "byte", "a byte")
-            }
-            "TEXT" => (kind == TokenKind::Text && bytes(text).is_some(), "text", "a text"),
-            "DOC" => (kind == TokenKind::Doc, "doc", "a documentation"),
+            "ANY" => (!text.is_empty(), "", "a token"),
+            "NAME" => (is_word && !has(KEYWORDS, text) && !is_raw(), "name", "a name"),
+            "WORD" => (is_word, "word", "a word"),
+            "LIFETIME" => (text.starts_with('\'') && text.len() > 1, "", "a lifetime"),
+            "INTEGER" => (number(text).is_some(), "integer", "a number"),
+            "BYTE" => (text.starts_with("b'") && bytes(text).is_some_and(is_one), "byte", "a byte"),
+            "TEXT" => (text.ends_with('"') && bytes(text).is_some(), "text", "a text"),
+            "DOC" => (text.starts_with("///"), "doc", "a documentation"),
             _ => (false, "", "a clause"),
         };
         if !fits {
             return self.expect(label);
         }
-        self.at = (self.at / 2 + 1) * 2;
+        self.step();
         if !rule.is_empty() {
             self.push(rule, start, Vec::new());
         }
         true
     }
 
-    // Makes a node of what is as long as it says itself, and ends where a token does.
+    // Makes a node of what is as long as it says itself.
     fn skip(&mut self, rule: &'static str, length: fn(&str) -> Result<usize, String>) -> bool {
-        let (start, span) = (self.at, self.token().span);
-        let length = length(&self.source.text[span.start..]);
-        let end = length.as_ref().map_or(span.end, |length| span.start + length);
-        while self.token().span.end <= end && self.token().kind != TokenKind::End {
-            self.at += 2;
-        }
-        let is_whole = self.token().span.start >= end;
-        match length {
-            Ok(_) if is_whole => self.push(rule, start, Vec::new()),
-            Ok(_) => {
-                self.fault = Some(self.source.fault(span, "a text behind the end of a clause"))
+        let start = self.at.start;
+        match length(&self.source.text[start..]) {
+            Ok(length) => {
+                self.go_to(start + length);
+                self.push(rule, start, Vec::new());
             }
-            Err(reason) => self.fault = Some(self.source.fault(span, reason)),
+            Err(reason) => {
+                self.fault = Some(self.source.fault(Span { start, end: start }, reason));
+            }
         }
         self.fault.is_none()
     }
 
-    // Makes a node of the comments before the next token.
+    // Makes a node of what is before the next token if there are comments.
     fn comments(&mut self) -> bool {
-        let spans = self.token().comments.iter();
-        let lines = spans.map(|span| Node::new(self.source, "comment", *span, Vec::new()));
-        let lines: Vec<Node> = lines.collect();
-        if !lines.is_empty() {
-            self.push("comments", self.at, lines);
-        }
+        let Place { end, start, .. } = self.at;
+        let node = Node::new(self.source, "comments", Span { start: end, end: start }, Vec::new());
+        self.nodes.extend(Some(node).filter(|node| !node.comments().is_empty()));
         true
     }
 }

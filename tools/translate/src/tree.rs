@@ -44,6 +44,12 @@ impl Node {
         self.get(kind).is_some()
     }
 
+    /// Returns the comments between two tokens. What documents a file belongs to nothing in it.
+    pub fn comments(&self) -> Vec<&str> {
+        let lines = self.text.lines().map(str::trim);
+        lines.filter(|it| it.starts_with("//") && !it.starts_with("//!")).collect()
+    }
+
     /// Returns its last part, which it must have.
     pub fn last(&self) -> &Node {
         &self.parts[self.parts.len() - 1]

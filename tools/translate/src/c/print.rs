@@ -8,6 +8,7 @@ use super::terms;
 use super::text::{self, comment, wrapped};
 use super::types::{declared, short};
 use super::world::World;
+use crate::tree::Node;
 use std::collections::{BTreeMap, BTreeSet};
 
 /// All that is printed.
@@ -256,8 +257,7 @@ impl<'a> Printer<'a> {
 pub fn explained(world: &World, id: Id) -> String {
     let Some(notes) = world.item(id).get("notes") else { return String::new() };
     let docs: Vec<&str> = notes.all("doc").map(|it| it.text.as_str()).collect();
-    let comments = notes.all("comments").flat_map(|it| &it.parts);
-    let comments = comments.map(|it| it.text.as_str()).collect();
+    let comments = notes.all("comments").flat_map(Node::comments).collect();
     comment(if docs.is_empty() { comments } else { docs }, "")
 }
 

@@ -28,7 +28,7 @@ impl Lowering<'_, '_> {
                 self.evaluate(value, Target::Return)?;
             }
             ("break", _) => self.push(Statement::Break),
-            ("comments", lines) => self.comment(lines),
+            ("comments", _) => self.comment(tree),
             ("done", _) => {}
             ("let", [pattern, parts @ ..]) => self.let_statement(pattern, parts)?,
             ("while" | "loop", [condition @ .., body]) => {
@@ -64,8 +64,8 @@ impl Lowering<'_, '_> {
         Ok(value)
     }
 
-    fn comment(&mut self, lines: &[Node]) {
-        let lines = lines.iter().map(|line| line.text.clone());
+    fn comment(&mut self, comments: &Node) {
+        let lines = comments.comments().into_iter().map(String::from);
         self.push(Statement::Comment(lines.collect()));
     }
 
@@ -203,7 +203,7 @@ impl Lowering<'_, '_> {
             let is_end = tests.is_empty();
             let condition = (!is_end).then(|| self.joined(tests, "&&"));
             let (statements, value) = self.apart(|it| {
-                arm.all("comments").for_each(|comments| it.comment(&comments.parts));
+                arm.all("comments").for_each(|comments| it.comment(comments));
                 // In a value, unless something may change the parts meanwhile.
                 it.bind_all(bindings, |it, part| target == Target::Value && it.is_constant(part));
                 it.evaluate(body, target)
