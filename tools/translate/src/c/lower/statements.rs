@@ -1,6 +1,6 @@
 //! Statements: blocks, variables, loops, assignments, and branches, which end in statements, a choice, or a variable.
 
-use super::patterns::{Binding, Fit, inner};
+use super::patterns::{Fit, inner};
 use super::{Done, Lowering, Target};
 use crate::c::ir::{Kind, Statement, Term, Type};
 use crate::tree::Node;
@@ -20,9 +20,7 @@ impl Lowering<'_, '_> {
         match (tree.kind, tree.parts.as_slice()) {
             ("group", [inner]) => value = self.evaluate(inner, target)?,
             ("block", statements) => value = self.block(statements, target)?,
-            ("if", [condition, then, otherwise @ ..]) => {
-                value = self.if_else(condition, then, otherwise.first(), target)?;
-            }
+            ("if", parts) => value = self.if_else(parts, target)?,
             ("match", [found, arms @ ..]) => value = self.match_arms(found, arms, target)?,
             ("return", [value]) if target != Target::Value => {
                 self.evaluate(value, Target::Return)?;
@@ -151,36 +149,42 @@ impl Lowering<'_, '_> {
         if is_kept { term } else { self.hold(term, name, false) }
     }
 
-    fn if_else(
-        &mut self,
-        condition: &Node,
-        then: &Node,
-        otherwise: Option<&Node>,
-        target: Target,
-    ) -> Done<Term> {
-        let (condition, bindings) = match (condition.kind, condition.parts.as_slice()) {
+    fn if_else(&mut self, parts: &[Node], target: Target) -> Done<Term> {
+        let (condition, then) = (&parts[0], &parts[1]);
+        let fit = match (condition.kind, condition.parts.as_slice()) {
             ("let", [pattern, value]) => self.fits(value, pattern)?,
-            _ => (self.term(condition, &Type::Boolean)?, Vec::new()),
+            _ => Fit { tests: vec![self.term(condition, &Type::Boolean)?], ..Fit::default() },
         };
-        let (statements, value) = self.apart(|it| {
-            it.bind_all(bindings, |_, _| false);
-            it.evaluate(then, target)
-        })?;
-        let then = Branch { condition: Some(condition), statements, value };
-        let (statements, value) = self.apart(|it| match otherwise {
+        let then = self.branch(fit, false, |it| it.evaluate(then, target))?;
+        let otherwise = self.branch(Fit::default(), false, |it| match parts.get(2) {
             Some(otherwise) => it.evaluate(otherwise, target),
             None if target == Target::Value => it.refuse("this form has no rule"),
             None => Ok(it.unit()),
         })?;
-        self.join(vec![then, Branch { condition: None, statements, value }], target)
+        self.join(vec![then, otherwise], target)
     }
 
-    /// Returns whether a value fits a pattern, and what is bound then.
-    pub fn fits(&mut self, value: &Node, pattern: &Node) -> Done<(Term, Vec<Binding>)> {
+    // Makes the branch for what fits a pattern. Names may stand for its parts in a value, unless something may change
+    // these meanwhile.
+    fn branch(
+        &mut self,
+        Fit { tests, bindings }: Fit,
+        is_value: bool,
+        make: impl FnOnce(&mut Self) -> Done<Term>,
+    ) -> Done<Branch> {
+        let condition = (!tests.is_empty()).then(|| self.joined(tests, "&&"));
+        let (statements, value) = self.apart(|it| {
+            it.bind_all(bindings, |it, part| is_value && it.is_constant(part));
+            make(it)
+        })?;
+        Ok(Branch { condition, statements, value })
+    }
+
+    /// Returns when a value fits a pattern.
+    pub fn fits(&mut self, value: &Node, pattern: &Node) -> Done<Fit> {
         let found = self.any(value)?;
         let found = self.keep(found, "found");
-        let Fit { tests, bindings } = self.matched(pattern, &found)?;
-        Ok((self.joined(tests, "&&"), bindings))
+        self.matched(pattern, &found)
     }
 
     fn match_arms(&mut self, value: &Node, arms: &[Node], target: Target) -> Done<Term> {
@@ -189,27 +193,21 @@ impl Lowering<'_, '_> {
         let mut branches: Vec<Branch> = Vec::new();
         for (number, arm) in arms.iter().enumerate() {
             let first = usize::from(arm.has("comments"));
-            let (pattern, body) = (&arm.parts[first], arm.last());
-            let Fit { mut tests, bindings } = self.matched(pattern, &found)?;
+            let mut fit = self.matched(&arm.parts[first], &found)?;
             if let Some(guard) = arm.get("guard") {
-                tests.push(self.alone("a guard", |it| {
-                    it.bind_all(bindings.clone(), |_, _| true);
+                fit.tests.push(self.alone("a guard", |it| {
+                    it.bind_all(fit.bindings.clone(), |_, _| true);
                     it.term(guard.last(), &Type::Boolean)
                 })?);
             } else if number + 1 == arms.len() {
                 // All values that are left fit.
-                tests.clear();
+                fit.tests.clear();
             }
-            let is_end = tests.is_empty();
-            let condition = (!is_end).then(|| self.joined(tests, "&&"));
-            let (statements, value) = self.apart(|it| {
+            branches.push(self.branch(fit, target == Target::Value, |it| {
                 arm.all("comments").for_each(|comments| it.comment(comments));
-                // In a value, unless something may change the parts meanwhile.
-                it.bind_all(bindings, |it, part| target == Target::Value && it.is_constant(part));
-                it.evaluate(body, target)
-            })?;
-            branches.push(Branch { condition, statements, value });
-            if is_end {
+                it.evaluate(arm.last(), target)
+            })?);
+            if branches[number].condition.is_none() {
                 break;
             }
         }

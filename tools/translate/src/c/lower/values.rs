@@ -22,7 +22,10 @@ impl Lowering<'_, '_> {
                 Ok(self.test(operator(sign), first, second))
             }
             ("try", [value]) => self.question(value),
-            ("matches", [value, pattern]) => Ok(self.fits(value, pattern)?.0),
+            ("matches", [value, pattern]) => {
+                let tests = self.fits(value, pattern)?.tests;
+                Ok(self.joined(tests, "&&"))
+            }
             _ => match self.literal(tree) {
                 Some(literal) => Ok(literal),
                 None => self.operation(tree),
