@@ -37,7 +37,7 @@ const FACADE: &str = "rust/src/lib.rs";
 pub fn made(top: &Path) -> Done<BTreeMap<PathBuf, String>> {
     let facade = Source::read(top, Path::new(FACADE))?;
     check_others(top)?;
-    let mut made = translate(&facade, &Package::read(top)?)?;
+    let mut made = translate(&facade, &Package::read(top, false)?)?;
     if top.join("c/interface").exists() {
         made.extend(c::made(top, false)?.map(|(file, text)| (PathBuf::from(file), text)));
     }

@@ -27,13 +27,8 @@ pub struct Module {
 }
 
 impl Package {
-    /// Reads the sources in `crates` below `top`, and their trees.
-    pub fn read(top: &Path) -> Done<Package> {
-        Package::read_for(top, false)
-    }
-
-    /// Reads the sources as the package has them, or C.
-    pub fn read_for(top: &Path, is_for_c: bool) -> Done<Package> {
+    /// Reads the sources in `crates` below `top`, as the package has them or C, and their trees.
+    pub fn read(top: &Path, is_for_c: bool) -> Done<Package> {
         let mut modules = Vec::new();
         for crate_name in CRATES {
             let folder = Path::new("crates").join(crate_name).join("src");

@@ -242,7 +242,7 @@ impl<'a> Parser<'a> {
             "INTEGER" => (number(text).is_some(), "integer", "a number"),
             "BYTE" => (text.starts_with("b'") && bytes(text).is_some_and(is_one), "byte", "a byte"),
             "TEXT" => (text.ends_with('"') && bytes(text).is_some(), "text", "a text"),
-            "DOC" => (text.starts_with("///"), "doc", "a documentation"),
+            "DOC" => (text.starts_with("///"), "doc", "a line of documentation"),
             _ => (false, "", "a clause"),
         };
         if !fits {

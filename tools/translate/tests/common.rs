@@ -13,7 +13,7 @@ pub const TOP: &str = concat!(env!("CARGO_MANIFEST_DIR"), "/../..");
 /// Returns the facade and the package of this repository.
 pub fn repository() -> (Source, Package) {
     let facade = std::fs::read_to_string(Path::new(TOP).join("rust/src/lib.rs")).unwrap();
-    (Source::new(Path::new("lib.rs"), facade), Package::read(Path::new(TOP)).unwrap())
+    (Source::new(Path::new("lib.rs"), facade), Package::read(Path::new(TOP), false).unwrap())
 }
 
 /// Returns a package in which one crate is a source, and the others are empty.

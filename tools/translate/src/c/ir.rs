@@ -18,8 +18,6 @@ pub enum Type {
     Boolean,
     // A type that is made of others.
     Of(Form, Vec<Type>),
-    // `PhantomData`.
-    Marker,
     // A generic parameter that stands for itself.
     Parameter(String),
     // A type that is not known yet.
@@ -28,6 +26,7 @@ pub enum Type {
 
 #[derive(Clone, Copy, Debug, PartialEq, Eq, PartialOrd, Ord)]
 pub enum Form {
+    // Without parts, also `PhantomData`.
     Tuple,
     // `&[T]`, `&mut [T]` or `&str`.
     Slice { is_mutable: bool },

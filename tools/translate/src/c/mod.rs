@@ -86,7 +86,7 @@ const INTERFACE: &str = "c/interface";
 /// Returns the files of the library for C that are made of the sources below `top`: the header and the source. Their
 /// operators may assert that nothing overflows.
 pub fn made(top: &Path, is_checked: bool) -> Done<[(&'static str, String); 2]> {
-    let package = Package::read_for(top, true)?;
+    let package = Package::read(top, true)?;
     let scopes = Scopes::new(&package)?;
     checks::check(&package, &scopes)?;
     let world = World::new(&package, &scopes);

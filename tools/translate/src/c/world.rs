@@ -217,7 +217,6 @@ impl<'a> World<'a> {
     /// Says whether values of a type have no bytes.
     pub fn is_zero(&self, of: &Type) -> bool {
         match of {
-            Type::Marker => true,
             Type::Of(Form::Pointer, parts) => self.is_zero(&parts[0]),
             Type::Of(Form::Tuple | Form::Item(_), _) => match self.variants(of).as_deref() {
                 Ok([only]) => only.fields.iter().all(|(_, of)| self.is_zero(of)),
@@ -304,7 +303,7 @@ fn foreign_type(name: &str, arguments: Vec<Type>) -> Option<Type> {
         ("bool", 0) => Some(Type::Boolean),
         ("Option", 1) => Some(Type::Of(Form::Option, arguments)),
         ("Result", 2) => Some(Type::Of(Form::Result, arguments)),
-        ("std::marker::PhantomData", _) => Some(Type::Marker),
+        ("std::marker::PhantomData", _) => Some(Type::UNIT),
         _ => integer(name),
     }
 }

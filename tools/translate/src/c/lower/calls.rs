@@ -1,7 +1,7 @@
 //! Paths and calls. Calls of laws, which return nothing and change nothing, vanish.
 
 use super::{Done, Lowering, signature};
-use crate::c::ir::{Bindings, Callee, Kind, PLAIN, Term, Type};
+use crate::c::ir::{Bindings, Callee, Kind, Term, Type};
 use crate::c::world::integer;
 use crate::resolve::Definition;
 use crate::tree::Node;
@@ -24,12 +24,7 @@ impl Lowering<'_, '_> {
         if let Some((owner, name)) = self.owner(path)? {
             return self.constant_of(&owner, name);
         }
-        let id = match self.definition(path) {
-            Some(Definition::Foreign(name)) if name == "std::marker::PhantomData" => {
-                return Ok(self.make(Kind::Make(PLAIN), Vec::new(), Type::Marker));
-            }
-            found => found.and_then(|it| it.item()),
-        };
+        let id = self.definition(path).and_then(|it| it.item());
         match id.filter(|id| self.world.item(*id).kind == "constant") {
             Some(id) => {
                 let of = self.type_of_constant(&Callee { id, bindings: Bindings::new() })?;

@@ -148,14 +148,14 @@ impl Lowering<'_, '_> {
                 Some((Type::Of(Form::Item(id), Vec::new()), variant))
             }
             Definition::Foreign(name) => {
-                let (form, variant) = match name.as_str() {
-                    "None" => (Form::Option, NONE),
-                    "Some" => (Form::Option, SOME),
-                    "Ok" => (Form::Result, OK),
-                    "Err" => (Form::Result, ERR),
+                let (form, count, variant) = match name.as_str() {
+                    "None" => (Form::Option, 1, NONE),
+                    "Some" => (Form::Option, 1, SOME),
+                    "Ok" => (Form::Result, 2, OK),
+                    "Err" => (Form::Result, 2, ERR),
+                    "std::marker::PhantomData" => (Form::Tuple, 0, PLAIN),
                     _ => return None,
                 };
-                let count = if form == Form::Option { 1 } else { 2 };
                 let parts = (0..count).map(|_| self.fresh(false)).collect();
                 Some((Type::Of(form, parts), variant))
             }
