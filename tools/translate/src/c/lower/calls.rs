@@ -177,16 +177,10 @@ impl Lowering<'_, '_> {
     }
 
     /// Evaluates a call of a method of a struct, an enum or a parameter.
-    pub fn method_of_item(
-        &mut self,
-        receiver: Term,
-        name: &str,
-        generics: &Node,
-        arguments: &[Node],
-    ) -> Done<Term> {
+    pub fn method_of_item(&mut self, receiver: Term, call: &Node) -> Done<Term> {
         let of = self.followed(receiver.clone()).of;
-        match self.member(&of, name)? {
-            Some(callee) => self.call_of(callee, generics, Some(receiver), arguments),
+        match self.member(&of, call.name())? {
+            Some(callee) => self.call_of(callee, &call.parts[2], Some(receiver), &call.parts[3..]),
             None => self.refuse("this method has no rule"),
         }
     }

@@ -8,25 +8,22 @@ use crate::tree::Node;
 
 impl Lowering<'_, '_> {
     /// Evaluates a call of a method.
-    pub fn method(
-        &mut self,
-        name: &str,
-        receiver: &Node,
-        generics: &Node,
-        arguments: &[Node],
-    ) -> Done<Term> {
-        if let ("count", []) = (name, arguments) {
+    pub fn method(&mut self, call: &Node) -> Done<Term> {
+        let [receiver, Node { text: name, .. }, generics, arguments @ ..] = &call.parts[..] else {
+            return self.refuse("this method has no rule");
+        };
+        if let ("count", []) = (name.as_str(), arguments) {
             return self.count(receiver);
         }
         let receiver = self.any(receiver)?;
         let target = self.followed(receiver.clone());
         let of = match self.known(&target.of) {
             Type::Of(Form::Item(_), _) | Type::Parameter(_) => {
-                return self.method_of_item(receiver, name, generics, arguments);
+                return self.method_of_item(receiver, call);
             }
             // A trait of ours may have methods of numbers.
             of @ Type::Integer(_) if self.world.member(&of, name).is_some() => {
-                return self.method_of_item(receiver, name, generics, arguments);
+                return self.method_of_item(receiver, call);
             }
             Type::Of(Form::Result, _) if name == "ok" => return self.ok(target),
             Type::Of(Form::Slice { .. }, _) if name == "copy_from_slice" => {

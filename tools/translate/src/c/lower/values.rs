@@ -12,9 +12,7 @@ impl Lowering<'_, '_> {
         match (tree.kind, tree.parts.as_slice()) {
             ("path", _) => self.path(tree),
             ("call", [path, arguments @ ..]) => self.call(path, arguments),
-            ("method", [receiver, name, generics, arguments @ ..]) => {
-                self.method(&name.text, receiver, generics, arguments)
-            }
+            ("method", _) => self.method(tree),
             ("binary", [first, sign, second]) if ["&&", "||"].contains(&sign.text.as_str()) => {
                 let first = self.term(first, &Type::Boolean)?;
                 let second =
