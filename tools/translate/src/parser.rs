@@ -70,11 +70,6 @@ impl<'a> Parser<'a> {
         self.at = place(self.source, end);
     }
 
-    fn step(&mut self) -> bool {
-        self.go_to(self.at.start + self.at.token.len());
-        true
-    }
-
     // Says that the last token that was reached is not what was expected.
     fn unexpected(&self) -> Fault {
         let Place { start, token, .. } = self.furthest;
@@ -82,8 +77,7 @@ impl<'a> Parser<'a> {
             None => "the end of the file".into(),
             Some(line) => format!("`{line}`"),
         };
-        let is_label = |it: &str| it.starts_with("a ") || it.starts_with("an ");
-        let name = |it: &&str| if is_label(it) { it.to_string() } else { format!("`{it}`") };
+        let name = |it: &&str| if it.contains(' ') { it.to_string() } else { format!("`{it}`") };
         let expected: Vec<String> = self.expected.iter().map(name).collect();
         let reason = format!("{found}, and not {}", expected.join(" or "));
         self.source.fault(Span { start, end: start }, reason)
@@ -91,12 +85,14 @@ impl<'a> Parser<'a> {
 
     // Notes what is expected next, and does not fit.
     fn expect(&mut self, what: &'static str) -> bool {
-        if !self.is_silent && self.at.start > self.furthest.start {
+        if self.is_silent || self.at.start < self.furthest.start {
+            return false;
+        }
+        if self.at.start > self.furthest.start {
             self.furthest = self.at;
             self.expected.clear();
         }
-        if !self.is_silent && self.at.start == self.furthest.start && !self.expected.contains(&what)
-        {
+        if !self.expected.contains(&what) {
             self.expected.push(what);
         }
         false
@@ -232,7 +228,7 @@ impl<'a> Parser<'a> {
             "COMMENTS" => return self.comments(),
             "STRUCTS" => return !self.is_plain,
             "CAPITAL" => return is_capital(text),
-            "END" => return text.is_empty() || self.expect("an end of the file"),
+            "END" => return text.is_empty() || self.expect("the end of the file"),
             "CLAUSE" if text == "{" => return self.skip("clause", clause_length),
             "GHOST_PATH" => return self.skip("ghost_path", ghost_length),
             "ANY" => (!text.is_empty(), "", "a token"),
@@ -248,7 +244,7 @@ impl<'a> Parser<'a> {
         if !fits {
             return self.expect(label);
         }
-        self.step();
+        self.go_to(start + text.len());
         if !rule.is_empty() {
             self.push(rule, start, Vec::new());
         }
