@@ -70,8 +70,8 @@ extern "C" {
 #define TORKETTLE_VERSION "0.1.0"
 
 /*
- * Ends a declaration. With gcc and clang, a symbol of the library has the version of its interface, so that a process
- * may load two versions.
+ * Ends a declaration, and declares a function. With gcc and clang, a symbol of the library has the version of its
+ * interface, so that a process may load two versions.
  */
 #if defined __GNUC__ || defined __clang__
 #define TK_SYMBOL(name) __asm__(TORKETTLE_PREFIX_(__USER_LABEL_PREFIX__) "torkettle_0_1_" #name)
@@ -81,6 +81,7 @@ extern "C" {
 #define TK_SYMBOL(name)
 #endif
 #define TORKETTLE_SYMBOL_(name) TORKETTLE_NOEXCEPT TK_SYMBOL(name)
+#define TK_CALLED(result, name, ...) result torkettle_##name(__VA_ARGS__) TORKETTLE_SYMBOL_(name)
 
 /*
  * The values of the argument `flags`: 0, one of these, or both with `|`. Other bits have no effect.
@@ -378,55 +379,16 @@ TK_CONSTEXPR size_t tk_index(size_t index, size_t len)
     return index;
 }
 
-TK_CONSTEXPR bool tk_u8_is_digit(uint8_t byte)
-{
-    return '0' <= byte && byte <= '9';
-}
-
-TK_CONSTEXPR uint32_t tk_u32_min(uint32_t a, uint32_t b)
-{
-    return b < a ? b : a;
-}
-
-TK_CONSTEXPR size_t tk_size_min(size_t a, size_t b)
-{
-    return b < a ? b : a;
-}
-
-TK_CONSTEXPR size_t tk_size_max(size_t a, size_t b)
-{
-    return a < b ? b : a;
-}
-
-TK_CONSTEXPR size_t tk_size_saturating_add(size_t a, size_t b)
-{
-    return a + b < a ? TK_CAST(size_t, -1) : a + b;
-}
-
-TK_CONSTEXPR size_t tk_size_saturating_sub(size_t a, size_t b)
-{
-    return a < b ? 0 : a - b;
-}
-
-TK_CONSTEXPR uint64_t tk_i64_unsigned_abs(int64_t a)
-{
-    return a < 0 ? 0 - TK_CAST(uint64_t, a) : TK_CAST(uint64_t, a);
-}
-
-TK_CONSTEXPR uint32_t tk_i32_unsigned_abs(int32_t a)
-{
-    return TK_CAST(uint32_t, tk_i64_unsigned_abs(a));
-}
-
-TK_CONSTEXPR uint16_t tk_i16_unsigned_abs(int16_t a)
-{
-    return TK_CAST(uint16_t, tk_i64_unsigned_abs(a));
-}
-
-TK_CONSTEXPR uint8_t tk_i8_unsigned_abs(int8_t a)
-{
-    return TK_CAST(uint8_t, tk_i64_unsigned_abs(a));
-}
+TK_CONSTEXPR bool tk_u8_is_digit(uint8_t byte) { return '0' <= byte && byte <= '9'; }
+TK_CONSTEXPR uint32_t tk_u32_min(uint32_t a, uint32_t b) { return b < a ? b : a; }
+TK_CONSTEXPR size_t tk_size_min(size_t a, size_t b) { return b < a ? b : a; }
+TK_CONSTEXPR size_t tk_size_max(size_t a, size_t b) { return a < b ? b : a; }
+TK_CONSTEXPR size_t tk_size_saturating_add(size_t a, size_t b) { return a + b < a ? TK_CAST(size_t, -1) : a + b; }
+TK_CONSTEXPR size_t tk_size_saturating_sub(size_t a, size_t b) { return a < b ? 0 : a - b; }
+TK_CONSTEXPR uint64_t tk_i64_unsigned_abs(int64_t a) { return a < 0 ? 0 - TK_CAST(uint64_t, a) : TK_CAST(uint64_t, a); }
+TK_CONSTEXPR uint32_t tk_i32_unsigned_abs(int32_t a) { return TK_CAST(uint32_t, tk_i64_unsigned_abs(a)); }
+TK_CONSTEXPR uint16_t tk_i16_unsigned_abs(int16_t a) { return TK_CAST(uint16_t, tk_i64_unsigned_abs(a)); }
+TK_CONSTEXPR uint8_t tk_i8_unsigned_abs(int8_t a) { return TK_CAST(uint8_t, tk_i64_unsigned_abs(a)); }
 
 /* How many low bits of a word are zero. */
 TK_INLINE uint32_t tk_u64_trailing_zeros(uint64_t word)
@@ -445,16 +407,10 @@ TK_INLINE uint32_t tk_u64_trailing_zeros(uint64_t word)
 #endif
 }
 
-TK_INLINE uint32_t tk_u32_trailing_zeros(uint32_t word)
-{
-    return tk_u64_trailing_zeros(word | UINT64_C(1) << 32);
-}
+TK_INLINE uint32_t tk_u32_trailing_zeros(uint32_t word) { return tk_u64_trailing_zeros(word | UINT64_C(1) << 32); }
 
 /* Words of bytes, the first one lowest, on every processor. Compilers make one load of it. */
-TK_INLINE uint16_t tk_u16_load(const uint8_t *bytes)
-{
-    return TK_CAST(uint16_t, bytes[0] | bytes[1] << 8);
-}
+TK_INLINE uint16_t tk_u16_load(const uint8_t *bytes) { return TK_CAST(uint16_t, bytes[0] | bytes[1] << 8); }
 
 TK_INLINE uint32_t tk_u32_load(const uint8_t *bytes)
 {
@@ -483,94 +439,30 @@ TK_INLINE uint64_t tk_u64_load(const uint8_t *bytes)
 __extension__ typedef __int128 tk_i128;
 __extension__ typedef unsigned __int128 tk_u128;
 
-TK_CONSTEXPR tk_u128 tk_u128_make(uint64_t high, uint64_t low)
-{
-    return TK_CAST(tk_u128, high) << 64 | low;
-}
-
-TK_CONSTEXPR tk_u128 tk_u128_of(uint64_t value)
-{
-    return value;
-}
-
-TK_CONSTEXPR uint64_t tk_u128_low(tk_u128 value)
-{
-    return TK_CAST(uint64_t, value);
-}
-
-TK_CONSTEXPR bool tk_u128_less(tk_u128 a, tk_u128 b)
-{
-    return a < b;
-}
-
-TK_CONSTEXPR tk_u128 tk_u128_wrapping_add(tk_u128 a, tk_u128 b)
-{
-    return a + b;
-}
-
-TK_CONSTEXPR tk_u128 tk_u128_wrapping_sub(tk_u128 a, tk_u128 b)
-{
-    return a - b;
-}
-
-TK_CONSTEXPR tk_u128 tk_u128_wrapping_mul(tk_u128 a, tk_u128 b)
-{
-    return a * b;
-}
-
-TK_CONSTEXPR bool tk_u128_product_fits(tk_u128 a, tk_u128 b)
-{
-    return b == 0 || a <= ~TK_CAST(tk_u128, 0) / b;
-}
-
-TK_CONSTEXPR tk_u128 tk_u128_shift_left(tk_u128 a, uint64_t count)
-{
-    return a << count;
-}
-
-TK_CONSTEXPR tk_u128 tk_u128_shift_right(tk_u128 a, uint64_t count)
-{
-    return a >> count;
-}
-
-TK_CONSTEXPR tk_i128 tk_u128_as_i128(tk_u128 value)
-{
-    return TK_CAST(tk_i128, value);
-}
-
-TK_CONSTEXPR tk_u128 tk_i128_as_u128(tk_i128 value)
-{
-    return TK_CAST(tk_u128, value);
-}
+TK_CONSTEXPR tk_u128 tk_u128_make(uint64_t high, uint64_t low) { return TK_CAST(tk_u128, high) << 64 | low; }
+TK_CONSTEXPR tk_u128 tk_u128_of(uint64_t value) { return value; }
+TK_CONSTEXPR uint64_t tk_u128_low(tk_u128 value) { return TK_CAST(uint64_t, value); }
+TK_CONSTEXPR bool tk_u128_less(tk_u128 a, tk_u128 b) { return a < b; }
+TK_CONSTEXPR tk_u128 tk_u128_wrapping_add(tk_u128 a, tk_u128 b) { return a + b; }
+TK_CONSTEXPR tk_u128 tk_u128_wrapping_sub(tk_u128 a, tk_u128 b) { return a - b; }
+TK_CONSTEXPR tk_u128 tk_u128_wrapping_mul(tk_u128 a, tk_u128 b) { return a * b; }
+TK_CONSTEXPR bool tk_u128_product_fits(tk_u128 a, tk_u128 b) { return b == 0 || a <= ~TK_CAST(tk_u128, 0) / b; }
+TK_CONSTEXPR tk_u128 tk_u128_shift_left(tk_u128 a, uint64_t count) { return a << count; }
+TK_CONSTEXPR tk_u128 tk_u128_shift_right(tk_u128 a, uint64_t count) { return a >> count; }
+TK_CONSTEXPR tk_i128 tk_u128_as_i128(tk_u128 value) { return TK_CAST(tk_i128, value); }
+TK_CONSTEXPR tk_u128 tk_i128_as_u128(tk_i128 value) { return TK_CAST(tk_u128, value); }
 #else
 typedef struct tk_u128 {
     uint64_t low;
     uint64_t high;
 } tk_u128;
 
-typedef struct tk_i128 {
-    tk_u128 bits;
-} tk_i128;
+typedef tk_u128 tk_i128;
 
-TK_CONSTEXPR tk_u128 tk_u128_make(uint64_t high, uint64_t low)
-{
-    return TK_MAKE(tk_u128, low, high);
-}
-
-TK_CONSTEXPR tk_u128 tk_u128_of(uint64_t value)
-{
-    return TK_MAKE(tk_u128, value, 0);
-}
-
-TK_CONSTEXPR uint64_t tk_u128_low(tk_u128 value)
-{
-    return value.low;
-}
-
-TK_CONSTEXPR bool tk_u128_less(tk_u128 a, tk_u128 b)
-{
-    return a.high < b.high || (a.high == b.high && a.low < b.low);
-}
+TK_CONSTEXPR tk_u128 tk_u128_make(uint64_t high, uint64_t low) { return TK_MAKE(tk_u128, low, high); }
+TK_CONSTEXPR tk_u128 tk_u128_of(uint64_t value) { return TK_MAKE(tk_u128, value, 0); }
+TK_CONSTEXPR uint64_t tk_u128_low(tk_u128 value) { return value.low; }
+TK_CONSTEXPR bool tk_u128_less(tk_u128 a, tk_u128 b) { return a.high < b.high || (a.high == b.high && a.low < b.low); }
 
 TK_CONSTEXPR tk_u128 tk_u128_wrapping_add(tk_u128 a, tk_u128 b)
 {
@@ -622,21 +514,11 @@ TK_CONSTEXPR tk_u128 tk_u128_shift_right(tk_u128 a, uint64_t count)
     return count == 0 ? a : TK_MAKE(tk_u128, a.low >> count | a.high << (64 - count), a.high >> count);
 }
 
-TK_CONSTEXPR tk_i128 tk_u128_as_i128(tk_u128 value)
-{
-    return TK_MAKE(tk_i128, value);
-}
-
-TK_CONSTEXPR tk_u128 tk_i128_as_u128(tk_i128 value)
-{
-    return value.bits;
-}
+TK_CONSTEXPR tk_i128 tk_u128_as_i128(tk_u128 value) { return value; }
+TK_CONSTEXPR tk_u128 tk_i128_as_u128(tk_i128 value) { return value; }
 #endif
 
-TK_CONSTEXPR bool tk_u128_sum_fits(tk_u128 a, tk_u128 b)
-{
-    return !tk_u128_less(tk_u128_wrapping_add(a, b), a);
-}
+TK_CONSTEXPR bool tk_u128_sum_fits(tk_u128 a, tk_u128 b) { return !tk_u128_less(tk_u128_wrapping_add(a, b), a); }
 
 TK_CONSTEXPR tk_u128 tk_u128_add(tk_u128 a, tk_u128 b)
 {
@@ -661,19 +543,11 @@ TK_CONSTEXPR tk_u128 tk_u128_saturating_sub(tk_u128 a, tk_u128 b)
     return tk_u128_less(a, b) ? tk_u128_of(0) : tk_u128_wrapping_sub(a, b);
 }
 
-TK_CONSTEXPR uint64_t tk_u128_high(tk_u128 value)
-{
-    return tk_u128_low(tk_u128_shift_right(value, 64));
-}
+TK_CONSTEXPR uint64_t tk_u128_high(tk_u128 value) { return tk_u128_low(tk_u128_shift_right(value, 64)); }
 
 TK_CONSTEXPR bool tk_u128_equal(tk_u128 a, tk_u128 b)
 {
     return tk_u128_low(a) == tk_u128_low(b) && tk_u128_high(a) == tk_u128_high(b);
-}
-
-TK_CONSTEXPR tk_u128 tk_u128_not(tk_u128 a)
-{
-    return tk_u128_make(~tk_u128_high(a), ~tk_u128_low(a));
 }
 
 TK_CONSTEXPR tk_u128 tk_u128_and(tk_u128 a, tk_u128 b)
@@ -691,40 +565,14 @@ TK_CONSTEXPR tk_u128 tk_u128_xor(tk_u128 a, tk_u128 b)
     return tk_u128_make(tk_u128_high(a) ^ tk_u128_high(b), tk_u128_low(a) ^ tk_u128_low(b));
 }
 
-TK_CONSTEXPR tk_i128 tk_i128_make(uint64_t high, uint64_t low)
-{
-    return tk_u128_as_i128(tk_u128_make(high, low));
-}
-
-TK_CONSTEXPR tk_i128 tk_i128_of(uint64_t value)
-{
-    return tk_u128_as_i128(tk_u128_of(value));
-}
-
-TK_CONSTEXPR uint64_t tk_i128_low(tk_i128 value)
-{
-    return tk_u128_low(tk_i128_as_u128(value));
-}
+TK_CONSTEXPR tk_i128 tk_i128_make(uint64_t high, uint64_t low) { return tk_u128_as_i128(tk_u128_make(high, low)); }
+TK_CONSTEXPR tk_i128 tk_i128_of(uint64_t value) { return tk_u128_as_i128(tk_u128_of(value)); }
+TK_CONSTEXPR uint64_t tk_i128_low(tk_i128 value) { return tk_u128_low(tk_i128_as_u128(value)); }
 
 TK_CONSTEXPR bool tk_i128_less(tk_i128 a, tk_i128 b)
 {
     tk_u128 sign = tk_u128_make(UINT64_C(0x8000000000000000), 0);
     return tk_u128_less(tk_u128_xor(tk_i128_as_u128(a), sign), tk_u128_xor(tk_i128_as_u128(b), sign));
-}
-
-TK_CONSTEXPR bool tk_i128_equal(tk_i128 a, tk_i128 b)
-{
-    return tk_u128_equal(tk_i128_as_u128(a), tk_i128_as_u128(b));
-}
-
-TK_CONSTEXPR tk_i128 tk_i128_sub(tk_i128 a, tk_i128 b)
-{
-    return tk_u128_as_i128(tk_u128_wrapping_sub(tk_i128_as_u128(a), tk_i128_as_u128(b)));
-}
-
-TK_CONSTEXPR tk_i128 tk_i128_mul(tk_i128 a, tk_i128 b)
-{
-    return tk_u128_as_i128(tk_u128_wrapping_mul(tk_i128_as_u128(a), tk_i128_as_u128(b)));
 }
 
 TK_CONSTEXPR tk_i128 tk_i128_negate(tk_i128 a)
@@ -2951,8 +2799,8 @@ static inline size_t torkettle_rest_length(size_t length, char separator) TORKET
 
 /* The parses of a type by the functions of another, or its own, of the same size and sign. */
 #define TORKETTLE_PARSES_(name, type, same)                                                                            \
-    static inline torkettle_status torkettle_parse##name(const char *text, size_t length, unsigned flags,              \
-                                                         type *value) TORKETTLE_NOEXCEPT                               \
+    static inline torkettle_status torkettle_parse##name(const char *text, size_t length, unsigned flags, type *value) \
+        TORKETTLE_NOEXCEPT                                                                                             \
     {                                                                                                                  \
         torkettle_found##same found = torkettle_of_whole##same(text, length, flags);                                   \
         if (found.length == 0)                                                                                         \
@@ -3000,61 +2848,42 @@ static inline size_t torkettle_rest_length(size_t length, char separator) TORKET
                                                                                                                        \
     typedef struct torkettle_column_##name {                                                                           \
         torkettle_status status;                                                                                       \
-        size_t index;                                                                                                  \
-        size_t offset;                                                                                                 \
-        size_t next_index;                                                                                             \
-        size_t next_offset;                                                                                            \
+        size_t index, offset, next_index, next_offset;                                                                 \
         const char *rest;                                                                                              \
         size_t rest_length;                                                                                            \
-        char separator;                                                                                                \
-        char is_lines;                                                                                                 \
+        char separator, is_lines;                                                                                      \
     } torkettle_column_##name;                                                                                         \
                                                                                                                        \
     typedef struct torkettle_fields_##name {                                                                           \
         torkettle_status status;                                                                                       \
-        size_t index;                                                                                                  \
-        size_t offset;                                                                                                 \
+        size_t index, offset;                                                                                          \
         const char *text;                                                                                              \
-        size_t length;                                                                                                 \
-        size_t next_index;                                                                                             \
-        size_t next_offset;                                                                                            \
+        size_t length, next_index, next_offset;                                                                        \
         const char *rest;                                                                                              \
         size_t rest_length;                                                                                            \
-        char separator;                                                                                                \
-        char is_lines;                                                                                                 \
+        char separator, is_lines;                                                                                      \
     } torkettle_fields_##name;                                                                                         \
                                                                                                                        \
-    torkettle_found_##name torkettle_whole_##name(const char *text, size_t length, unsigned flags)                     \
-        TORKETTLE_SYMBOL_(whole_##name);                                                                               \
-    torkettle_found_##name torkettle_prefix_##name(const char *text, size_t length, unsigned flags)                    \
-        TORKETTLE_SYMBOL_(prefix_##name);                                                                              \
-    torkettle_found_##name torkettle_whole_canonical_##name(const char *text, size_t length)                           \
-        TORKETTLE_SYMBOL_(whole_canonical_##name);                                                                     \
-    torkettle_found_##name torkettle_prefix_json_##name(const char *text, size_t length)                               \
-        TORKETTLE_SYMBOL_(prefix_json_##name);                                                                         \
-    torkettle_found_##name torkettle_next_##name(torkettle_column_##name *column) TORKETTLE_SYMBOL_(next_##name);      \
-    torkettle_found_##name torkettle_next_field_##name(torkettle_fields_##name *fields)                                \
-        TORKETTLE_SYMBOL_(next_field_##name);                                                                          \
-                                                                                                                       \
-    torkettle_status torkettle_parse_pos_##name(const char *text, size_t length, unsigned flags, type *value)          \
-        TORKETTLE_SYMBOL_(parse_pos_##name);                                                                           \
-    torkettle_status torkettle_parse_prefix_pos_##name(const char *text, size_t length, unsigned flags, type *value,   \
-                                                       size_t *count) TORKETTLE_SYMBOL_(parse_prefix_pos_##name);      \
+    TK_CALLED(torkettle_found_##name, whole_##name, const char *text, size_t length, unsigned flags);                  \
+    TK_CALLED(torkettle_found_##name, prefix_##name, const char *text, size_t length, unsigned flags);                 \
+    TK_CALLED(torkettle_found_##name, whole_canonical_##name, const char *text, size_t length);                        \
+    TK_CALLED(torkettle_found_##name, prefix_json_##name, const char *text, size_t length);                            \
+    TK_CALLED(torkettle_found_##name, next_##name, torkettle_column_##name *column);                                   \
+    TK_CALLED(torkettle_found_##name, next_field_##name, torkettle_fields_##name *fields);                             \
+    TK_CALLED(torkettle_status, parse_pos_##name, const char *text, size_t length, unsigned flags, type *value);       \
+    TK_CALLED(torkettle_status, parse_prefix_pos_##name, const char *text, size_t length, unsigned flags, type *value, \
+              size_t *count);                                                                                          \
     torkettle_status torkettle_called_parse_##name(const char *text, size_t length, unsigned flags, type *value)       \
         TORKETTLE_SYMBOL_(parse_##name);                                                                               \
     torkettle_status torkettle_called_parse_prefix_##name(const char *text, size_t length, unsigned flags,             \
                                                           type *value, size_t *count)                                  \
         TORKETTLE_SYMBOL_(parse_prefix_##name);                                                                        \
-    torkettle_error torkettle_parse_error_##name(const char *text, size_t length, unsigned flags)                      \
-        TORKETTLE_SYMBOL_(parse_error_##name);                                                                         \
-    torkettle_error torkettle_parse_prefix_error_##name(const char *text, size_t length, unsigned flags)               \
-        TORKETTLE_SYMBOL_(parse_prefix_error_##name);                                                                  \
-    void torkettle_column_##name##_init(torkettle_column_##name *column, const char *text, size_t length,              \
-                                        char separator) TORKETTLE_SYMBOL_(column_##name##_init);                       \
-    size_t torkettle_column_##name##_read(torkettle_column_##name *column, type *values, size_t count)                 \
-        TORKETTLE_SYMBOL_(column_##name##_read);                                                                       \
-    size_t torkettle_fields_##name##_read(torkettle_fields_##name *fields, type *values, size_t count)                 \
-        TORKETTLE_SYMBOL_(fields_##name##_read);                                                                       \
+    TK_CALLED(torkettle_error, parse_error_##name, const char *text, size_t length, unsigned flags);                   \
+    TK_CALLED(torkettle_error, parse_prefix_error_##name, const char *text, size_t length, unsigned flags);            \
+    TK_CALLED(void, column_##name##_init, torkettle_column_##name *column, const char *text, size_t length,            \
+              char separator);                                                                                         \
+    TK_CALLED(size_t, column_##name##_read, torkettle_column_##name *column, type *values, size_t count);              \
+    TK_CALLED(size_t, fields_##name##_read, torkettle_fields_##name *fields, type *values, size_t count);              \
                                                                                                                        \
     TK_INLINE torkettle_found_##name torkettle_of_whole_##name(const char *text, size_t length, unsigned flags)        \
         TORKETTLE_NOEXCEPT                                                                                             \
@@ -3125,20 +2954,18 @@ static inline size_t torkettle_rest_length(size_t length, char separator) TORKET
         return true;                                                                                                   \
     }
 
-TORKETTLE_FUNCTIONS_(i8, int8_t)
-TORKETTLE_FUNCTIONS_(u8, uint8_t)
-TORKETTLE_FUNCTIONS_(i16, int16_t)
-TORKETTLE_FUNCTIONS_(u16, uint16_t)
-TORKETTLE_FUNCTIONS_(i32, int32_t)
-TORKETTLE_FUNCTIONS_(u32, uint32_t)
-TORKETTLE_FUNCTIONS_(i64, int64_t)
-TORKETTLE_FUNCTIONS_(u64, uint64_t)
+/* The types, for a macro that takes a name and a type. */
 #if defined __SIZEOF_INT128__ && !defined TORKETTLE_NO_INT128
 typedef tk_i128 torkettle_i128;
 typedef tk_u128 torkettle_u128;
-TORKETTLE_FUNCTIONS_(i128, torkettle_i128)
-TORKETTLE_FUNCTIONS_(u128, torkettle_u128)
+#define TORKETTLE_LARGE_TYPES_(of) of(i128, torkettle_i128) of(u128, torkettle_u128)
+#else
+#define TORKETTLE_LARGE_TYPES_(of)
 #endif
+#define TORKETTLE_TYPES_(of)                                                                                           \
+    of(i8, int8_t) of(u8, uint8_t) of(i16, int16_t) of(u16, uint16_t) of(i32, int32_t) of(u32, uint32_t)               \
+        of(i64, int64_t) of(u64, uint64_t) TORKETTLE_LARGE_TYPES_(of)
+TORKETTLE_TYPES_(TORKETTLE_FUNCTIONS_)
 
 #if ULONG_MAX == UINT64_MAX
 TORKETTLE_PARSES_(_l, long, _i64)
@@ -3186,6 +3013,7 @@ const char *torkettle_version(void) TORKETTLE_SYMBOL_(version);
 #undef TK_POINTER
 #undef TK_TEXT
 #undef TK_ZEROS
+#undef TK_CALLED
 #undef TK_SYMBOL
 #undef TORKETTLE_BYTES_
 #undef TORKETTLE_SYMBOL_

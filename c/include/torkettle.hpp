@@ -47,14 +47,8 @@ public:
     }
     copied(const copied &) = delete;
     copied &operator=(const copied &) = delete;
-    TORKETTLE_CONSTEXPR_ ~copied()
-    {
-        delete[] bytes;
-    }
-    TORKETTLE_CONSTEXPR_ operator tk_bytes() const noexcept
-    {
-        return tk_bytes_of(bytes, size);
-    }
+    TORKETTLE_CONSTEXPR_ ~copied() { delete[] bytes; }
+    TORKETTLE_CONSTEXPR_ operator tk_bytes() const noexcept { return tk_bytes_of(bytes, size); }
 
 private:
     std::uint8_t *bytes;
@@ -66,9 +60,15 @@ private:
 template <std::size_t size, bool is_signed>
 struct functions;
 
-#define TORKETTLE_FUNCTIONS_(size, is_signed, name)                                                                    \
+template <class T>
+constexpr bool is_signed = T(-1) < T(0);
+
+template <class T>
+using functions_of = functions<sizeof(T), is_signed<T>>;
+
+#define TORKETTLE_FUNCTIONS_(name, type)                                                                               \
     template <>                                                                                                        \
-    struct functions<size, is_signed> {                                                                                \
+    struct functions<sizeof(type), is_signed<type>> {                                                                  \
         using found = torkettle_found_##name;                                                                          \
         [[gnu::always_inline]] static TORKETTLE_CONSTEXPR_ found whole(const char *text, std::size_t length,           \
                                                                        unsigned flags) noexcept                        \
@@ -89,21 +89,15 @@ struct functions;
         {                                                                                                              \
             const auto number = tk_whole_by_digits_##name((flags & TORKETTLE_SKIP_ZEROES) != 0,                        \
                                                           (flags & TORKETTLE_SKIP_PLUS) != 0, text);                   \
-            return {number.value, number.is_some ? text.len : 0};                                                          \
+            return {number.value, number.is_some ? text.len : 0};                                                      \
         }                                                                                                              \
         static TORKETTLE_CONSTEXPR_ found constant_prefix(tk_bytes text) noexcept                                      \
         {                                                                                                              \
             const auto number = tk_prefix_by_digits_##name(text);                                                      \
             return {number.value.first, number.is_some ? number.value.second : 0};                                     \
         }                                                                                                              \
-        static auto canonical(const char *text, std::size_t length) noexcept                                           \
-        {                                                                                                              \
-            return torkettle_whole_canonical_##name(text, length);                                                     \
-        }                                                                                                              \
-        static auto json(const char *text, std::size_t length) noexcept                                                \
-        {                                                                                                              \
-            return torkettle_prefix_json_##name(text, length);                                                         \
-        }                                                                                                              \
+        static constexpr auto canonical = torkettle_whole_canonical_##name;                                            \
+        static constexpr auto json = torkettle_prefix_json_##name;                                                     \
         using fields = torkettle_fields_##name;                                                                        \
         [[gnu::always_inline]] static auto next(fields &state) noexcept                                                \
         {                                                                                                              \
@@ -121,18 +115,7 @@ struct functions;
         }                                                                                                              \
     };
 
-TORKETTLE_FUNCTIONS_(1, true, i8)
-TORKETTLE_FUNCTIONS_(1, false, u8)
-TORKETTLE_FUNCTIONS_(2, true, i16)
-TORKETTLE_FUNCTIONS_(2, false, u16)
-TORKETTLE_FUNCTIONS_(4, true, i32)
-TORKETTLE_FUNCTIONS_(4, false, u32)
-TORKETTLE_FUNCTIONS_(8, true, i64)
-TORKETTLE_FUNCTIONS_(8, false, u64)
-#if defined __SIZEOF_INT128__ && !defined TORKETTLE_NO_INT128
-TORKETTLE_FUNCTIONS_(16, true, i128)
-TORKETTLE_FUNCTIONS_(16, false, u128)
-#endif
+TORKETTLE_TYPES_(TORKETTLE_FUNCTIONS_)
 #undef TORKETTLE_FUNCTIONS_
 
 // Whether T is none of the other types.
@@ -151,9 +134,6 @@ constexpr bool is_integer = (std::is_integral_v<T> &&
                             || std::is_same_v<T, torkettle_i128> || std::is_same_v<T, torkettle_u128>
 #endif
     ;
-
-template <class T>
-using functions_of = functions<sizeof(T), (T(-1) < T(0))>;
 
 // Why there is no number at the start of a text: no digit, or a value that the type does not hold.
 [[gnu::cold, gnu::noinline]] TORKETTLE_CONSTEXPR_ inline std::from_chars_result
@@ -184,7 +164,7 @@ template <class T, std::enable_if_t<detail::is_integer<T>, int> = 0>
 {
     const auto found = detail::functions_of<T>::prefix(first, static_cast<std::size_t>(last - first));
     if (found.length == 0)
-        return detail::refused(first, last, T(-1) < T(0));
+        return detail::refused(first, last, detail::is_signed<T>);
     value = static_cast<T>(found.value);
     return {first + found.length, std::errc()};
 }
@@ -277,18 +257,9 @@ public:
         using reference = const item<T> &;
 
         iterator() noexcept = default;
-        [[gnu::always_inline]] explicit iterator(range &all) noexcept : items(&all)
-        {
-            ++*this;
-        }
-        reference operator*() const noexcept
-        {
-            return current;
-        }
-        pointer operator->() const noexcept
-        {
-            return &current;
-        }
+        [[gnu::always_inline]] explicit iterator(range &all) noexcept : items(&all) { ++*this; }
+        reference operator*() const noexcept { return current; }
+        pointer operator->() const noexcept { return &current; }
         [[gnu::always_inline]] iterator &operator++() noexcept
         {
             if (!items->next(current))
@@ -317,28 +288,17 @@ public:
 
     // The fields of a text, which must stay as it is, with a separator between them. One more may follow the last. If
     // the separator is a digit, `+` or `-`, there is one item, an error with the index and the offset SIZE_MAX.
-    range(std::string_view text, char separator) noexcept : range(text, separator, 0)
-    {
-    }
+    range(std::string_view text, char separator) noexcept : range(text, separator, 0) {}
 
     // A string that nothing else keeps is freed before the range is read.
     template <class Allocator>
     range(const string<Allocator> &&text, char separator) = delete;
 
     // The lines of a text. A line ends with "\n" or "\r\n", which is not part of it.
-    static range of_lines(std::string_view text) noexcept
-    {
-        return range(text, '\n', 1);
-    }
+    static range of_lines(std::string_view text) noexcept { return range(text, '\n', 1); }
 
-    [[gnu::always_inline]] iterator begin() noexcept
-    {
-        return iterator(*this);
-    }
-    iterator end() const noexcept
-    {
-        return iterator();
-    }
+    [[gnu::always_inline]] iterator begin() noexcept { return iterator(*this); }
+    iterator end() const noexcept { return iterator(); }
 
     // Reads the next field into `field`. At the end, returns false, and leaves `field` as it is.
     [[gnu::always_inline]] bool next(item<T> &field) noexcept
@@ -387,16 +347,10 @@ public:
     }
 
     // The index of the next field or, at the end, the number of fields.
-    std::size_t next_index() const noexcept
-    {
-        return state.next_index;
-    }
+    std::size_t next_index() const noexcept { return state.next_index; }
 
     // The offset of the next field or, at the end, of the end of the text.
-    std::size_t next_offset() const noexcept
-    {
-        return state.next_offset;
-    }
+    std::size_t next_offset() const noexcept { return state.next_offset; }
 
 private:
     using functions = functions_of<T>;

@@ -88,55 +88,16 @@ TK_CONSTEXPR size_t tk_index(size_t index, size_t len)
     return index;
 }
 
-TK_CONSTEXPR bool tk_u8_is_digit(uint8_t byte)
-{
-    return '0' <= byte && byte <= '9';
-}
-
-TK_CONSTEXPR uint32_t tk_u32_min(uint32_t a, uint32_t b)
-{
-    return b < a ? b : a;
-}
-
-TK_CONSTEXPR size_t tk_size_min(size_t a, size_t b)
-{
-    return b < a ? b : a;
-}
-
-TK_CONSTEXPR size_t tk_size_max(size_t a, size_t b)
-{
-    return a < b ? b : a;
-}
-
-TK_CONSTEXPR size_t tk_size_saturating_add(size_t a, size_t b)
-{
-    return a + b < a ? TK_CAST(size_t, -1) : a + b;
-}
-
-TK_CONSTEXPR size_t tk_size_saturating_sub(size_t a, size_t b)
-{
-    return a < b ? 0 : a - b;
-}
-
-TK_CONSTEXPR uint64_t tk_i64_unsigned_abs(int64_t a)
-{
-    return a < 0 ? 0 - TK_CAST(uint64_t, a) : TK_CAST(uint64_t, a);
-}
-
-TK_CONSTEXPR uint32_t tk_i32_unsigned_abs(int32_t a)
-{
-    return TK_CAST(uint32_t, tk_i64_unsigned_abs(a));
-}
-
-TK_CONSTEXPR uint16_t tk_i16_unsigned_abs(int16_t a)
-{
-    return TK_CAST(uint16_t, tk_i64_unsigned_abs(a));
-}
-
-TK_CONSTEXPR uint8_t tk_i8_unsigned_abs(int8_t a)
-{
-    return TK_CAST(uint8_t, tk_i64_unsigned_abs(a));
-}
+TK_CONSTEXPR bool tk_u8_is_digit(uint8_t byte) { return '0' <= byte && byte <= '9'; }
+TK_CONSTEXPR uint32_t tk_u32_min(uint32_t a, uint32_t b) { return b < a ? b : a; }
+TK_CONSTEXPR size_t tk_size_min(size_t a, size_t b) { return b < a ? b : a; }
+TK_CONSTEXPR size_t tk_size_max(size_t a, size_t b) { return a < b ? b : a; }
+TK_CONSTEXPR size_t tk_size_saturating_add(size_t a, size_t b) { return a + b < a ? TK_CAST(size_t, -1) : a + b; }
+TK_CONSTEXPR size_t tk_size_saturating_sub(size_t a, size_t b) { return a < b ? 0 : a - b; }
+TK_CONSTEXPR uint64_t tk_i64_unsigned_abs(int64_t a) { return a < 0 ? 0 - TK_CAST(uint64_t, a) : TK_CAST(uint64_t, a); }
+TK_CONSTEXPR uint32_t tk_i32_unsigned_abs(int32_t a) { return TK_CAST(uint32_t, tk_i64_unsigned_abs(a)); }
+TK_CONSTEXPR uint16_t tk_i16_unsigned_abs(int16_t a) { return TK_CAST(uint16_t, tk_i64_unsigned_abs(a)); }
+TK_CONSTEXPR uint8_t tk_i8_unsigned_abs(int8_t a) { return TK_CAST(uint8_t, tk_i64_unsigned_abs(a)); }
 
 /* How many low bits of a word are zero. */
 TK_INLINE uint32_t tk_u64_trailing_zeros(uint64_t word)
@@ -155,16 +116,10 @@ TK_INLINE uint32_t tk_u64_trailing_zeros(uint64_t word)
 #endif
 }
 
-TK_INLINE uint32_t tk_u32_trailing_zeros(uint32_t word)
-{
-    return tk_u64_trailing_zeros(word | UINT64_C(1) << 32);
-}
+TK_INLINE uint32_t tk_u32_trailing_zeros(uint32_t word) { return tk_u64_trailing_zeros(word | UINT64_C(1) << 32); }
 
 /* Words of bytes, the first one lowest, on every processor. Compilers make one load of it. */
-TK_INLINE uint16_t tk_u16_load(const uint8_t *bytes)
-{
-    return TK_CAST(uint16_t, bytes[0] | bytes[1] << 8);
-}
+TK_INLINE uint16_t tk_u16_load(const uint8_t *bytes) { return TK_CAST(uint16_t, bytes[0] | bytes[1] << 8); }
 
 TK_INLINE uint32_t tk_u32_load(const uint8_t *bytes)
 {
@@ -193,94 +148,30 @@ TK_INLINE uint64_t tk_u64_load(const uint8_t *bytes)
 __extension__ typedef __int128 tk_i128;
 __extension__ typedef unsigned __int128 tk_u128;
 
-TK_CONSTEXPR tk_u128 tk_u128_make(uint64_t high, uint64_t low)
-{
-    return TK_CAST(tk_u128, high) << 64 | low;
-}
-
-TK_CONSTEXPR tk_u128 tk_u128_of(uint64_t value)
-{
-    return value;
-}
-
-TK_CONSTEXPR uint64_t tk_u128_low(tk_u128 value)
-{
-    return TK_CAST(uint64_t, value);
-}
-
-TK_CONSTEXPR bool tk_u128_less(tk_u128 a, tk_u128 b)
-{
-    return a < b;
-}
-
-TK_CONSTEXPR tk_u128 tk_u128_wrapping_add(tk_u128 a, tk_u128 b)
-{
-    return a + b;
-}
-
-TK_CONSTEXPR tk_u128 tk_u128_wrapping_sub(tk_u128 a, tk_u128 b)
-{
-    return a - b;
-}
-
-TK_CONSTEXPR tk_u128 tk_u128_wrapping_mul(tk_u128 a, tk_u128 b)
-{
-    return a * b;
-}
-
-TK_CONSTEXPR bool tk_u128_product_fits(tk_u128 a, tk_u128 b)
-{
-    return b == 0 || a <= ~TK_CAST(tk_u128, 0) / b;
-}
-
-TK_CONSTEXPR tk_u128 tk_u128_shift_left(tk_u128 a, uint64_t count)
-{
-    return a << count;
-}
-
-TK_CONSTEXPR tk_u128 tk_u128_shift_right(tk_u128 a, uint64_t count)
-{
-    return a >> count;
-}
-
-TK_CONSTEXPR tk_i128 tk_u128_as_i128(tk_u128 value)
-{
-    return TK_CAST(tk_i128, value);
-}
-
-TK_CONSTEXPR tk_u128 tk_i128_as_u128(tk_i128 value)
-{
-    return TK_CAST(tk_u128, value);
-}
+TK_CONSTEXPR tk_u128 tk_u128_make(uint64_t high, uint64_t low) { return TK_CAST(tk_u128, high) << 64 | low; }
+TK_CONSTEXPR tk_u128 tk_u128_of(uint64_t value) { return value; }
+TK_CONSTEXPR uint64_t tk_u128_low(tk_u128 value) { return TK_CAST(uint64_t, value); }
+TK_CONSTEXPR bool tk_u128_less(tk_u128 a, tk_u128 b) { return a < b; }
+TK_CONSTEXPR tk_u128 tk_u128_wrapping_add(tk_u128 a, tk_u128 b) { return a + b; }
+TK_CONSTEXPR tk_u128 tk_u128_wrapping_sub(tk_u128 a, tk_u128 b) { return a - b; }
+TK_CONSTEXPR tk_u128 tk_u128_wrapping_mul(tk_u128 a, tk_u128 b) { return a * b; }
+TK_CONSTEXPR bool tk_u128_product_fits(tk_u128 a, tk_u128 b) { return b == 0 || a <= ~TK_CAST(tk_u128, 0) / b; }
+TK_CONSTEXPR tk_u128 tk_u128_shift_left(tk_u128 a, uint64_t count) { return a << count; }
+TK_CONSTEXPR tk_u128 tk_u128_shift_right(tk_u128 a, uint64_t count) { return a >> count; }
+TK_CONSTEXPR tk_i128 tk_u128_as_i128(tk_u128 value) { return TK_CAST(tk_i128, value); }
+TK_CONSTEXPR tk_u128 tk_i128_as_u128(tk_i128 value) { return TK_CAST(tk_u128, value); }
 #else
 typedef struct tk_u128 {
     uint64_t low;
     uint64_t high;
 } tk_u128;
 
-typedef struct tk_i128 {
-    tk_u128 bits;
-} tk_i128;
+typedef tk_u128 tk_i128;
 
-TK_CONSTEXPR tk_u128 tk_u128_make(uint64_t high, uint64_t low)
-{
-    return TK_MAKE(tk_u128, low, high);
-}
-
-TK_CONSTEXPR tk_u128 tk_u128_of(uint64_t value)
-{
-    return TK_MAKE(tk_u128, value, 0);
-}
-
-TK_CONSTEXPR uint64_t tk_u128_low(tk_u128 value)
-{
-    return value.low;
-}
-
-TK_CONSTEXPR bool tk_u128_less(tk_u128 a, tk_u128 b)
-{
-    return a.high < b.high || (a.high == b.high && a.low < b.low);
-}
+TK_CONSTEXPR tk_u128 tk_u128_make(uint64_t high, uint64_t low) { return TK_MAKE(tk_u128, low, high); }
+TK_CONSTEXPR tk_u128 tk_u128_of(uint64_t value) { return TK_MAKE(tk_u128, value, 0); }
+TK_CONSTEXPR uint64_t tk_u128_low(tk_u128 value) { return value.low; }
+TK_CONSTEXPR bool tk_u128_less(tk_u128 a, tk_u128 b) { return a.high < b.high || (a.high == b.high && a.low < b.low); }
 
 TK_CONSTEXPR tk_u128 tk_u128_wrapping_add(tk_u128 a, tk_u128 b)
 {
@@ -332,21 +223,11 @@ TK_CONSTEXPR tk_u128 tk_u128_shift_right(tk_u128 a, uint64_t count)
     return count == 0 ? a : TK_MAKE(tk_u128, a.low >> count | a.high << (64 - count), a.high >> count);
 }
 
-TK_CONSTEXPR tk_i128 tk_u128_as_i128(tk_u128 value)
-{
-    return TK_MAKE(tk_i128, value);
-}
-
-TK_CONSTEXPR tk_u128 tk_i128_as_u128(tk_i128 value)
-{
-    return value.bits;
-}
+TK_CONSTEXPR tk_i128 tk_u128_as_i128(tk_u128 value) { return value; }
+TK_CONSTEXPR tk_u128 tk_i128_as_u128(tk_i128 value) { return value; }
 #endif
 
-TK_CONSTEXPR bool tk_u128_sum_fits(tk_u128 a, tk_u128 b)
-{
-    return !tk_u128_less(tk_u128_wrapping_add(a, b), a);
-}
+TK_CONSTEXPR bool tk_u128_sum_fits(tk_u128 a, tk_u128 b) { return !tk_u128_less(tk_u128_wrapping_add(a, b), a); }
 
 TK_CONSTEXPR tk_u128 tk_u128_add(tk_u128 a, tk_u128 b)
 {
@@ -371,19 +252,11 @@ TK_CONSTEXPR tk_u128 tk_u128_saturating_sub(tk_u128 a, tk_u128 b)
     return tk_u128_less(a, b) ? tk_u128_of(0) : tk_u128_wrapping_sub(a, b);
 }
 
-TK_CONSTEXPR uint64_t tk_u128_high(tk_u128 value)
-{
-    return tk_u128_low(tk_u128_shift_right(value, 64));
-}
+TK_CONSTEXPR uint64_t tk_u128_high(tk_u128 value) { return tk_u128_low(tk_u128_shift_right(value, 64)); }
 
 TK_CONSTEXPR bool tk_u128_equal(tk_u128 a, tk_u128 b)
 {
     return tk_u128_low(a) == tk_u128_low(b) && tk_u128_high(a) == tk_u128_high(b);
-}
-
-TK_CONSTEXPR tk_u128 tk_u128_not(tk_u128 a)
-{
-    return tk_u128_make(~tk_u128_high(a), ~tk_u128_low(a));
 }
 
 TK_CONSTEXPR tk_u128 tk_u128_and(tk_u128 a, tk_u128 b)
@@ -401,40 +274,14 @@ TK_CONSTEXPR tk_u128 tk_u128_xor(tk_u128 a, tk_u128 b)
     return tk_u128_make(tk_u128_high(a) ^ tk_u128_high(b), tk_u128_low(a) ^ tk_u128_low(b));
 }
 
-TK_CONSTEXPR tk_i128 tk_i128_make(uint64_t high, uint64_t low)
-{
-    return tk_u128_as_i128(tk_u128_make(high, low));
-}
-
-TK_CONSTEXPR tk_i128 tk_i128_of(uint64_t value)
-{
-    return tk_u128_as_i128(tk_u128_of(value));
-}
-
-TK_CONSTEXPR uint64_t tk_i128_low(tk_i128 value)
-{
-    return tk_u128_low(tk_i128_as_u128(value));
-}
+TK_CONSTEXPR tk_i128 tk_i128_make(uint64_t high, uint64_t low) { return tk_u128_as_i128(tk_u128_make(high, low)); }
+TK_CONSTEXPR tk_i128 tk_i128_of(uint64_t value) { return tk_u128_as_i128(tk_u128_of(value)); }
+TK_CONSTEXPR uint64_t tk_i128_low(tk_i128 value) { return tk_u128_low(tk_i128_as_u128(value)); }
 
 TK_CONSTEXPR bool tk_i128_less(tk_i128 a, tk_i128 b)
 {
     tk_u128 sign = tk_u128_make(UINT64_C(0x8000000000000000), 0);
     return tk_u128_less(tk_u128_xor(tk_i128_as_u128(a), sign), tk_u128_xor(tk_i128_as_u128(b), sign));
-}
-
-TK_CONSTEXPR bool tk_i128_equal(tk_i128 a, tk_i128 b)
-{
-    return tk_u128_equal(tk_i128_as_u128(a), tk_i128_as_u128(b));
-}
-
-TK_CONSTEXPR tk_i128 tk_i128_sub(tk_i128 a, tk_i128 b)
-{
-    return tk_u128_as_i128(tk_u128_wrapping_sub(tk_i128_as_u128(a), tk_i128_as_u128(b)));
-}
-
-TK_CONSTEXPR tk_i128 tk_i128_mul(tk_i128 a, tk_i128 b)
-{
-    return tk_u128_as_i128(tk_u128_wrapping_mul(tk_i128_as_u128(a), tk_i128_as_u128(b)));
 }
 
 TK_CONSTEXPR tk_i128 tk_i128_negate(tk_i128 a)

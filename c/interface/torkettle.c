@@ -72,10 +72,7 @@ size_t torkettle_error_text(char *buffer, size_t size, const torkettle_error *er
     return written;
 }
 
-const char *torkettle_version(void) TORKETTLE_NOEXCEPT
-{
-    return TORKETTLE_VERSION;
-}
+const char *torkettle_version(void) TORKETTLE_NOEXCEPT { return TORKETTLE_VERSION; }
 
 /* The flags of a call. */
 #define TK_ZEROES ((flags & TORKETTLE_SKIP_ZEROES) != 0)
@@ -278,17 +275,8 @@ const char *torkettle_version(void) TORKETTLE_NOEXCEPT
     /* A column is read as its fields, up to a bad one. */                                                             \
     TK_INLINE torkettle_fields_##name tk_fields_of_##name(const torkettle_column_##name *column)                       \
     {                                                                                                                  \
-        torkettle_fields_##name fields;                                                                                \
-        fields.status = TORKETTLE_OK;                                                                                  \
-        fields.index = fields.offset = fields.length = 0;                                                              \
-        fields.text = NULL;                                                                                            \
-        fields.next_index = column->next_index;                                                                        \
-        fields.next_offset = column->next_offset;                                                                      \
-        fields.rest = column->rest;                                                                                    \
-        fields.rest_length = column->rest_length;                                                                      \
-        fields.separator = column->separator;                                                                          \
-        fields.is_lines = 0;                                                                                           \
-        return fields;                                                                                                 \
+        return TK_MAKE(torkettle_fields_##name, TORKETTLE_OK, 0, 0, NULL, 0, column->next_index, column->next_offset,  \
+                       column->rest, column->rest_length, column->separator, 0);                                       \
     }                                                                                                                  \
                                                                                                                        \
     TK_COLD void tk_refuse_column_##name(torkettle_column_##name *column, const torkettle_fields_##name *bad)          \
@@ -336,15 +324,4 @@ const char *torkettle_version(void) TORKETTLE_NOEXCEPT
         return read;                                                                                                   \
     }
 
-TK_FUNCTIONS(i8, int8_t)
-TK_FUNCTIONS(u8, uint8_t)
-TK_FUNCTIONS(i16, int16_t)
-TK_FUNCTIONS(u16, uint16_t)
-TK_FUNCTIONS(i32, int32_t)
-TK_FUNCTIONS(u32, uint32_t)
-TK_FUNCTIONS(i64, int64_t)
-TK_FUNCTIONS(u64, uint64_t)
-#if defined __SIZEOF_INT128__ && !defined TORKETTLE_NO_INT128
-TK_FUNCTIONS(i128, torkettle_i128)
-TK_FUNCTIONS(u128, torkettle_u128)
-#endif
+TORKETTLE_TYPES_(TK_FUNCTIONS)

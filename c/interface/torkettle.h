@@ -69,8 +69,8 @@ extern "C" {
 #define TORKETTLE_VERSION "0.1.0"
 
 /*
- * Ends a declaration. With gcc and clang, a symbol of the library has the version of its interface, so that a process
- * may load two versions.
+ * Ends a declaration, and declares a function. With gcc and clang, a symbol of the library has the version of its
+ * interface, so that a process may load two versions.
  */
 #if defined __GNUC__ || defined __clang__
 #define TK_SYMBOL(name) __asm__(TORKETTLE_PREFIX_(__USER_LABEL_PREFIX__) "torkettle_0_1_" #name)
@@ -80,6 +80,7 @@ extern "C" {
 #define TK_SYMBOL(name)
 #endif
 #define TORKETTLE_SYMBOL_(name) TORKETTLE_NOEXCEPT TK_SYMBOL(name)
+#define TK_CALLED(result, name, ...) result torkettle_##name(__VA_ARGS__) TORKETTLE_SYMBOL_(name)
 
 /*
  * The values of the argument `flags`: 0, one of these, or both with `|`. Other bits have no effect.
@@ -335,8 +336,8 @@ static inline size_t torkettle_rest_length(size_t length, char separator) TORKET
 
 /* The parses of a type by the functions of another, or its own, of the same size and sign. */
 #define TORKETTLE_PARSES_(name, type, same)                                                                            \
-    static inline torkettle_status torkettle_parse##name(const char *text, size_t length, unsigned flags,              \
-                                                         type *value) TORKETTLE_NOEXCEPT                               \
+    static inline torkettle_status torkettle_parse##name(const char *text, size_t length, unsigned flags, type *value) \
+        TORKETTLE_NOEXCEPT                                                                                             \
     {                                                                                                                  \
         torkettle_found##same found = torkettle_of_whole##same(text, length, flags);                                   \
         if (found.length == 0)                                                                                         \
@@ -384,61 +385,42 @@ static inline size_t torkettle_rest_length(size_t length, char separator) TORKET
                                                                                                                        \
     typedef struct torkettle_column_##name {                                                                           \
         torkettle_status status;                                                                                       \
-        size_t index;                                                                                                  \
-        size_t offset;                                                                                                 \
-        size_t next_index;                                                                                             \
-        size_t next_offset;                                                                                            \
+        size_t index, offset, next_index, next_offset;                                                                 \
         const char *rest;                                                                                              \
         size_t rest_length;                                                                                            \
-        char separator;                                                                                                \
-        char is_lines;                                                                                                 \
+        char separator, is_lines;                                                                                      \
     } torkettle_column_##name;                                                                                         \
                                                                                                                        \
     typedef struct torkettle_fields_##name {                                                                           \
         torkettle_status status;                                                                                       \
-        size_t index;                                                                                                  \
-        size_t offset;                                                                                                 \
+        size_t index, offset;                                                                                          \
         const char *text;                                                                                              \
-        size_t length;                                                                                                 \
-        size_t next_index;                                                                                             \
-        size_t next_offset;                                                                                            \
+        size_t length, next_index, next_offset;                                                                        \
         const char *rest;                                                                                              \
         size_t rest_length;                                                                                            \
-        char separator;                                                                                                \
-        char is_lines;                                                                                                 \
+        char separator, is_lines;                                                                                      \
     } torkettle_fields_##name;                                                                                         \
                                                                                                                        \
-    torkettle_found_##name torkettle_whole_##name(const char *text, size_t length, unsigned flags)                     \
-        TORKETTLE_SYMBOL_(whole_##name);                                                                               \
-    torkettle_found_##name torkettle_prefix_##name(const char *text, size_t length, unsigned flags)                    \
-        TORKETTLE_SYMBOL_(prefix_##name);                                                                              \
-    torkettle_found_##name torkettle_whole_canonical_##name(const char *text, size_t length)                           \
-        TORKETTLE_SYMBOL_(whole_canonical_##name);                                                                     \
-    torkettle_found_##name torkettle_prefix_json_##name(const char *text, size_t length)                               \
-        TORKETTLE_SYMBOL_(prefix_json_##name);                                                                         \
-    torkettle_found_##name torkettle_next_##name(torkettle_column_##name *column) TORKETTLE_SYMBOL_(next_##name);      \
-    torkettle_found_##name torkettle_next_field_##name(torkettle_fields_##name *fields)                                \
-        TORKETTLE_SYMBOL_(next_field_##name);                                                                          \
-                                                                                                                       \
-    torkettle_status torkettle_parse_pos_##name(const char *text, size_t length, unsigned flags, type *value)          \
-        TORKETTLE_SYMBOL_(parse_pos_##name);                                                                           \
-    torkettle_status torkettle_parse_prefix_pos_##name(const char *text, size_t length, unsigned flags, type *value,   \
-                                                       size_t *count) TORKETTLE_SYMBOL_(parse_prefix_pos_##name);      \
+    TK_CALLED(torkettle_found_##name, whole_##name, const char *text, size_t length, unsigned flags);                  \
+    TK_CALLED(torkettle_found_##name, prefix_##name, const char *text, size_t length, unsigned flags);                 \
+    TK_CALLED(torkettle_found_##name, whole_canonical_##name, const char *text, size_t length);                        \
+    TK_CALLED(torkettle_found_##name, prefix_json_##name, const char *text, size_t length);                            \
+    TK_CALLED(torkettle_found_##name, next_##name, torkettle_column_##name *column);                                   \
+    TK_CALLED(torkettle_found_##name, next_field_##name, torkettle_fields_##name *fields);                             \
+    TK_CALLED(torkettle_status, parse_pos_##name, const char *text, size_t length, unsigned flags, type *value);       \
+    TK_CALLED(torkettle_status, parse_prefix_pos_##name, const char *text, size_t length, unsigned flags, type *value, \
+              size_t *count);                                                                                          \
     torkettle_status torkettle_called_parse_##name(const char *text, size_t length, unsigned flags, type *value)       \
         TORKETTLE_SYMBOL_(parse_##name);                                                                               \
     torkettle_status torkettle_called_parse_prefix_##name(const char *text, size_t length, unsigned flags,             \
                                                           type *value, size_t *count)                                  \
         TORKETTLE_SYMBOL_(parse_prefix_##name);                                                                        \
-    torkettle_error torkettle_parse_error_##name(const char *text, size_t length, unsigned flags)                      \
-        TORKETTLE_SYMBOL_(parse_error_##name);                                                                         \
-    torkettle_error torkettle_parse_prefix_error_##name(const char *text, size_t length, unsigned flags)               \
-        TORKETTLE_SYMBOL_(parse_prefix_error_##name);                                                                  \
-    void torkettle_column_##name##_init(torkettle_column_##name *column, const char *text, size_t length,              \
-                                        char separator) TORKETTLE_SYMBOL_(column_##name##_init);                       \
-    size_t torkettle_column_##name##_read(torkettle_column_##name *column, type *values, size_t count)                 \
-        TORKETTLE_SYMBOL_(column_##name##_read);                                                                       \
-    size_t torkettle_fields_##name##_read(torkettle_fields_##name *fields, type *values, size_t count)                 \
-        TORKETTLE_SYMBOL_(fields_##name##_read);                                                                       \
+    TK_CALLED(torkettle_error, parse_error_##name, const char *text, size_t length, unsigned flags);                   \
+    TK_CALLED(torkettle_error, parse_prefix_error_##name, const char *text, size_t length, unsigned flags);            \
+    TK_CALLED(void, column_##name##_init, torkettle_column_##name *column, const char *text, size_t length,            \
+              char separator);                                                                                         \
+    TK_CALLED(size_t, column_##name##_read, torkettle_column_##name *column, type *values, size_t count);              \
+    TK_CALLED(size_t, fields_##name##_read, torkettle_fields_##name *fields, type *values, size_t count);              \
                                                                                                                        \
     TK_INLINE torkettle_found_##name torkettle_of_whole_##name(const char *text, size_t length, unsigned flags)        \
         TORKETTLE_NOEXCEPT                                                                                             \
@@ -509,20 +491,18 @@ static inline size_t torkettle_rest_length(size_t length, char separator) TORKET
         return true;                                                                                                   \
     }
 
-TORKETTLE_FUNCTIONS_(i8, int8_t)
-TORKETTLE_FUNCTIONS_(u8, uint8_t)
-TORKETTLE_FUNCTIONS_(i16, int16_t)
-TORKETTLE_FUNCTIONS_(u16, uint16_t)
-TORKETTLE_FUNCTIONS_(i32, int32_t)
-TORKETTLE_FUNCTIONS_(u32, uint32_t)
-TORKETTLE_FUNCTIONS_(i64, int64_t)
-TORKETTLE_FUNCTIONS_(u64, uint64_t)
+/* The types, for a macro that takes a name and a type. */
 #if defined __SIZEOF_INT128__ && !defined TORKETTLE_NO_INT128
 typedef tk_i128 torkettle_i128;
 typedef tk_u128 torkettle_u128;
-TORKETTLE_FUNCTIONS_(i128, torkettle_i128)
-TORKETTLE_FUNCTIONS_(u128, torkettle_u128)
+#define TORKETTLE_LARGE_TYPES_(of) of(i128, torkettle_i128) of(u128, torkettle_u128)
+#else
+#define TORKETTLE_LARGE_TYPES_(of)
 #endif
+#define TORKETTLE_TYPES_(of)                                                                                           \
+    of(i8, int8_t) of(u8, uint8_t) of(i16, int16_t) of(u16, uint16_t) of(i32, int32_t) of(u32, uint32_t)               \
+        of(i64, int64_t) of(u64, uint64_t) TORKETTLE_LARGE_TYPES_(of)
+TORKETTLE_TYPES_(TORKETTLE_FUNCTIONS_)
 
 #if ULONG_MAX == UINT64_MAX
 TORKETTLE_PARSES_(_l, long, _i64)
@@ -557,6 +537,7 @@ const char *torkettle_version(void) TORKETTLE_SYMBOL_(version);
 /* torkettle.c goes on with these. */
 #ifndef TORKETTLE_SOURCE_
 /* @forget */
+#undef TK_CALLED
 #undef TK_SYMBOL
 #undef TORKETTLE_BYTES_
 #undef TORKETTLE_SYMBOL_
