@@ -32,31 +32,23 @@ struct total {
 static void add(struct total *total, int64_t number)
 {
     const int64_t sum = total->sum;
-    const bool has_room = number < 0 ? sum >= INT64_MIN - number : sum <= INT64_MAX - number;
     total->numbers++;
-    if (has_room)
-        total->sum += number;
-    else
+    if (number < 0 ? sum < INT64_MIN - number : sum > INT64_MAX - number)
         total->is_out_of_range = true;
+    else
+        total->sum += number;
 }
 
 /* Prints printable ASCII, and the other bytes as escapes. */
 static void print_escaped(const char *text, size_t length)
 {
+    static const char special[] = "\t\r\n'\"\\", letters[] = "trn'\"\\";
     for (const char *at = text; at < text + length; at++) {
-        const unsigned char byte = (unsigned char)*at;
-        if (byte == '\t')
-            fputs("\\t", stdout);
-        else if (byte == '\r')
-            fputs("\\r", stdout);
-        else if (byte == '\n')
-            fputs("\\n", stdout);
-        else if (byte == '\'' || byte == '"' || byte == '\\')
-            printf("\\%c", byte);
-        else if (' ' <= byte && byte <= '~')
-            putchar(byte);
+        const char *const found = memchr(special, *at, sizeof special - 1);
+        if (found != NULL)
+            printf("\\%c", letters[found - special]);
         else
-            printf("\\x%02x", byte);
+            printf(' ' <= *at && *at <= '~' ? "%c" : "\\x%02x", (unsigned char)*at);
     }
 }
 
@@ -80,24 +72,11 @@ static void add_lines(struct total *total, const char *text, size_t length)
     total->lines = lines.next_index;
 }
 
-/* Returns the length of the whole lines that a text begins with. */
-static size_t length_of_lines(const char *text, size_t length)
-{
-    while (length > 0 && text[length - 1] != '\n')
-        length--;
-    return length;
-}
-
 /* Says whether a text begins with a line that is too long, not counting its end, which is \n or \r\n. */
 static bool begins_with_too_long_a_line(const char *text, size_t length, bool has_ended)
 {
-    const char *end;
-    size_t line = length;
-    if (length <= LONGEST_LINE)
-        return false;
-    end = memchr(text, '\n', length);
-    if (end != NULL)
-        line = (size_t)(end - text);
+    const char *const end = memchr(text, '\n', length);
+    size_t line = end != NULL ? (size_t)(end - text) : length;
     if ((end != NULL || !has_ended) && line > 0 && text[line - 1] == '\r')
         line--;
     return line > LONGEST_LINE;
@@ -116,23 +95,22 @@ static void skip_line(struct total *total, int last, FILE *input)
 static void add_file(struct total *total, FILE *input)
 {
     static char text[LONGEST_LINE + 2];
-    size_t length = 0;
-    for (;;) {
+    size_t length = 0, count, lines;
+    do {
         const size_t room = sizeof text - length;
-        const size_t count = fread(text + length, 1, room < PIECE ? room : PIECE, input);
-        size_t lines;
+        count = fread(text + length, 1, room < PIECE ? room : PIECE, input);
         length += count;
         if (begins_with_too_long_a_line(text, length, count == 0)) {
             skip_line(total, (unsigned char)text[length - 1], input);
             length = 0;
         }
-        lines = count > 0 ? length_of_lines(text, length) : length;
+        lines = length;
+        while (count > 0 && lines > 0 && text[lines - 1] != '\n')
+            lines--;
         add_lines(total, text, lines);
-        if (count == 0)
-            return;
         length -= lines;
         memmove(text, text + lines, length);
-    }
+    } while (count > 0);
 }
 
 int main(void)
