@@ -14,6 +14,7 @@
 #include <memory>
 #include <string>
 #include <string_view>
+#include <tuple>
 #include <type_traits>
 #include <utility>
 #if __cplusplus >= 202002L
@@ -26,6 +27,16 @@ std::uint64_t calls = 0;
 std::uint64_t accepted = 0;
 std::uint64_t out_of_range = 0;
 std::uint64_t differences = 0;
+
+template <class... T>
+struct Types {};
+using Integers = Types<char, signed char, unsigned char, short, unsigned short, int, unsigned, long, unsigned long,
+                       long long, unsigned long long>;
+#if defined __SIZEOF_INT128__ && !defined TORKETTLE_NO_INT128
+using LargeIntegers = Types<torkettle_i128, torkettle_u128>;
+#else
+using LargeIntegers = Types<>;
+#endif
 
 void require(bool is_right, const char *what, std::string_view text)
 {
@@ -48,7 +59,7 @@ bool is_same_call(std::string_view text, More... more)
 }
 
 template <class T>
-void compare(std::string_view text, const char *type)
+void compare(std::string_view text)
 {
     char printed[64];
     T value = 77;
@@ -64,27 +75,22 @@ void compare(std::string_view text, const char *type)
     require(is_same_call<T>(text) && is_same_call<T>(text, 10) && is_same_call<T>(text, int(2 + calls / 16 % 35)) &&
                 is_found(torkettle::parse<T>(text), is_whole) &&
                 is_found(torkettle::canonical<T>(text), is_whole && is_canonical),
-            type, text);
+            __PRETTY_FUNCTION__, text);
+}
+
+template <class... T>
+void compare_types(std::string_view text, Types<T...>)
+{
+    (compare<T>(text), ...);
 }
 
 void compare_all(const std::string &all)
 {
     const std::string_view text = placed(all);
-    compare<char>(text, "char");
-    compare<signed char>(text, "signed char");
-    compare<unsigned char>(text, "unsigned char");
-    compare<short>(text, "short");
-    compare<unsigned short>(text, "unsigned short");
-    compare<int>(text, "int");
-    compare<unsigned>(text, "unsigned");
-    compare<long>(text, "long");
-    compare<unsigned long>(text, "unsigned long");
-    compare<long long>(text, "long long");
-    compare<unsigned long long>(text, "unsigned long long");
+    compare_types(text, Integers());
     // In strict C++, the library of gcc has no from_chars for 128 bits.
-#if defined __GLIBCXX_TYPE_INT_N_0 && defined __SIZEOF_INT128__ && !defined TORKETTLE_NO_INT128
-    compare<torkettle_i128>(text, "__int128");
-    compare<torkettle_u128>(text, "unsigned __int128");
+#ifdef __GLIBCXX_TYPE_INT_N_0
+    compare_types(text, LargeIntegers());
 #endif
 }
 
@@ -128,21 +134,23 @@ template <class T, class... More>
 constexpr bool is_taken = std::is_invocable_v<decltype(ours), T &, More...>;
 template <class T, class... More>
 constexpr bool takes_what_std_takes = is_taken<T, More...> == std::is_invocable_v<decltype(theirs), T &, More...>;
-template <class... Types>
-constexpr bool takes_types_of_std = ((takes_what_std_takes<Types> && takes_what_std_takes<Types, int> &&
-                                      takes_what_std_takes<Types, std::chars_format> &&
-                                      takes_what_std_takes<Types, int, int>)&&...);
+template <class... T>
+constexpr bool takes_types_of_std(Types<T...>)
+{
+    return ((takes_what_std_takes<T> && takes_what_std_takes<T, int> && takes_what_std_takes<T, std::chars_format> &&
+             takes_what_std_takes<T, int, int>)&&...);
+}
 
 enum class Number : int {};
 
 static_assert(is_taken<char> && is_taken<std::size_t, int> && is_taken<std::ptrdiff_t>);
 static_assert(!is_taken<bool> && !is_taken<wchar_t, int> && !is_taken<char *>);
-static_assert(takes_types_of_std<char, signed char, unsigned char, short, unsigned short, int, unsigned, long,
-                                 unsigned long, long long, unsigned long long, const int>);
-static_assert(takes_types_of_std<bool, wchar_t, char16_t, char32_t, Number, char *, float, double, long double>);
-static_assert(takes_types_of_std<volatile bool, volatile wchar_t, volatile char16_t, volatile char, volatile int>);
+static_assert(takes_types_of_std(Integers()));
+static_assert(takes_types_of_std(Types<bool, wchar_t, char16_t, char32_t, Number, char *, float, double, long double,
+                                       const int, volatile bool, volatile wchar_t, volatile char16_t, volatile char,
+                                       volatile int>()));
 #ifdef __cpp_char8_t
-static_assert(takes_types_of_std<char8_t, volatile char8_t>);
+static_assert(takes_types_of_std(Types<char8_t, volatile char8_t>()));
 #endif
 
 template <class T>
@@ -217,47 +225,30 @@ void read_ranges()
 #if __cplusplus >= 202002L && defined __cpp_constexpr_dynamic_alloc
 // What is read of a text: in a constant expression, the same as at run time.
 template <class T>
-struct Reading {
-    T value = 77;
-    std::ptrdiff_t length = 0;
-    std::errc error = std::errc();
-    std::optional<T> whole[4] = {};
-    bool operator==(const Reading &) const = default;
-};
-
-template <class T>
-constexpr Reading<T> reading(std::string_view text)
+constexpr auto reading(std::string_view text)
 {
-    Reading<T> made;
-    const auto [end, error] = torkettle::from_chars(text.data(), text.data() + text.size(), made.value);
-    made.length = end - text.data();
-    made.error = error;
-    for (unsigned flags = 0; flags < 4; flags++)
-        made.whole[flags] = torkettle::parse<T>(text, flags);
-    return made;
+    T value = 77;
+    const auto [end, error] = torkettle::from_chars(text.data(), text.data() + text.size(), value);
+    return std::tuple(value, end - text.data(), error, torkettle::parse<T>(text, 0), torkettle::parse<T>(text, 1),
+                      torkettle::parse<T>(text, 2), torkettle::parse<T>(text, 3));
 }
 
 constexpr std::string_view constant_texts[] = {
-    "", "-", "+", "x", " 1", "--1", "+-5", "0", "-0", "+5", "5 ", "007", "12,34", "-7 ", "00000000000000000000000042x",
-    "127", "128", "-128", "-129", "255", "256", "32767", "32768", "-32768", "-32769", "65535", "65536", "2147483647",
-    "2147483648", "-2147483648", "-2147483649", "4294967295", "4294967296", "9223372036854775807",
-    "9223372036854775808", "-9223372036854775808", "-9223372036854775809", "18446744073709551615",
-    "18446744073709551616",
-    "170141183460469231731687303715884105727", "170141183460469231731687303715884105728",
-    "-170141183460469231731687303715884105728", "-170141183460469231731687303715884105729",
-    "340282366920938463463374607431768211455", "340282366920938463463374607431768211456", "00000000000000000007",
+    "", "-", "+", "x", " 1", "--1", "+-5", "0", "-0", "+5", "5 ", "007", "12,34", "-7 ", "127", "128", "-128", "-129",
+    "255", "256", "32767", "32768", "-32768", "-32769", "65535", "65536", "2147483647", "2147483648", "-2147483648",
+    "-2147483649", "4294967295", "4294967296", "9223372036854775807", "9223372036854775808", "-9223372036854775808",
+    "-9223372036854775809", "18446744073709551615", "18446744073709551616", "170141183460469231731687303715884105727",
+    "170141183460469231731687303715884105728", "-170141183460469231731687303715884105728",
+    "-170141183460469231731687303715884105729", "340282366920938463463374607431768211455",
+    "340282366920938463463374607431768211456", "00000000000000000000000042x", "00000000000000000007",
     "000000000000000000007", "+000000000000000000007", "0000000000000000000000000000000000000007"};
 
 template <class T>
-constexpr auto constants = [] {
-    std::array<Reading<T>, std::size(constant_texts)> all;
-    for (std::size_t at = 0; at < all.size(); at++)
-        all[at] = reading<T>(constant_texts[at]);
-    return all;
-}();
+constexpr auto constants = std::apply([](auto... text) { return std::array{reading<T>(text)...}; },
+                                      std::to_array(constant_texts));
 
 template <class... T>
-void compare_constants()
+void compare_constants(Types<T...>)
 {
     for (std::size_t at = 0; at < std::size(constant_texts); at++)
         require(((constants<T>[at] == reading<T>(constant_texts[at])) && ...), "a constant", constant_texts[at]);
@@ -302,11 +293,8 @@ int main(int count, char **arguments)
     read_refused_separators();
     read_ranges();
 #if __cplusplus >= 202002L && defined __cpp_constexpr_dynamic_alloc
-    compare_constants<char, signed char, unsigned char, short, unsigned short, int, unsigned, long, unsigned long>();
-    compare_constants<long long, unsigned long long>();
-#if defined __SIZEOF_INT128__ && !defined TORKETTLE_NO_INT128
-    compare_constants<torkettle_i128, torkettle_u128>();
-#endif
+    compare_constants(Integers());
+    compare_constants(LargeIntegers());
 #endif
     // Few of these are numbers. The other texts are counted.
     calls = accepted = out_of_range = 0;
