@@ -34,10 +34,7 @@ struct Found {
         const unsigned flags = TORKETTLE_SKIP_ZEROES | TORKETTLE_SKIP_PLUS;
         status = parse(start, std::strspn(start, "+-0123456789"), flags, &value, &count);
     }
-    bool is_large() const
-    {
-        return status == TORKETTLE_SIZE || status == TORKETTLE_OVERFLOW;
-    }
+    bool is_large() const { return status == TORKETTLE_SIZE || status == TORKETTLE_OVERFLOW; }
 };
 
 static void check_int(const std::string &text)

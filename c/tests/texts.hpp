@@ -3,47 +3,27 @@
 #define TEXTS_HPP
 
 #include <cstddef>
-#include <cstdint>
 #include <cstring>
+#include <random>
 #include <string>
 #include <string_view>
 #if __has_include(<sys/mman.h>)
 #include <sys/mman.h>
 #endif
 
-// xorshift64*: the same texts in each run.
-class Random {
+// The same numbers in each run.
+class Random : public std::mt19937_64 {
 public:
-    explicit Random(std::uint64_t seed = 0) : state(0x9E3779B97F4A7C15u + seed)
-    {
-    }
+    using std::mt19937_64::mt19937_64;
 
-    std::uint64_t next()
-    {
-        state ^= state >> 12;
-        state ^= state << 25;
-        state ^= state >> 27;
-        return state * 0x2545F4914F6CDD1Du;
-    }
-
-    unsigned below(unsigned bound)
-    {
-        return static_cast<unsigned>((next() >> 32) * bound >> 32);
-    }
-
-    char digit()
-    {
-        return static_cast<char>('0' + below(10));
-    }
+    unsigned below(unsigned bound) { return static_cast<unsigned>(((*this)() >> 32) * bound >> 32); }
+    char digit() { return static_cast<char>('0' + below(10)); }
 
     template <class T, std::size_t count>
     T of(const T (&values)[count])
     {
         return values[below(count)];
     }
-
-private:
-    std::uint64_t state;
 };
 
 // The last number in range and the first out of range, for each width and sign, and where words end.

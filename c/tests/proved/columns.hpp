@@ -20,20 +20,21 @@ class Columns {
 public:
     using T = typename C::type;
 
-    Columns(Test &under_test, Random &numbers, bool are_lines) : test(under_test), random(numbers), lines(are_lines)
-    {
-    }
+    Columns(Test &under_test, Random &numbers, bool are_lines) : test(under_test), random(numbers), lines(are_lines) {}
 
     void run()
     {
         fields_by_next();
-        for (const size_t count : {0u, 1u, 2u, 7u, 64u, 100000u})
-            fields_by_read(count);
+        for (const size_t count : {0u, 1u, 2u, 7u, 64u, 100000u}) {
+            typename C::fields fields = start();
+            by_read(fields, count, C::fields_read);
+        }
         ranges();
         if (lines)
             return;
-        for (const size_t count : {0u, 1u, 3u, 100000u})
-            column(count);
+        column(1, [](auto *list, T *values, size_t) -> size_t { return C::column_next(list, values); });
+        for (const size_t count : {1u, 3u, 100000u})
+            column(count, C::column_read);
         column_range();
     }
 
@@ -63,7 +64,7 @@ private:
             test.require(is_good || (value == 99 && fields.index == index && fields.offset == offset), "a bad field");
             test.push({static_cast<uint64_t>(fields.status), index, offset});
             if (is_good)
-                test.push_number(value);
+                test.push(test.answer(TORKETTLE_OK, value, 0));
             else
                 test.push({static_cast<uint64_t>(text.data() - test.text.data()), text.size()});
             expected.push_back({fields.status, value, expected.size(), offset - (starts_later ? 1000 : 0), text});
@@ -82,39 +83,44 @@ private:
             test.require(values[at] == 99, "what _read writes");
     }
 
-    bool is_number(size_t index) const
+    bool is_number(size_t index) const { return index < expected.size() && expected[index].status == TORKETTLE_OK; }
+
+    size_t offset_of(size_t index) const { return index < expected.size() ? expected[index].offset : test.text.size(); }
+
+    size_t first_bad() const
     {
-        return index < expected.size() && expected[index].status == TORKETTLE_OK;
+        size_t index = 0;
+        while (is_number(index))
+            index++;
+        return index;
     }
 
-    size_t offset_of(size_t index) const
+    // Reads fields, or a column up to a bad field, by calls for so many numbers each.
+    template <class List, class Read>
+    void by_read(List &list, size_t count, Read read) const
     {
-        return index < expected.size() ? expected[index].offset : test.text.size();
-    }
-
-    void fields_by_read(size_t count) const
-    {
-        typename C::fields fields = start();
-        size_t index = 0, read;
+        constexpr bool is_column = std::is_same_v<List, typename C::column>;
+        size_t index = 0, numbers;
         do {
             // An element behind those that may be written, and none where nothing may be.
             std::vector<T> values(count > 0 ? std::min(count, expected.size() + 1) + 1 : 0, 99);
-            read = C::fields_read(&fields, values.data(), count);
-            require_numbers(index, values, read);
-            test.require(read <= count, "the count of _read");
-            index += read;
-            if (fields.status != TORKETTLE_OK) {
-                test.require(index < expected.size() && read < count, "an error of _read");
-                const Expected<T> &bad = expected[index++];
-                test.require(fields.status == bad.status && fields.index == bad.index && fields.offset == bad.offset &&
-                                 fields.text == bad.text.data() && fields.length == bad.text.size(),
-                             "the error of _read");
-            } else {
-                test.require(read == count || index == expected.size(), "the end of _read");
+            numbers = read(&list, values.data(), count);
+            require_numbers(index, values, numbers);
+            index += numbers;
+            const bool is_end = list.status == TORKETTLE_OK ? index == expected.size() : index < expected.size();
+            test.require(numbers == count ? list.status == TORKETTLE_OK : numbers < count && is_end,
+                         "the end of _read");
+            if constexpr (!is_column) {
+                if (list.status != TORKETTLE_OK) {
+                    const Expected<T> &bad = expected[index++];
+                    test.require(list.status == bad.status && list.index == bad.index && list.offset == bad.offset &&
+                                     list.text == bad.text.data() && list.length == bad.text.size(),
+                                 "the error of _read");
+                }
+                test.require(list.next_index == index && list.next_offset == offset_of(index), "a position");
             }
-            test.require(fields.next_index == index && fields.next_offset == offset_of(index), "a position");
-        } while (read > 0 || fields.status != TORKETTLE_OK);
-        test.require(count == 0 || index == expected.size(), "the number of fields");
+        } while (numbers > 0 || (list.status != TORKETTLE_OK && !is_column));
+        test.require(count == 0 || index == (is_column ? first_bad() : expected.size()), "the number of fields");
     }
 
     void require_item(const torkettle::item<T> &item, size_t index) const
@@ -181,29 +187,15 @@ private:
         test.require(range.begin() == range.end() && !range.next(item) && range.next_index() == index, "a range's end");
     }
 
-    size_t first_bad() const
+    template <class Read>
+    void column(size_t count, Read read)
     {
-        size_t index = 0;
-        while (is_number(index))
-            index++;
-        return index;
-    }
-
-    // Reads the column by `_next` if `count` is 0, and otherwise so many numbers a call.
-    void column(size_t count)
-    {
-        const size_t numbers = first_bad();
         typename C::column column;
         C::column_init(&column, test.text.data(), test.text.size(), static_cast<char>(test.option));
+        by_read(column, count, read);
         test.row.clear();
-        for (size_t index = 0, read = 1; read > 0 || index < numbers; index += read) {
-            std::vector<T> values(std::min(count, numbers) + 1, 99);
-            read = count > 0 ? C::column_read(&column, values.data(), count) : C::column_next(&column, &values[0]);
-            require_numbers(index, values, read);
-            test.require(read == std::min(count > 0 ? count : 1, numbers - index), "the count of a column");
-            for (size_t at = 0; at < read; at++)
-                test.push_number(values[at]);
-        }
+        for (size_t index = 0; is_number(index); index++)
+            test.push(test.answer(TORKETTLE_OK, expected[index].value, 0));
         if (column.status != TORKETTLE_OK)
             test.push({static_cast<uint64_t>(column.status), column.index, column.offset});
         test.compare(COLUMN, "a column");

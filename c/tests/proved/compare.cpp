@@ -17,43 +17,8 @@
 
 namespace {
 
-// What a call returned and wrote. It may write nothing unless it returns TORKETTLE_OK.
-template <class T>
-struct Answer {
-    torkettle_status status = TORKETTLE_OK;
-    T value = 99;
-    size_t count = 99;
-
-    bool is(const Answer &other) const
-    {
-        return status == other.status && value == other.value && count == other.count;
-    }
-
-    // Whether a function says the same that returns a number and its length, or 0.
-    template <class Found>
-    bool is_found(Found found) const
-    {
-        return status == TORKETTLE_OK ? found.length == count && found.value == value : found.length == 0;
-    }
-
-    bool is_same(const std::optional<T> &found) const
-    {
-        return status == TORKETTLE_OK ? found == value : !found;
-    }
-
-    void push(Test &test) const
-    {
-        test.require(status == TORKETTLE_OK || (value == 99 && count == 99), "what a failure writes");
-        test.push({static_cast<uint64_t>(status)});
-        if (status == TORKETTLE_OK) {
-            test.push({count});
-            test.push_number(value);
-        }
-    }
-};
-
 // An error, and its message in a buffer that has room for the longest one, and no more.
-void push_error(Test &test, const torkettle_error &error, torkettle_status status)
+void push_error(Test &test, const torkettle_error &error, uint64_t status)
 {
     std::vector<char> message(TORKETTLE_ERROR_TEXT_SIZE, '#');
     const size_t length =
@@ -73,42 +38,48 @@ void parses(Test &test)
     const size_t length = test.text.size();
     const unsigned flags = test.option;
     const auto whole = [&](auto call) {
-        Answer<T> answer;
-        answer.status = call(text, length, flags, &answer.value);
-        answer.count = answer.status == TORKETTLE_OK ? length : 99;
-        return answer;
+        T value = 99;
+        const torkettle_status status = call(text, length, flags, &value);
+        return test.answer(status, value, status == TORKETTLE_OK ? length : 99);
     };
     const auto prefix = [&](auto call) {
-        Answer<T> answer;
-        answer.status = call(text, length, flags, &answer.value, &answer.count);
-        return answer;
+        T value = 99;
+        size_t count = 99;
+        const torkettle_status status = call(text, length, flags, &value, &count);
+        return test.answer(status, value, count);
     };
-    const Answer<T> all = whole(C::parse), start = prefix(C::parse_prefix);
-    test.require(all.is(whole(C::called_parse)) && all.is_found(C::whole(text, length, flags)), "a parse");
-    test.require(start.is(prefix(C::called_prefix)) && start.is_found(C::prefix(text, length, flags)), "a prefix");
+    // Whether a function that has no status says the same: a length of 0, or no number.
+    const auto is_found = [&](const Answer &answer, auto found) {
+        return found.length == 0 ? answer[0] != 0 : answer == test.answer(TORKETTLE_OK, found.value, found.length);
+    };
+    const auto is_same = [&](const Answer &answer, const std::optional<T> &found) {
+        return found ? answer == test.answer(TORKETTLE_OK, *found, answer[1]) : answer[0] != 0;
+    };
+    const auto status_of = [](bool is_number) { return is_number ? TORKETTLE_OK : TORKETTLE_EMPTY; };
+    const Answer all = whole(C::parse), start = prefix(C::parse_prefix);
+    const Answer canonical =
+        whole([&](auto, auto, auto, T *value) { return status_of(C::canonical(text, length, value)); });
+    const Answer json = prefix(
+        [&](auto, auto, auto, T *value, size_t *count) { return status_of(C::json(text, length, value, count)); });
+    test.require(all == whole(C::called_parse) && is_found(all, C::whole(text, length, flags)), "a parse");
+    test.require(start == prefix(C::called_prefix) && is_found(start, C::prefix(text, length, flags)), "a prefix");
     // What these return in a constant expression. There, only a parse of a whole text has flags.
     using Constant = torkettle::detail::functions_of<T>;
     const torkettle::detail::copied bytes(text, length);
-    const bool is_same = flags != TORKETTLE_SKIP_ZEROES || start.is_found(Constant::constant_prefix(bytes));
-    test.require(is_same && all.is_found(Constant::constant_whole(bytes, flags)), "a constant");
-    all.push(test);
-    push_error(test, C::parse_error(text, length, flags), all.status);
-    start.push(test);
-    push_error(test, C::prefix_error(text, length, flags), start.status);
-    whole(C::pos).push(test);
-    prefix(C::prefix_pos).push(test);
-    Answer<T> canonical, json;
-    canonical.status = C::canonical(text, length, &canonical.value) ? TORKETTLE_OK : TORKETTLE_EMPTY;
-    canonical.count = canonical.status == TORKETTLE_OK ? length : 99;
-    json.status = C::json(text, length, &json.value, &json.count) ? TORKETTLE_OK : TORKETTLE_EMPTY;
-    canonical.push(test);
-    json.push(test);
+    const bool is_constant = flags != TORKETTLE_SKIP_ZEROES || is_found(start, Constant::constant_prefix(bytes));
+    test.require(is_constant && is_found(all, Constant::constant_whole(bytes, flags)), "a constant");
     const auto number = torkettle::json_integer<T>(test.text);
-    test.require(all.is_same(torkettle::parse<T>(test.text, flags)), "parse of C++");
-    test.require(canonical.is_same(torkettle::canonical<T>(test.text)), "canonical of C++");
-    test.require(json.is_same(number ? std::optional<T>(number->first) : std::nullopt), "json_integer of C++");
-    test.require(!number || number->second.data() == text + json.count, "the rest after json_integer");
-    test.require(!number || number->second.size() == length - json.count, "the rest after json_integer");
+    test.require(is_same(all, torkettle::parse<T>(test.text, flags)), "parse of C++");
+    test.require(is_same(canonical, torkettle::canonical<T>(test.text)), "canonical of C++");
+    test.require(is_same(json, number ? std::optional<T>(number->first) : std::nullopt), "json_integer of C++");
+    test.require(!number || number->second.data() == text + json[1], "the rest after json_integer");
+    test.require(!number || number->second.size() == length - json[1], "the rest after json_integer");
+    test.push(all);
+    push_error(test, C::parse_error(text, length, flags), all[0]);
+    test.push(start);
+    push_error(test, C::prefix_error(text, length, flags), start[0]);
+    for (const Answer &answer : {whole(C::pos), prefix(C::prefix_pos), canonical, json})
+        test.push(answer);
     test.compare(PARSES, "the row of a parse");
 }
 
@@ -118,16 +89,7 @@ void columns(Test &test, Random &random, bool lines)
     Columns<C>(test, random, lines).run();
 }
 
-#define SMALL_TYPES(call)                                                                                              \
-    call(i8, int8_t) call(u8, uint8_t) call(i16, int16_t) call(u16, uint16_t) call(i32, int32_t) call(u32, uint32_t)   \
-    call(i64, int64_t) call(u64, uint64_t)
-#if defined __SIZEOF_INT128__ && !defined TORKETTLE_NO_INT128
-#define TYPES(call) SMALL_TYPES(call) call(i128, torkettle_i128) call(u128, torkettle_u128)
-#else
-#define TYPES(call) SMALL_TYPES(call)
-#endif
-
-TYPES(CALLS)
+TORKETTLE_TYPES_(CALLS)
 
 const struct {
     const char *name;
@@ -136,7 +98,7 @@ const struct {
     void (*columns)(Test &, Random &, bool);
 } types[] = {
 #define TYPE(name, type) {#name, sizeof(type) * 19 / 8, parses<calls_##name>, columns<calls_##name>},
-    TYPES(TYPE)};
+    TORKETTLE_TYPES_(TYPE)};
 
 void test_column(Random &random, unsigned type)
 {

@@ -11,14 +11,21 @@ struct Row<'a> {
     count: usize,
 }
 
-/// What `torkettle_status` an error has.
-fn status_of(error: &AtoiSimdError<'_>) -> u64 {
-    match error {
-        AtoiSimdError::Empty => 1,
-        AtoiSimdError::Size(..) => 2,
-        AtoiSimdError::Overflow(..) => 3,
-        AtoiSimdError::Invalid64(..) | AtoiSimdError::Invalid128(..) => 4,
-    }
+/// The members of a `torkettle_error`, of which the first one is the status.
+fn members(error: &AtoiSimdError<'_>, text: &[u8]) -> [u64; 6] {
+    let (status, bits, count, value, rest) = match *error {
+        AtoiSimdError::Empty => (1, 0, 0, 0, text),
+        AtoiSimdError::Size(count, rest) => (2, 0, count, 0, rest),
+        AtoiSimdError::Overflow(rest) => (3, 0, 0, 0, rest),
+        AtoiSimdError::Invalid64(value, count, rest) => (4, 64, count, u128::from(value), rest),
+        AtoiSimdError::Invalid128(value, count, rest) => (4, 128, count, value, rest),
+    };
+    let offset = text.len().wrapping_sub(rest.len()) as u64;
+    [status, bits, offset, count as u64, value as u64, (value >> 64) as u64]
+}
+
+fn status_of(error: AtoiSimdError<'_>) -> u64 {
+    members(&error, b"")[0]
 }
 
 impl Row<'_> {
@@ -27,48 +34,25 @@ impl Row<'_> {
         self.count += numbers.len();
     }
 
-    fn number<T: Parse>(&mut self, value: T) {
-        let (minus, magnitude) = value.parts();
-        let bits = if minus { magnitude.wrapping_neg() } else { magnitude };
-        self.push(&[bits as u64, (bits >> 64) as u64]);
-    }
-
-    /// A number with its length, or a status.
+    /// A status and, for a number, its length and the number in two's complement.
     fn found<T: Parse>(&mut self, found: Result<(T, usize), u64>) {
-        match found {
-            Ok((value, count)) => {
-                self.push(&[0, count as u64]);
-                self.number(value);
-            }
-            Err(status) => self.push(&[status]),
-        }
-    }
-
-    /// The members of a `torkettle_error` after the status, and its message.
-    fn error(&mut self, error: AtoiSimdError<'_>, text: &[u8]) {
-        let (bits, count, value, rest) = match error {
-            AtoiSimdError::Empty => (0, 0, 0, text),
-            AtoiSimdError::Size(count, rest) => (0, count, 0, rest),
-            AtoiSimdError::Overflow(rest) => (0, 0, 0, rest),
-            AtoiSimdError::Invalid64(value, count, rest) => (64, count, u128::from(value), rest),
-            AtoiSimdError::Invalid128(value, count, rest) => (128, count, value, rest),
+        let (status, count, (minus, magnitude)) = match found {
+            Ok((value, count)) => (0, count, value.parts()),
+            Err(status) => (status, 0, (false, 0)),
         };
-        let offset = (text.len() - rest.len()) as u64;
-        let (low, high) = (value as u64, (value >> 64) as u64);
-        let mut out = [0; 400];
-        let length = error.text(&mut out);
-        let hashed = |sum: u64, byte: &u8| sum.wrapping_mul(31) + u64::from(*byte);
-        let sum = out[..length].iter().fold(0, hashed);
-        self.push(&[bits, offset, count as u64, low, high, length as u64, sum]);
+        let bits = if minus { magnitude.wrapping_neg() } else { magnitude };
+        self.push(&[status, count as u64, bits as u64, (bits >> 64) as u64]);
     }
 
     /// A number or a status, and what can be asked of the error, which is that of no error for a number.
     fn answer<T: Parse>(&mut self, answer: Result<(T, usize), AtoiSimdError<'_>>, text: &[u8]) {
-        self.found(answer.map_err(|error| status_of(&error)));
-        match answer {
-            Ok(_) => self.push(&[0; 7]),
-            Err(error) => self.error(error, text),
-        }
+        self.found(answer.map_err(status_of));
+        let Err(error) = answer else { return self.push(&[0; 7]) };
+        let mut out = [0; 400];
+        let length = error.text(&mut out);
+        let hashed = |sum: u64, byte: &u8| sum.wrapping_mul(31) + u64::from(*byte);
+        self.push(&members(&error, text)[1..]);
+        self.push(&[length as u64, out[..length].iter().fold(0, hashed)]);
     }
 }
 
@@ -77,9 +61,9 @@ fn parses<T: Parse>(row: &mut Row<'_>, text: &[u8], flags: u32) {
     row.answer(T::atoi_simd_parse(text, zeroes, plus).map(|value| (value, length)), text);
     row.answer(T::atoi_simd_parse_prefix(text, zeroes, plus), text);
     let whole = T::atoi_simd_parse_pos(text, zeroes).map(|value| (value, length));
-    row.found(whole.map_err(|error| status_of(&error)));
+    row.found(whole.map_err(status_of));
     let prefix = T::atoi_simd_parse_prefix_pos(text, zeroes);
-    row.found(prefix.map_err(|error| status_of(&error)));
+    row.found(prefix.map_err(status_of));
     row.found(canonical::<T>(text).map(|value| (value, length)).ok_or(1));
     row.found(json_integer::<T>(text).map(|(value, rest)| (value, length - rest.len())).ok_or(1));
 }
@@ -92,12 +76,12 @@ fn fields<T: Parse>(row: &mut Row<'_>, text: &[u8], separator: u8, lines: bool, 
         match fields.next() {
             Some(Ok(value)) => {
                 row.push(&[0, index as u64, place as u64]);
-                row.number(value);
+                row.found(Ok((value, 0)));
             }
             Some(Err(FieldError { index, place, text: field, cause })) => {
                 let start = field.as_ptr() as u64 - text.as_ptr() as u64;
-                let status = status_of(&cause);
-                row.push(&[status, index as u64, place as u64, start, field.len() as u64]);
+                let (status, length) = (status_of(cause), field.len() as u64);
+                row.push(&[status, index as u64, place as u64, start, length]);
             }
             None => return row.push(&[index as u64, place as u64]),
         }
@@ -107,9 +91,9 @@ fn fields<T: Parse>(row: &mut Row<'_>, text: &[u8], separator: u8, lines: bool, 
 fn column<T: Parse>(row: &mut Row<'_>, text: &[u8], separator: u8) {
     for item in Column::<T>::new(text, separator) {
         match item {
-            Ok(value) => row.number(value),
+            Ok(value) => row.found(Ok((value, 0))),
             Err(ColumnError::Field { index, place, cause }) => {
-                row.push(&[status_of(&cause), index as u64, place as u64]);
+                row.push(&[status_of(cause), index as u64, place as u64]);
             }
             Err(ColumnError::Trailing { index, place }) => {
                 row.push(&[4, index as u64, place as u64]);

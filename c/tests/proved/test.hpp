@@ -6,6 +6,7 @@
 #include "torkettle.h"
 
 #include <algorithm>
+#include <array>
 #include <cstdio>
 #include <cstdlib>
 #include <initializer_list>
@@ -27,6 +28,9 @@ enum Question { PARSES, FIELDS, COLUMN };
 
 extern "C" size_t oracle(const Call *);
 
+// A status and, if it is TORKETTLE_OK, the length of a number and the number in two's complement.
+using Answer = std::array<uint64_t, 4>;
+
 struct Test {
     const char *type;
     unsigned number;
@@ -47,15 +51,20 @@ struct Test {
         std::exit(1);
     }
 
-    void push(std::initializer_list<uint64_t> numbers)
+    // What a call returned and wrote where there was 99: nothing unless it returned TORKETTLE_OK.
+    template <class T>
+    Answer answer(torkettle_status status, T value, size_t count) const
     {
-        row.insert(row.end(), numbers);
+        if (status == TORKETTLE_OK)
+            return {0, count, static_cast<uint64_t>(value), static_cast<uint64_t>(value >> 31 >> 31 >> 2)};
+        require(value == 99 && count == 99, "what a failure writes");
+        return {status};
     }
 
-    template <class T>
-    void push_number(T value)
+    template <class Numbers = std::initializer_list<uint64_t>>
+    void push(const Numbers &numbers)
     {
-        push({static_cast<uint64_t>(value), static_cast<uint64_t>(value >> 31 >> 31 >> 2)});
+        row.insert(row.end(), std::begin(numbers), std::end(numbers));
     }
 
     // Compares the row with that of Rust, if it is here.
