@@ -1,15 +1,15 @@
 // Compares what c/README.md has in place of functions of libc and of std::stoi with these, for texts of few characters
-// and for numbers at the bounds: the number, the end, and errno. samples.c does so for strtol.
-#include <torkettle.h>
+// and for numbers at the bounds: the number, the end, and errno.
+#define main run_samples
+#include "samples.c"
+#undef main
 
-#include <cerrno>
-#include <climits>
-#include <cstdio>
 #include <cstdlib>
 #include <cstring>
 #include <limits>
 #include <stdexcept>
 #include <string>
+#include <utility>
 
 static unsigned long checks, failures;
 
@@ -36,6 +36,16 @@ struct Found {
     }
     bool is_large() const { return status == TORKETTLE_SIZE || status == TORKETTLE_OVERFLOW; }
 };
+
+static void check_long(const std::string &text)
+{
+    char *end, *their_end;
+    errno = 0;
+    const long expected = std::strtol(text.c_str(), &their_end, 10);
+    const int their_error = std::exchange(errno, 0);
+    const bool is_same = number_at(text.c_str(), &end) == expected && end == their_end && errno == their_error;
+    check(is_same && number_at(text.c_str(), NULL) == expected, "number_at", text);
+}
 
 static void check_int(const std::string &text)
 {
@@ -77,6 +87,7 @@ static void check_strto(const std::string &text, Theirs theirs, Parse parse)
 
 static void check_text(const std::string &text)
 {
+    check_long(text);
     check_int(text);
     check_strto<long long>(text, std::strtoll, torkettle_parse_prefix_ll);
     check_strto<unsigned long>(text, std::strtoul, torkettle_parse_prefix_ul);
@@ -95,7 +106,8 @@ int main()
     for (const char *digits : {"2147483647", "2147483648", "2147483649", "4294967295", "9223372036854775807",
                                "9223372036854775808", "9223372036854775809", "18446744073709551615",
                                "18446744073709551616", "99999999999999999999999999999999999999999"})
-        for (const char *before : {"", "-", "+", " \n-", "000000000000000000000000", "-00000000000000000000000"})
+        for (const char *before :
+             {"", "-", "+", " \n-", "\v\f\r", "000000000000000000000000", "-00000000000000000000000"})
             for (const char *after : {"", " ", "x", "-1"})
                 check_text(std::string(before) + digits + after);
     std::printf("%lu checks, %lu failed\n", checks, failures);
