@@ -272,14 +272,8 @@ public:
             ++*this;
             return before;
         }
-        friend bool operator==(const iterator &left, const iterator &right) noexcept
-        {
-            return left.items == right.items;
-        }
-        friend bool operator!=(const iterator &left, const iterator &right) noexcept
-        {
-            return left.items != right.items;
-        }
+        friend bool operator==(const iterator &a, const iterator &b) noexcept { return a.items == b.items; }
+        friend bool operator!=(const iterator &a, const iterator &b) noexcept { return a.items != b.items; }
 
     private:
         range *items = nullptr;

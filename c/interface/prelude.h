@@ -17,27 +17,24 @@
 #if defined __GNUC__ || defined __clang__
 #if defined __OPTIMIZE__ && !defined __OPTIMIZE_SIZE__
 #define TK_INLINE static inline __attribute__((__always_inline__, __unused__))
-#define TK_HINTED static inline __attribute__((__always_inline__, __unused__))
 #else
 #define TK_INLINE static inline __attribute__((__unused__))
-#define TK_HINTED static inline __attribute__((__unused__))
 #endif
 #define TK_FAR __attribute__((__noinline__))
 #define TK_NOINLINE static __attribute__((__noinline__, __unused__))
 #define TK_COLD static __attribute__((__noinline__, __cold__, __unused__))
 #elif defined _MSC_VER
 #define TK_INLINE static __forceinline
-#define TK_HINTED static __forceinline
 #define TK_FAR __declspec(noinline)
 #define TK_NOINLINE static __declspec(noinline)
 #define TK_COLD static __declspec(noinline)
 #else
 #define TK_INLINE static inline
-#define TK_HINTED static inline
 #define TK_FAR
 #define TK_NOINLINE static inline
 #define TK_COLD static inline
 #endif
+#define TK_HINTED TK_INLINE
 
 /* What a compiler of C++20 can call in a constant expression. */
 #if defined __GNUC__ && defined __cplusplus && __cplusplus >= 202002L
@@ -259,20 +256,14 @@ TK_CONSTEXPR bool tk_u128_equal(tk_u128 a, tk_u128 b)
     return tk_u128_low(a) == tk_u128_low(b) && tk_u128_high(a) == tk_u128_high(b);
 }
 
-TK_CONSTEXPR tk_u128 tk_u128_and(tk_u128 a, tk_u128 b)
-{
-    return tk_u128_make(tk_u128_high(a) & tk_u128_high(b), tk_u128_low(a) & tk_u128_low(b));
-}
-
-TK_CONSTEXPR tk_u128 tk_u128_or(tk_u128 a, tk_u128 b)
-{
-    return tk_u128_make(tk_u128_high(a) | tk_u128_high(b), tk_u128_low(a) | tk_u128_low(b));
-}
-
-TK_CONSTEXPR tk_u128 tk_u128_xor(tk_u128 a, tk_u128 b)
-{
-    return tk_u128_make(tk_u128_high(a) ^ tk_u128_high(b), tk_u128_low(a) ^ tk_u128_low(b));
-}
+#define TK_BY_WORDS(function, symbol)                                                                                  \
+    TK_CONSTEXPR tk_u128 function(tk_u128 a, tk_u128 b)                                                                \
+    {                                                                                                                  \
+        return tk_u128_make(tk_u128_high(a) symbol tk_u128_high(b), tk_u128_low(a) symbol tk_u128_low(b));             \
+    }
+TK_BY_WORDS(tk_u128_and, &)
+TK_BY_WORDS(tk_u128_or, |)
+TK_BY_WORDS(tk_u128_xor, ^)
 
 TK_CONSTEXPR tk_i128 tk_i128_make(uint64_t high, uint64_t low) { return tk_u128_as_i128(tk_u128_make(high, low)); }
 TK_CONSTEXPR tk_i128 tk_i128_of(uint64_t value) { return tk_u128_as_i128(tk_u128_of(value)); }
