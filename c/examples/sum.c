@@ -18,7 +18,6 @@
 #include <stdio.h>
 #include <string.h>
 
-#define PIECE ((size_t)1 << 18)
 #define LONGEST_LINE ((size_t)1 << 20)
 
 /* What was read so far. */
@@ -97,8 +96,7 @@ static void add_file(struct total *total, FILE *input)
     static char text[LONGEST_LINE + 2];
     size_t length = 0, count, lines;
     do {
-        const size_t room = sizeof text - length;
-        count = fread(text + length, 1, room < PIECE ? room : PIECE, input);
+        count = fread(text + length, 1, sizeof text - length, input);
         length += count;
         if (begins_with_too_long_a_line(text, length, count == 0)) {
             skip_line(total, (unsigned char)text[length - 1], input);

@@ -57,33 +57,25 @@ private:
 
 // The functions of torkettle.h for the integers with this size and sign. `whole` and `prefix` begin with a sign where
 // the type has one, skip zeros and take no plus.
-template <std::size_t size, bool is_signed>
-struct functions;
+template <std::size_t size, bool is_signed> struct functions;
 
-template <class T>
-constexpr bool is_signed = T(-1) < T(0);
+template <class T> constexpr bool is_signed = T(-1) < T(0);
 
-template <class T>
-using functions_of = functions<sizeof(T), is_signed<T>>;
+template <class T> using functions_of = functions<sizeof(T), is_signed<T>>;
 
 #define TORKETTLE_FUNCTIONS_(name, type)                                                                               \
-    template <>                                                                                                        \
-    struct functions<sizeof(type), is_signed<type>> {                                                                  \
+    template <> struct functions<sizeof(type), is_signed<type>> {                                                      \
         using found = torkettle_found_##name;                                                                          \
         [[gnu::always_inline]] static TORKETTLE_CONSTEXPR_ found whole(const char *text, std::size_t length,           \
                                                                        unsigned flags) noexcept                        \
         {                                                                                                              \
-            if (TORKETTLE_IS_CONSTANT_())                                                                              \
-                return constant_whole(copied(text, length), flags);                                                    \
-            else                                                                                                       \
-                return torkettle_of_whole_##name(text, length, flags);                                                 \
+            return TORKETTLE_IS_CONSTANT_() ? constant_whole(copied(text, length), flags)                              \
+                                            : torkettle_of_whole_##name(text, length, flags);                          \
         }                                                                                                              \
         [[gnu::always_inline]] static TORKETTLE_CONSTEXPR_ found prefix(const char *text, std::size_t length) noexcept \
         {                                                                                                              \
-            if (TORKETTLE_IS_CONSTANT_())                                                                              \
-                return constant_prefix(copied(text, length));                                                          \
-            else                                                                                                       \
-                return torkettle_of_prefix_##name(text, length, TORKETTLE_SKIP_ZEROES);                                \
+            return TORKETTLE_IS_CONSTANT_() ? constant_prefix(copied(text, length))                                    \
+                                            : torkettle_of_prefix_##name(text, length, TORKETTLE_SKIP_ZEROES);         \
         }                                                                                                              \
         static TORKETTLE_CONSTEXPR_ found constant_whole(tk_bytes text, unsigned flags) noexcept                       \
         {                                                                                                              \
@@ -119,8 +111,7 @@ TORKETTLE_TYPES_(TORKETTLE_FUNCTIONS_)
 #undef TORKETTLE_FUNCTIONS_
 
 // Whether T is none of the other types.
-template <class T, class... Others>
-constexpr bool is_other = !(std::is_same_v<T, Others> || ...);
+template <class T, class... Others> constexpr bool is_other = !(std::is_same_v<T, Others> || ...);
 
 // The integer types of `std::from_chars`. In strict C++, `std::is_integral` leaves out 128 bits.
 template <class T>
@@ -221,8 +212,7 @@ inline std::optional<std::pair<T, std::string_view>> json_integer(std::string_vi
 }
 
 // A field of a text: a number, or an error.
-template <class T>
-struct item {
+template <class T> struct item {
     // The number, which may have leading zeros, and a `+` or, if the type is signed, a `-`.
     std::optional<T> value{};
     // `std::errc()` for a number. `std::errc::result_out_of_range` if the field begins with a number that is out of
@@ -237,12 +227,10 @@ struct item {
 
 namespace detail {
 
-template <class Allocator>
-using string = std::basic_string<char, std::char_traits<char>, Allocator>;
+template <class Allocator> using string = std::basic_string<char, std::char_traits<char>, Allocator>;
 
 // The items of a text, read once: a loop goes on where the last one ended. If `ends`, the first error is the last item.
-template <class T, bool ends>
-class range {
+template <class T, bool ends> class range {
     static_assert(is_integer<T>, "T is an integer type that std::from_chars takes");
 
 public:
@@ -285,8 +273,7 @@ public:
     range(std::string_view text, char separator) noexcept : range(text, separator, 0) {}
 
     // A string that nothing else keeps is freed before the range is read.
-    template <class Allocator>
-    range(const string<Allocator> &&text, char separator) = delete;
+    template <class Allocator> range(const string<Allocator> &&text, char separator) = delete;
 
     // The lines of a text. A line ends with "\n" or "\r\n", which is not part of it.
     static range of_lines(std::string_view text) noexcept { return range(text, '\n', 1); }
@@ -378,21 +365,14 @@ private:
 
 // The fields of a text, for a `for` loop and for algorithms: `torkettle::fields<int>(text, ',')`. An error does not end
 // them.
-template <class T>
-using fields = detail::range<T, false>;
+template <class T> using fields = detail::range<T, false>;
 
 // The same, but the first error is the last item.
-template <class T>
-using column = detail::range<T, true>;
+template <class T> using column = detail::range<T, true>;
 
 // The lines of a text, as fields.
-template <class T>
-inline fields<T> lines(std::string_view text) noexcept
-{
-    return fields<T>::of_lines(text);
-}
-template <class T, class Allocator>
-fields<T> lines(const detail::string<Allocator> &&text) = delete;
+template <class T> inline fields<T> lines(std::string_view text) noexcept { return fields<T>::of_lines(text); }
+template <class T, class Allocator> fields<T> lines(const detail::string<Allocator> &&text) = delete;
 
 } // namespace torkettle
 

@@ -2,16 +2,13 @@
 #ifdef __cplusplus
 #define TK_CAST(type, value) static_cast<type>(value)
 #define TK_MAKE(type, ...) (type{__VA_ARGS__})
-#define TK_TEXT(text) tk_bytes_of(reinterpret_cast<const uint8_t *>(text), sizeof(text) - 1)
 #define TK_NUMBER(at) reinterpret_cast<uintptr_t>(at)
-#define TK_POINTER(number) reinterpret_cast<const uint8_t *>(number)
 #else
 #define TK_CAST(type, value) ((type)(value))
 #define TK_MAKE(type, ...) ((type){__VA_ARGS__})
-#define TK_TEXT(text) tk_bytes_of((const uint8_t *)(text), sizeof(text) - 1)
 #define TK_NUMBER(at) ((uintptr_t)(at))
-#define TK_POINTER(number) ((const uint8_t *)(number))
 #endif
+#define TK_TEXT(text) tk_bytes_of(TORKETTLE_BYTES_(text), sizeof(text) - 1)
 
 /* What a compiler has to do with a function, as the attributes of the source say it. */
 #if defined __GNUC__ || defined __clang__
@@ -61,7 +58,7 @@ TK_INLINE size_t tk_either(bool is_first, size_t first, size_t second)
 TK_INLINE const uint8_t *tk_either_at(bool is_first, const uint8_t *first, const uint8_t *second)
 {
 #if defined __GNUC__ && !defined __clang__
-    return TK_POINTER(tk_either(is_first, TK_NUMBER(first), TK_NUMBER(second)));
+    return TORKETTLE_BYTES_(tk_either(is_first, TK_NUMBER(first), TK_NUMBER(second)));
 #else
     return is_first ? first : second;
 #endif

@@ -28,8 +28,7 @@ std::uint64_t accepted = 0;
 std::uint64_t out_of_range = 0;
 std::uint64_t differences = 0;
 
-template <class... T>
-struct Types {};
+template <class... T> struct Types {};
 using Integers = Types<char, signed char, unsigned char, short, unsigned short, int, unsigned, long, unsigned long,
                        long long, unsigned long long>;
 #if defined __SIZEOF_INT128__ && !defined TORKETTLE_NO_INT128
@@ -46,8 +45,7 @@ void require(bool is_right, const char *what, std::string_view text)
 }
 
 // Whether from_chars does what std::from_chars does, with a base, a format or nothing more.
-template <class T, class... More>
-bool is_same_call(std::string_view text, More... more)
+template <class T, class... More> bool is_same_call(std::string_view text, More... more)
 {
     const char *const first = text.data();
     const char *const last = first + text.size();
@@ -58,8 +56,7 @@ bool is_same_call(std::string_view text, More... more)
     return left.ptr == right.ptr && left.ec == right.ec && are_same;
 }
 
-template <class T>
-void compare(std::string_view text)
+template <class T> void compare(std::string_view text)
 {
     char printed[64];
     T value = 77;
@@ -78,8 +75,7 @@ void compare(std::string_view text)
             __PRETTY_FUNCTION__, text);
 }
 
-template <class... T>
-void compare_types(std::string_view text, Types<T...>)
+template <class... T> void compare_types(std::string_view text, Types<T...>)
 {
     (compare<T>(text), ...);
 }
@@ -130,12 +126,10 @@ constexpr auto ours = [](auto &value, auto... more)
     -> decltype(torkettle::from_chars(nullptr, nullptr, value, more...)) { return {}; };
 constexpr auto theirs = [](auto &value, auto... more)
     -> decltype(std::from_chars(nullptr, nullptr, value, more...)) { return {}; };
-template <class T, class... More>
-constexpr bool is_taken = std::is_invocable_v<decltype(ours), T &, More...>;
+template <class T, class... More> constexpr bool is_taken = std::is_invocable_v<decltype(ours), T &, More...>;
 template <class T, class... More>
 constexpr bool takes_what_std_takes = is_taken<T, More...> == std::is_invocable_v<decltype(theirs), T &, More...>;
-template <class... T>
-constexpr bool takes_types_of_std(Types<T...>)
+template <class... T> constexpr bool takes_types_of_std(Types<T...>)
 {
     return ((takes_what_std_takes<T> && takes_what_std_takes<T, int> && takes_what_std_takes<T, std::chars_format> &&
              takes_what_std_takes<T, int, int>)&&...);
@@ -153,8 +147,7 @@ static_assert(takes_types_of_std(Types<bool, wchar_t, char16_t, char32_t, Number
 static_assert(takes_types_of_std(Types<char8_t, volatile char8_t>()));
 #endif
 
-template <class T>
-bool is_same_floating(std::string_view text)
+template <class T> bool is_same_floating(std::string_view text)
 {
     if constexpr (is_taken<T>)
         return is_same_call<T>(text) && is_same_call<T>(text, std::chars_format::fixed) &&
@@ -224,8 +217,7 @@ void read_ranges()
 
 #if __cplusplus >= 202002L && defined __cpp_constexpr_dynamic_alloc
 // What is read of a text: in a constant expression, the same as at run time.
-template <class T>
-constexpr auto reading(std::string_view text)
+template <class T> constexpr auto reading(std::string_view text)
 {
     T value = 77;
     const auto [end, error] = torkettle::from_chars(text.data(), text.data() + text.size(), value);
@@ -244,8 +236,7 @@ template <class T>
 constexpr auto constants = std::apply([](auto... text) { return std::array{reading<T>(text)...}; },
                                       std::to_array(constant_texts));
 
-template <class... T>
-void compare_constants(Types<T...>)
+template <class... T> void compare_constants(Types<T...>)
 {
     for (std::size_t at = 0; at < std::size(constant_texts); at++)
         require(((constants<T>[at] == reading<T>(constant_texts[at])) && ...), "a constant", constant_texts[at]);
@@ -253,8 +244,7 @@ void compare_constants(Types<T...>)
 #endif
 
 struct OtherAllocator : std::allocator<char> {
-    template <class>
-    struct rebind {
+    template <class> struct rebind {
         using other = OtherAllocator;
     };
 };

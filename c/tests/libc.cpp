@@ -9,8 +9,10 @@
 #include <limits>
 #include <stdexcept>
 #include <string>
+#include <type_traits>
 #include <utility>
 
+const char spaces[] = " \t\n\v\f\r";
 static unsigned long checks, failures;
 
 static void check(bool is_same, const char *what, const std::string &text)
@@ -20,78 +22,67 @@ static void check(bool is_same, const char *what, const std::string &text)
         std::printf("%s differs for \"%s\"\n", what, text.c_str());
 }
 
-// A number after spaces, as libc looks for it: what it is read from, and what is found.
-template <class T>
-struct Found {
-    const char *start;
+// What `number_at` of the samples is for another type.
+template <class T, auto parse> static T number_of(const char *text, char **end)
+{
+    const char *start = text + std::strspn(text, spaces);
+    const unsigned flags = TORKETTLE_SKIP_ZEROES | TORKETTLE_SKIP_PLUS;
     std::size_t count = 0;
     T value = 0;
-    torkettle_status status;
-
-    template <class Parse>
-    Found(const char *text, Parse parse) : start(text + std::strspn(text, " \t\n\v\f\r"))
-    {
-        const unsigned flags = TORKETTLE_SKIP_ZEROES | TORKETTLE_SKIP_PLUS;
-        status = parse(start, std::strspn(start, "+-0123456789"), flags, &value, &count);
+    const torkettle_status status = parse(start, std::strspn(start, "+-0123456789"), flags, &value, &count);
+    if (status == TORKETTLE_EMPTY)
+        start = text;
+    if (status == TORKETTLE_SIZE || status == TORKETTLE_OVERFLOW) {
+        errno = ERANGE;
+        value = *start == '-' ? std::numeric_limits<T>::min() : std::numeric_limits<T>::max();
+        count = 1 + std::strspn(start + 1, "0123456789");
     }
-    bool is_large() const { return status == TORKETTLE_SIZE || status == TORKETTLE_OVERFLOW; }
-};
-
-static void check_long(const std::string &text)
-{
-    char *end, *their_end;
-    errno = 0;
-    const long expected = std::strtol(text.c_str(), &their_end, 10);
-    const int their_error = std::exchange(errno, 0);
-    const bool is_same = number_at(text.c_str(), &end) == expected && end == their_end && errno == their_error;
-    check(is_same && number_at(text.c_str(), NULL) == expected, "number_at", text);
+    *end = const_cast<char *>(start) + count;
+    return value;
 }
 
 static void check_int(const std::string &text)
 {
-    const Found<std::int32_t> found(text.c_str(), torkettle_parse_prefix_i32);
-    int value = 0;
-    std::size_t end = 0;
-    if (!found.is_large()) {
-        check(std::atoi(text.c_str()) == found.value, "atoi", text);
-        const bool is_scanned = std::sscanf(text.c_str(), "%d", &value) == 1;
-        check(is_scanned == (found.status == TORKETTLE_OK) && value == found.value, "sscanf", text);
+    char *end;
+    errno = 0;
+    const int value = number_of<std::int32_t, torkettle_parse_prefix_i32>(text.c_str(), &end);
+    const bool is_large = errno == ERANGE, is_empty = end == text.c_str();
+    if (!is_large) {
+        int scanned = 0;
+        check(std::atoi(text.c_str()) == value, "atoi", text);
+        check((std::sscanf(text.c_str(), "%d", &scanned) == 1) == !is_empty && scanned == value, "sscanf", text);
     }
     try {
-        value = std::stoi(text, &end);
-        check(value == found.value && text.c_str() + end == found.start + found.count, "stoi", text);
+        std::size_t count = 0;
+        check(std::stoi(text, &count) == value && text.c_str() + count == end, "stoi", text);
     } catch (const std::out_of_range &) {
-        check(found.is_large(), "a large number of stoi", text);
+        check(is_large, "a large number of stoi", text);
     } catch (const std::invalid_argument &) {
-        check(found.status == TORKETTLE_EMPTY, "no number of stoi", text);
+        check(is_empty, "no number of stoi", text);
     }
 }
 
 // Functions of unsigned types refuse the minus that strtoul takes.
-template <class T, class Theirs, class Parse>
-static void check_strto(const std::string &text, Theirs theirs, Parse parse)
+template <class T>
+static void check_strto(const std::string &text, T (*theirs)(const char *, char **, int),
+                        T (*ours)(const char *, char **))
 {
-    using Limits = std::numeric_limits<T>;
-    const Found<T> found(text.c_str(), parse);
-    char *end;
+    char *end, *their_end;
     errno = 0;
-    const T expected = theirs(text.c_str(), &end, 10);
-    const bool has_minus = *found.start == '-', is_empty = found.status == TORKETTLE_EMPTY;
-    if (has_minus && !Limits::is_signed)
-        return check(is_empty, "a minus of strtoul", text);
-    const T bound = has_minus ? Limits::min() : Limits::max();
-    check(expected == (found.is_large() ? bound : found.value), "strto", text);
-    check((errno == ERANGE) == found.is_large(), "errno of strto", text);
-    check(found.is_large() || end == (is_empty ? text.c_str() : found.start + found.count), "the end of strto", text);
+    const T value = ours(text.c_str(), &end);
+    const int error = std::exchange(errno, 0);
+    if (!std::is_signed_v<T> && text[std::strspn(text.c_str(), spaces)] == '-')
+        return check(end == text.c_str(), "a minus of strtoul", text);
+    check(theirs(text.c_str(), &their_end, 10) == value && their_end == end && errno == error, "strto", text);
 }
 
 static void check_text(const std::string &text)
 {
-    check_long(text);
     check_int(text);
-    check_strto<long long>(text, std::strtoll, torkettle_parse_prefix_ll);
-    check_strto<unsigned long>(text, std::strtoul, torkettle_parse_prefix_ul);
-    check_strto<unsigned long long>(text, std::strtoull, torkettle_parse_prefix_ull);
+    check_strto<long>(text, std::strtol, number_at);
+    check_strto<long long>(text, std::strtoll, number_of<long long, torkettle_parse_prefix_ll>);
+    check_strto<unsigned long>(text, std::strtoul, number_of<unsigned long, torkettle_parse_prefix_ul>);
+    check_strto<unsigned long long>(text, std::strtoull, number_of<unsigned long long, torkettle_parse_prefix_ull>);
 }
 
 int main()

@@ -131,7 +131,8 @@ int main(void)
         return 1;
     if (number_at(" -80/tcp", &end) != -80 || strcmp(end, "/tcp") != 0 || number_at("+", &end) != 0 || *end != '+')
         return 1;
-    if (number_at("-9223372036854775809;", &end) != LONG_MIN || strcmp(end, ";") != 0 || errno != ERANGE)
+    if (number_at("-9223372036854775809;", &end) != LONG_MIN || strcmp(end, ";") != 0 || errno != ERANGE ||
+        number_at("7x", NULL) != 7)
         return 1;
     printf("sum %u\n", (unsigned)sum_of_column(text, strlen(text)));
     printf("sum %u\n", (unsigned)sum_by_read("1,2,3,x", 7));

@@ -19,8 +19,7 @@ public:
     unsigned below(unsigned bound) { return static_cast<unsigned>(((*this)() >> 32) * bound >> 32); }
     char digit() { return static_cast<char>('0' + below(10)); }
 
-    template <class T, std::size_t count>
-    T of(const T (&values)[count])
+    template <class T, std::size_t count> T of(const T (&values)[count])
     {
         return values[below(count)];
     }

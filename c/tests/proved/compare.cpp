@@ -30,8 +30,7 @@ void push_error(Test &test, const torkettle_error &error, uint64_t status)
     test.push({error.bits, error.offset, error.count, error.value_low, error.value_high, length, sum});
 }
 
-template <class C>
-void parses(Test &test)
+template <class C> void parses(Test &test)
 {
     using T = typename C::type;
     const char *const text = test.text.data();
@@ -83,12 +82,6 @@ void parses(Test &test)
     test.compare(PARSES, "the row of a parse");
 }
 
-template <class C>
-void columns(Test &test, Random &random, bool lines)
-{
-    Columns<C>(test, random, lines).run();
-}
-
 TORKETTLE_TYPES_(CALLS)
 
 const struct {
@@ -97,7 +90,9 @@ const struct {
     void (*parses)(Test &);
     void (*columns)(Test &, Random &, bool);
 } types[] = {
-#define TYPE(name, type) {#name, sizeof(type) * 19 / 8, parses<calls_##name>, columns<calls_##name>},
+#define TYPE(name, type)                                                                                               \
+    {#name, sizeof(type) * 19 / 8, parses<calls_##name>,                                                               \
+     [](Test &test, Random &random, bool lines) { Columns<calls_##name>(test, random, lines).run(); }},
     TORKETTLE_TYPES_(TYPE)};
 
 void test_column(Random &random, unsigned type)

@@ -12,21 +12,11 @@
 #include <initializer_list>
 #include <vector>
 
-// What `oracle.rs` calls by the same name: the number of a type, the calls to make, a text, and where to write the row.
-struct Call {
-    unsigned type;
-    unsigned question;
-    unsigned option;
-    bool lines;
-    bool later;
-    const char *text;
-    size_t length;
-    uint64_t *out;
-    size_t size;
-};
-enum Question { PARSES, FIELDS, COLUMN };
+enum Question { PARSES, FIELDS, LINES, COLUMN };
 
-extern "C" size_t oracle(const Call *);
+// Writes the row of the Rust package for a type by its number, and returns how many numbers it has.
+extern "C" size_t oracle(unsigned type, Question question, unsigned option, const char *text, size_t length,
+                         uint64_t *out, size_t size);
 
 // A status and, if it is TORKETTLE_OK, the length of a number and the number in two's complement.
 using Answer = std::array<uint64_t, 4>;
@@ -52,8 +42,7 @@ struct Test {
     }
 
     // What a call returned and wrote where there was 99: nothing unless it returned TORKETTLE_OK.
-    template <class T>
-    Answer answer(torkettle_status status, T value, size_t count) const
+    template <class T> Answer answer(torkettle_status status, T value, size_t count) const
     {
         if (status == TORKETTLE_OK)
             return {0, count, static_cast<uint64_t>(value), static_cast<uint64_t>(value >> 31 >> 31 >> 2)};
@@ -61,23 +50,20 @@ struct Test {
         return {status};
     }
 
-    template <class Numbers = std::initializer_list<uint64_t>>
-    void push(const Numbers &numbers)
+    template <class Numbers = std::initializer_list<uint64_t>> void push(const Numbers &numbers)
     {
         row.insert(row.end(), std::begin(numbers), std::end(numbers));
     }
 
     // Compares the row with that of Rust, if it is here.
-    void compare(Question question, const char *what, bool lines = false, bool later = false) const
+    void compare(Question question, const char *what) const
     {
 #ifndef NO_RUST
         static std::vector<uint64_t> other(1 << 20);
-        const Call call = {number,      question,    option,       lines,       later,
-                           text.data(), text.size(), other.data(), other.size()};
-        const size_t count = oracle(&call);
+        const size_t count = oracle(number, question, option, text.data(), text.size(), other.data(), other.size());
         require(row.size() == count && std::equal(row.begin(), row.end(), other.begin()), what);
 #else
-        (void)question, (void)what, (void)lines, (void)later;
+        (void)question, (void)what;
 #endif
     }
 };
