@@ -69,10 +69,8 @@ extern "C" {
 /* The version of this header. torkettle_version returns the version of the library. */
 #define TORKETTLE_VERSION "0.1.0"
 
-/*
- * Ends a declaration, and declares a function. With gcc and clang, a symbol of the library has the version of its
- * interface, so that a process may load two versions.
- */
+/* Ends a declaration, and declares a function. With gcc and clang, a symbol of the library has the version of its
+   interface, so that a process may load two versions. */
 #if defined __GNUC__ || defined __clang__
 #define TK_SYMBOL(name) __asm__(TORKETTLE_PREFIX_(__USER_LABEL_PREFIX__) "torkettle_0_1_" #name)
 #define TORKETTLE_PREFIX_(prefix) TORKETTLE_TEXT_(prefix)
@@ -98,10 +96,8 @@ typedef enum torkettle_status {
     TORKETTLE_OK = 0,
     /* There is no digit at the start of the text or, if it has a sign, after the sign. */
     TORKETTLE_EMPTY = 1,
-    /*
-     * The number has more than 20 digits for u64, 19 for i64 or 39 for 128 bits. With TORKETTLE_SKIP_ZEROES, it is out
-     * of range. Without, leading zeros count as digits, and prefix calls for at most 32 bits allow only 16.
-     */
+    /* The number has more than 20 digits for u64, 19 for i64 or 39 for 128 bits. With TORKETTLE_SKIP_ZEROES, it is out
+       of range. Without, leading zeros count as digits, and prefix calls for at most 32 bits allow only 16. */
     TORKETTLE_SIZE = 2,
     /* The number is out of range for the type: below, if it begins with `-`, and otherwise above. */
     TORKETTLE_OVERFLOW = 3,
@@ -121,15 +117,11 @@ typedef struct torkettle_error {
     torkettle_status status;
     /* For TORKETTLE_INVALID, the number of bits of the value below: 128 for i128 and u128, otherwise 64. */
     unsigned bits;
-    /*
-     * For TORKETTLE_INVALID, the offset of the first digit, in bytes. For TORKETTLE_SIZE and TORKETTLE_OVERFLOW, the
-     * same, or the offset of a later digit if leading zeros are skipped. For TORKETTLE_EMPTY, 0.
-     */
+    /* For TORKETTLE_INVALID, the offset of the first digit, in bytes. For TORKETTLE_SIZE and TORKETTLE_OVERFLOW, the
+       same, or the offset of a later digit if leading zeros are skipped. For TORKETTLE_EMPTY, 0. */
     size_t offset;
-    /*
-     * For TORKETTLE_INVALID, the number of digits. The byte after them is at `offset + count`. For TORKETTLE_SIZE, the
-     * number of skipped zeros plus that of the other digits, of which at most 17, 24 or 40 count.
-     */
+    /* For TORKETTLE_INVALID, the number of digits. The byte after them is at `offset + count`. For TORKETTLE_SIZE, the
+       number of skipped zeros plus that of the other digits, of which at most 17, 24 or 40 count. */
     size_t count;
     /* For TORKETTLE_INVALID, the number that the digits spell, without a sign. */
     uint64_t value_low;
@@ -142,7 +134,6 @@ typedef struct torkettle_error {
  * Parses a whole text: digits, with an optional `-` before them if the type is signed. Writes the number to `*value`
  * and returns TORKETTLE_OK, or writes nothing and returns another status.
  *
- *
  * torkettle_status torkettle_parse_prefix_i64(const char *text, size_t length, unsigned flags, int64_t *value,
  *                                             size_t *count);
  *
@@ -151,13 +142,11 @@ typedef struct torkettle_error {
  * writes nothing and returns another status, which is never TORKETTLE_INVALID. If `*count` is `length`, the text may be
  * cut inside of a number.
  *
- *
  * torkettle_error torkettle_parse_error_i64(const char *text, size_t length, unsigned flags);
  * torkettle_error torkettle_parse_prefix_error_i64(const char *text, size_t length, unsigned flags);
  *
  * Parse a text again and return the error of torkettle_parse_i64 or torkettle_parse_prefix_i64. If there is none, its
  * status is TORKETTLE_OK.
- *
  *
  * torkettle_status torkettle_parse_pos_i64(const char *text, size_t length, unsigned flags, int64_t *value);
  * torkettle_status torkettle_parse_prefix_pos_i64(const char *text, size_t length, unsigned flags, int64_t *value,
@@ -166,12 +155,10 @@ typedef struct torkettle_error {
  * Do the same as torkettle_parse_i64 and torkettle_parse_prefix_i64 for digits without a sign, also for a signed type.
  * TORKETTLE_SKIP_PLUS has no effect.
  *
- *
  * bool torkettle_canonical_i64(const char *text, size_t length, int64_t *value);
  *
  * Parses a whole text that is a number as printf prints it: without leading zeros, `+` and `-0`. Writes the number to
  * `*value` and returns true, or writes nothing and returns false.
- *
  *
  * bool torkettle_json_integer_i64(const char *text, size_t length, int64_t *value, size_t *count);
  *
@@ -179,7 +166,6 @@ typedef struct torkettle_error {
  * first is not `0`. Writes the number to `*value` and its length in bytes to `*count`, and returns true. If there is
  * no such number, if it is out of range, or if a digit, `.`, `e` or `E` follows it, writes nothing and returns false.
  * `-0` is in range for every type.
- *
  *
  * Columns: numbers with one byte between them, such as a comma. Each number may have leading zeros, and a `+` or, if
  * the type is signed, a `-`. The separator after the last number is optional.
@@ -219,7 +205,6 @@ typedef struct torkettle_error {
  *                               flags for the text from there on.
  *     ...                       The others are only for the library.
  * };
- *
  *
  * Fields: like a column, but you can continue after a bad field. A field is bad if it is not a number, for example if
  * it is empty. If the text ends with a separator, no field follows it.
@@ -276,7 +261,6 @@ typedef struct torkettle_error {
  *     size_t next_offset;       The offset of the next field or, at the end, of the end of the text.
  *     ...                       The others are only for the library.
  * };
- *
  *
  * What is described neither above nor below is internal and may change in a minor version: all names that begin with
  * tk_, and functions such as those whose names begin with torkettle_whole_, torkettle_prefix_ and torkettle_next_. They
@@ -2747,10 +2731,8 @@ TK_INLINE tk_bytes tk_text(const char *text, size_t length) TORKETTLE_NOEXCEPT
     return tk_bytes_of(TORKETTLE_BYTES_(text), length);
 }
 
-/*
- * The status of a call that found no number. It is never TORKETTLE_OK, but a compiler cannot know that, and would warn
- * that the value of such a call may not be set.
- */
+/* The status of a call that found no number. It is never TORKETTLE_OK, but a compiler cannot know that, and would warn
+   that the value of such a call may not be set. */
 static inline torkettle_status torkettle_refusal(torkettle_status status) TORKETTLE_NOEXCEPT
 {
 #if defined __GNUC__ || defined __clang__
@@ -2796,7 +2778,6 @@ static inline size_t torkettle_rest_length(size_t length, char separator) TORKET
         *value = found.value;                                                                                          \
         return TORKETTLE_OK;                                                                                           \
     }                                                                                                                  \
-                                                                                                                       \
     TK_INLINE torkettle_status torkettle_parse_prefix##name(const char *text, size_t length, unsigned flags,           \
                                                             type *value, size_t *count) TORKETTLE_NOEXCEPT             \
     {                                                                                                                  \
@@ -2807,7 +2788,6 @@ static inline size_t torkettle_rest_length(size_t length, char separator) TORKET
         *count = found.length;                                                                                         \
         return TORKETTLE_OK;                                                                                           \
     }                                                                                                                  \
-                                                                                                                       \
     static inline bool torkettle_canonical##name(const char *text, size_t length, type *value) TORKETTLE_NOEXCEPT      \
     {                                                                                                                  \
         torkettle_found##same found = torkettle_whole_canonical##same(text, length);                                   \
@@ -2816,7 +2796,6 @@ static inline size_t torkettle_rest_length(size_t length, char separator) TORKET
         *value = found.value;                                                                                          \
         return true;                                                                                                   \
     }                                                                                                                  \
-                                                                                                                       \
     static inline bool torkettle_json_integer##name(const char *text, size_t length, type *value, size_t *count)       \
         TORKETTLE_NOEXCEPT                                                                                             \
     {                                                                                                                  \
@@ -2833,7 +2812,6 @@ static inline size_t torkettle_rest_length(size_t length, char separator) TORKET
         type value;                                                                                                    \
         size_t length;                                                                                                 \
     } torkettle_found_##name;                                                                                          \
-                                                                                                                       \
     typedef struct torkettle_column_##name {                                                                           \
         torkettle_status status;                                                                                       \
         size_t index, offset, next_index, next_offset;                                                                 \
@@ -2841,7 +2819,6 @@ static inline size_t torkettle_rest_length(size_t length, char separator) TORKET
         size_t rest_length;                                                                                            \
         char separator, is_lines;                                                                                      \
     } torkettle_column_##name;                                                                                         \
-                                                                                                                       \
     typedef struct torkettle_fields_##name {                                                                           \
         torkettle_status status;                                                                                       \
         size_t index, offset;                                                                                          \
@@ -2881,7 +2858,6 @@ static inline size_t torkettle_rest_length(size_t length, char separator) TORKET
             return TK_MAKE(torkettle_found_##name, digit.value, 1);                                                    \
         return torkettle_whole_##name(text, length, flags);                                                            \
     }                                                                                                                  \
-                                                                                                                       \
     TK_INLINE torkettle_found_##name torkettle_of_prefix_##name(const char *text, size_t length, unsigned flags)       \
         TORKETTLE_NOEXCEPT                                                                                             \
     {                                                                                                                  \
@@ -2893,9 +2869,7 @@ static inline size_t torkettle_rest_length(size_t length, char separator) TORKET
                                                                                                                        \
     TORKETTLE_NEXT_(column, next, _##name)                                                                             \
     TORKETTLE_NEXT_(fields, next_field, _##name)                                                                       \
-                                                                                                                       \
     TORKETTLE_PARSES_(_##name, type, _##name)                                                                          \
-                                                                                                                       \
     static inline bool torkettle_column_##name##_next(torkettle_column_##name *column, type *value) TORKETTLE_NOEXCEPT \
     {                                                                                                                  \
         torkettle_found_##name found = torkettle_next_of_column_##name(column);                                        \
@@ -2904,7 +2878,6 @@ static inline size_t torkettle_rest_length(size_t length, char separator) TORKET
         *value = found.value;                                                                                          \
         return true;                                                                                                   \
     }                                                                                                                  \
-                                                                                                                       \
     static inline void torkettle_fields_##name##_init(torkettle_fields_##name *fields, const char *text,               \
                                                       size_t length, char separator) TORKETTLE_NOEXCEPT                \
     {                                                                                                                  \
@@ -2916,21 +2889,18 @@ static inline size_t torkettle_rest_length(size_t length, char separator) TORKET
         fields->separator = separator;                                                                                 \
         fields->is_lines = 0;                                                                                          \
     }                                                                                                                  \
-                                                                                                                       \
     static inline void torkettle_fields_##name##_init_lines(torkettle_fields_##name *fields, const char *text,         \
                                                             size_t length) TORKETTLE_NOEXCEPT                          \
     {                                                                                                                  \
         torkettle_fields_##name##_init(fields, text, length, '\n');                                                    \
         fields->is_lines = 1;                                                                                          \
     }                                                                                                                  \
-                                                                                                                       \
     static inline void torkettle_fields_##name##_starting_at(torkettle_fields_##name *fields, size_t index,            \
                                                              size_t offset) TORKETTLE_NOEXCEPT                         \
     {                                                                                                                  \
         fields->next_index = index;                                                                                    \
         fields->next_offset = offset;                                                                                  \
     }                                                                                                                  \
-                                                                                                                       \
     static inline bool torkettle_fields_##name##_next(torkettle_fields_##name *fields, type *value) TORKETTLE_NOEXCEPT \
     {                                                                                                                  \
         torkettle_found_##name found = torkettle_next_of_fields_##name(fields);                                        \

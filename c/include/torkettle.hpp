@@ -88,8 +88,14 @@ template <class T> using functions_of = functions<sizeof(T), is_signed<T>>;
             const auto number = tk_prefix_by_digits_##name(text);                                                      \
             return {number.value.first, number.is_some ? number.value.second : 0};                                     \
         }                                                                                                              \
-        static constexpr auto canonical = torkettle_whole_canonical_##name;                                            \
-        static constexpr auto json = torkettle_prefix_json_##name;                                                     \
+        static auto canonical(const char *text, std::size_t length) noexcept                                           \
+        {                                                                                                              \
+            return torkettle_whole_canonical_##name(text, length);                                                     \
+        }                                                                                                              \
+        static auto json(const char *text, std::size_t length) noexcept                                                \
+        {                                                                                                              \
+            return torkettle_prefix_json_##name(text, length);                                                         \
+        }                                                                                                              \
         using fields = torkettle_fields_##name;                                                                        \
         [[gnu::always_inline]] static auto next(fields &state) noexcept                                                \
         {                                                                                                              \
@@ -98,10 +104,8 @@ template <class T> using functions_of = functions<sizeof(T), is_signed<T>>;
         /* The values may be of `long long` where `int64_t` is `long`, so no access to them moves across the call. */  \
         static std::size_t read(fields &state, void *values, std::size_t count) noexcept                               \
         {                                                                                                              \
-            using number = decltype(torkettle_found_##name::value);                                                    \
-            std::size_t written;                                                                                       \
             asm volatile("" : : "r"(values) : "memory");                                                               \
-            written = torkettle_fields_##name##_read(&state, static_cast<number *>(values), count);                    \
+            const std::size_t written = torkettle_fields_##name##_read(&state, static_cast<type *>(values), count);    \
             asm volatile("" : : "r"(values) : "memory");                                                               \
             return written;                                                                                            \
         }                                                                                                              \

@@ -84,8 +84,6 @@ const char *torkettle_version(void) TORKETTLE_NOEXCEPT { return TORKETTLE_VERSIO
     ((all)->is_lines ? tk_fields_lines(tk_text((all)->rest, (all)->rest_length))                                       \
                      : tk_fields_new(tk_text((all)->rest, (all)->rest_length), TK_CAST(uint8_t, (all)->separator)))
 
-#define TK_HAS_SEPARATOR(all) ((all)->is_lines || tk_is_separator(TK_CAST(uint8_t, (all)->separator)))
-
 #define TK_GO_ON(all, left)                                                                                            \
     do {                                                                                                               \
         tk_pair_size_size position = tk_fields_position(left);                                                         \
@@ -101,14 +99,12 @@ const char *torkettle_version(void) TORKETTLE_NOEXCEPT { return TORKETTLE_VERSIO
     {                                                                                                                  \
         return TK_MAKE(torkettle_found_##name, TK_CAST(type, tk_status_of(error)), 0);                                 \
     }                                                                                                                  \
-                                                                                                                       \
     TK_INLINE torkettle_found_##name tk_found_##name(tk_result_##name found, size_t length)                            \
     {                                                                                                                  \
         if (!found.is_ok)                                                                                              \
             return tk_refused_##name(found.error);                                                                     \
         return TK_MAKE(torkettle_found_##name, found.value, length);                                                   \
     }                                                                                                                  \
-                                                                                                                       \
     TK_INLINE torkettle_found_##name tk_found_prefix_##name(tk_result_pair_##name##_size found)                        \
     {                                                                                                                  \
         if (!found.is_ok)                                                                                              \
@@ -136,7 +132,6 @@ const char *torkettle_version(void) TORKETTLE_NOEXCEPT { return TORKETTLE_VERSIO
     {                                                                                                                  \
         return tk_found_prefix_##name(tk_atoi_simd_parse_prefix_##name(tk_text(text, length), TK_ZEROES, TK_PLUS));    \
     }                                                                                                                  \
-                                                                                                                       \
     torkettle_found_##name torkettle_whole_canonical_##name(const char *text, size_t length) TORKETTLE_NOEXCEPT        \
     {                                                                                                                  \
         tk_option_##name found = tk_canonical_##name(tk_text(text, length));                                           \
@@ -214,7 +209,6 @@ const char *torkettle_version(void) TORKETTLE_NOEXCEPT { return TORKETTLE_VERSIO
         column->separator = separator;                                                                                 \
         column->is_lines = 0;                                                                                          \
     }                                                                                                                  \
-                                                                                                                       \
     TK_COLD void tk_refuse_field_##name(torkettle_fields_##name *fields, tk_field_error bad)                           \
     {                                                                                                                  \
         fields->status = tk_status_of(bad.cause);                                                                      \
@@ -233,13 +227,12 @@ const char *torkettle_version(void) TORKETTLE_NOEXCEPT { return TORKETTLE_VERSIO
         fields->length = fields->rest_length = 0;                                                                      \
         fields->separator = ',';                                                                                       \
     }                                                                                                                  \
-                                                                                                                       \
     torkettle_found_##name torkettle_next_field_##name(torkettle_fields_##name *fields) TORKETTLE_NOEXCEPT             \
     {                                                                                                                  \
         torkettle_found_##name end = {0, 0}, bad = {0, 2};                                                             \
         tk_fields left;                                                                                                \
         tk_option_result_##name##_field_error item;                                                                    \
-        if (!TK_HAS_SEPARATOR(fields)) {                                                                               \
+        if (!fields->is_lines && !tk_is_separator(TK_CAST(uint8_t, fields->separator))) {                              \
             tk_refuse_separator_##name(fields);                                                                        \
             return bad;                                                                                                \
         }                                                                                                              \
@@ -256,7 +249,6 @@ const char *torkettle_version(void) TORKETTLE_NOEXCEPT { return TORKETTLE_VERSIO
         TK_GO_ON(fields, left);                                                                                        \
         return TK_MAKE(torkettle_found_##name, item.value.value, 1);                                                   \
     }                                                                                                                  \
-                                                                                                                       \
     size_t torkettle_fields_##name##_read(torkettle_fields_##name *fields, type *values, size_t count)                 \
         TORKETTLE_NOEXCEPT                                                                                             \
     {                                                                                                                  \
@@ -278,7 +270,6 @@ const char *torkettle_version(void) TORKETTLE_NOEXCEPT { return TORKETTLE_VERSIO
         return TK_MAKE(torkettle_fields_##name, TORKETTLE_OK, 0, 0, NULL, 0, column->next_index, column->next_offset,  \
                        column->rest, column->rest_length, column->separator, 0);                                       \
     }                                                                                                                  \
-                                                                                                                       \
     TK_COLD void tk_refuse_column_##name(torkettle_column_##name *column, const torkettle_fields_##name *bad)          \
     {                                                                                                                  \
         torkettle_error error = torkettle_parse_error_##name(bad->text, bad->length, TK_BOTH);                         \
@@ -287,7 +278,6 @@ const char *torkettle_version(void) TORKETTLE_NOEXCEPT { return TORKETTLE_VERSIO
         column->offset = bad->offset + (bad->status == TORKETTLE_INVALID ? error.offset + error.count : 0);            \
         column->rest_length = 0;                                                                                       \
     }                                                                                                                  \
-                                                                                                                       \
     TK_INLINE void tk_go_on_##name(torkettle_column_##name *column, const torkettle_fields_##name *fields)             \
     {                                                                                                                  \
         if (fields->status != TORKETTLE_OK) {                                                                          \
@@ -299,7 +289,6 @@ const char *torkettle_version(void) TORKETTLE_NOEXCEPT { return TORKETTLE_VERSIO
         column->rest = fields->rest;                                                                                   \
         column->rest_length = fields->rest_length;                                                                     \
     }                                                                                                                  \
-                                                                                                                       \
     torkettle_found_##name torkettle_next_##name(torkettle_column_##name *column) TORKETTLE_NOEXCEPT                   \
     {                                                                                                                  \
         torkettle_found_##name found = {0, 0};                                                                         \
@@ -311,7 +300,6 @@ const char *torkettle_version(void) TORKETTLE_NOEXCEPT { return TORKETTLE_VERSIO
         }                                                                                                              \
         return found;                                                                                                  \
     }                                                                                                                  \
-                                                                                                                       \
     size_t torkettle_column_##name##_read(torkettle_column_##name *column, type *values, size_t count)                 \
         TORKETTLE_NOEXCEPT                                                                                             \
     {                                                                                                                  \

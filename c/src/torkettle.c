@@ -9485,8 +9485,6 @@ const char *torkettle_version(void) TORKETTLE_NOEXCEPT { return TORKETTLE_VERSIO
     ((all)->is_lines ? tk_fields_lines(tk_text((all)->rest, (all)->rest_length))                                       \
                      : tk_fields_new(tk_text((all)->rest, (all)->rest_length), TK_CAST(uint8_t, (all)->separator)))
 
-#define TK_HAS_SEPARATOR(all) ((all)->is_lines || tk_is_separator(TK_CAST(uint8_t, (all)->separator)))
-
 #define TK_GO_ON(all, left)                                                                                            \
     do {                                                                                                               \
         tk_pair_size_size position = tk_fields_position(left);                                                         \
@@ -9502,14 +9500,12 @@ const char *torkettle_version(void) TORKETTLE_NOEXCEPT { return TORKETTLE_VERSIO
     {                                                                                                                  \
         return TK_MAKE(torkettle_found_##name, TK_CAST(type, tk_status_of(error)), 0);                                 \
     }                                                                                                                  \
-                                                                                                                       \
     TK_INLINE torkettle_found_##name tk_found_##name(tk_result_##name found, size_t length)                            \
     {                                                                                                                  \
         if (!found.is_ok)                                                                                              \
             return tk_refused_##name(found.error);                                                                     \
         return TK_MAKE(torkettle_found_##name, found.value, length);                                                   \
     }                                                                                                                  \
-                                                                                                                       \
     TK_INLINE torkettle_found_##name tk_found_prefix_##name(tk_result_pair_##name##_size found)                        \
     {                                                                                                                  \
         if (!found.is_ok)                                                                                              \
@@ -9537,7 +9533,6 @@ const char *torkettle_version(void) TORKETTLE_NOEXCEPT { return TORKETTLE_VERSIO
     {                                                                                                                  \
         return tk_found_prefix_##name(tk_atoi_simd_parse_prefix_##name(tk_text(text, length), TK_ZEROES, TK_PLUS));    \
     }                                                                                                                  \
-                                                                                                                       \
     torkettle_found_##name torkettle_whole_canonical_##name(const char *text, size_t length) TORKETTLE_NOEXCEPT        \
     {                                                                                                                  \
         tk_option_##name found = tk_canonical_##name(tk_text(text, length));                                           \
@@ -9615,7 +9610,6 @@ const char *torkettle_version(void) TORKETTLE_NOEXCEPT { return TORKETTLE_VERSIO
         column->separator = separator;                                                                                 \
         column->is_lines = 0;                                                                                          \
     }                                                                                                                  \
-                                                                                                                       \
     TK_COLD void tk_refuse_field_##name(torkettle_fields_##name *fields, tk_field_error bad)                           \
     {                                                                                                                  \
         fields->status = tk_status_of(bad.cause);                                                                      \
@@ -9634,13 +9628,12 @@ const char *torkettle_version(void) TORKETTLE_NOEXCEPT { return TORKETTLE_VERSIO
         fields->length = fields->rest_length = 0;                                                                      \
         fields->separator = ',';                                                                                       \
     }                                                                                                                  \
-                                                                                                                       \
     torkettle_found_##name torkettle_next_field_##name(torkettle_fields_##name *fields) TORKETTLE_NOEXCEPT             \
     {                                                                                                                  \
         torkettle_found_##name end = {0, 0}, bad = {0, 2};                                                             \
         tk_fields left;                                                                                                \
         tk_option_result_##name##_field_error item;                                                                    \
-        if (!TK_HAS_SEPARATOR(fields)) {                                                                               \
+        if (!fields->is_lines && !tk_is_separator(TK_CAST(uint8_t, fields->separator))) {                              \
             tk_refuse_separator_##name(fields);                                                                        \
             return bad;                                                                                                \
         }                                                                                                              \
@@ -9657,7 +9650,6 @@ const char *torkettle_version(void) TORKETTLE_NOEXCEPT { return TORKETTLE_VERSIO
         TK_GO_ON(fields, left);                                                                                        \
         return TK_MAKE(torkettle_found_##name, item.value.value, 1);                                                   \
     }                                                                                                                  \
-                                                                                                                       \
     size_t torkettle_fields_##name##_read(torkettle_fields_##name *fields, type *values, size_t count)                 \
         TORKETTLE_NOEXCEPT                                                                                             \
     {                                                                                                                  \
@@ -9679,7 +9671,6 @@ const char *torkettle_version(void) TORKETTLE_NOEXCEPT { return TORKETTLE_VERSIO
         return TK_MAKE(torkettle_fields_##name, TORKETTLE_OK, 0, 0, NULL, 0, column->next_index, column->next_offset,  \
                        column->rest, column->rest_length, column->separator, 0);                                       \
     }                                                                                                                  \
-                                                                                                                       \
     TK_COLD void tk_refuse_column_##name(torkettle_column_##name *column, const torkettle_fields_##name *bad)          \
     {                                                                                                                  \
         torkettle_error error = torkettle_parse_error_##name(bad->text, bad->length, TK_BOTH);                         \
@@ -9688,7 +9679,6 @@ const char *torkettle_version(void) TORKETTLE_NOEXCEPT { return TORKETTLE_VERSIO
         column->offset = bad->offset + (bad->status == TORKETTLE_INVALID ? error.offset + error.count : 0);            \
         column->rest_length = 0;                                                                                       \
     }                                                                                                                  \
-                                                                                                                       \
     TK_INLINE void tk_go_on_##name(torkettle_column_##name *column, const torkettle_fields_##name *fields)             \
     {                                                                                                                  \
         if (fields->status != TORKETTLE_OK) {                                                                          \
@@ -9700,7 +9690,6 @@ const char *torkettle_version(void) TORKETTLE_NOEXCEPT { return TORKETTLE_VERSIO
         column->rest = fields->rest;                                                                                   \
         column->rest_length = fields->rest_length;                                                                     \
     }                                                                                                                  \
-                                                                                                                       \
     torkettle_found_##name torkettle_next_##name(torkettle_column_##name *column) TORKETTLE_NOEXCEPT                   \
     {                                                                                                                  \
         torkettle_found_##name found = {0, 0};                                                                         \
@@ -9712,7 +9701,6 @@ const char *torkettle_version(void) TORKETTLE_NOEXCEPT { return TORKETTLE_VERSIO
         }                                                                                                              \
         return found;                                                                                                  \
     }                                                                                                                  \
-                                                                                                                       \
     size_t torkettle_column_##name##_read(torkettle_column_##name *column, type *values, size_t count)                 \
         TORKETTLE_NOEXCEPT                                                                                             \
     {                                                                                                                  \

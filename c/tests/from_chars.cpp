@@ -23,10 +23,7 @@
 
 namespace {
 
-std::uint64_t calls = 0;
-std::uint64_t accepted = 0;
-std::uint64_t out_of_range = 0;
-std::uint64_t differences = 0;
+unsigned long long calls, accepted, out_of_range, differences;
 
 template <class... T> struct Types {};
 using Integers = Types<char, signed char, unsigned char, short, unsigned short, int, unsigned, long, unsigned long,
@@ -287,8 +284,7 @@ int main(int count, char **arguments)
     calls = accepted = out_of_range = 0;
     for (unsigned long number = 0; number < texts; number++)
         compare_all(random_text(random) + (number % 2 == 0 ? "" : ",0123456789012345"));
-    const auto print = [](std::uint64_t value) { return static_cast<unsigned long long>(value); };
-    std::printf("%lu texts, %llu calls: %llu numbers, %llu out of range, %llu differ\n", texts, print(calls),
-                print(accepted), print(out_of_range), print(differences));
+    std::printf("%lu texts, %llu calls: %llu numbers, %llu out of range, %llu differ\n", texts, calls, accepted,
+                out_of_range, differences);
     return differences > 0 || accepted < calls / 10 || out_of_range < calls / 100;
 }

@@ -22,7 +22,6 @@ static int is_error_of_a_parse(void)
     torkettle_error error = torkettle_parse_error_u32("12x", 3, 0);
     size_t bad_byte = error.offset + error.count; /* only for TORKETTLE_INVALID */
     torkettle_error_text(message, sizeof message, &error, "12x", 3);
-
     return error.status == TORKETTLE_INVALID && error.offset == 0 && error.count == 2 && bad_byte == 2 &&
            strcmp(message, "atoi_simd invalid at index: 2 it must contain only digits, starting with: 12  input: "
                            "[31, 32, 78]") == 0;
@@ -58,14 +57,12 @@ static uint64_t sum_of_column(const char *text, size_t length)
         sum += value;
     if (column.status != TORKETTLE_OK)
         printf("no number in field %zu, at byte %zu\n", column.index, column.offset);
-
     return sum;
 }
 
 static uint64_t sum_by_read(const char *text, size_t length)
 {
     uint64_t sum = 0;
-
     torkettle_column_u32 column;
     uint32_t values[256];
     size_t count;
@@ -77,14 +74,12 @@ static uint64_t sum_by_read(const char *text, size_t length)
     } while (count == 256);
     if (column.status != TORKETTLE_OK)
         printf("no number in field %zu, at byte %zu\n", column.index, column.offset);
-
     return sum;
 }
 
 static uint64_t sum_of_lines(const char *text, size_t length)
 {
     uint64_t sum = 0;
-
     torkettle_fields_u32 lines;
     uint32_t value;
     torkettle_fields_u32_init_lines(&lines, text, length);
@@ -94,14 +89,12 @@ static uint64_t sum_of_lines(const char *text, size_t length)
         else
             printf("no number in line %zu, at byte %zu\n", lines.index + 1, lines.offset);
     }
-
     return sum;
 }
 
 static uint64_t sum_of_lines_by_read(const char *text, size_t length)
 {
     uint64_t sum = 0;
-
     torkettle_fields_u32 lines;
     uint32_t values[256];
     size_t count;
@@ -112,7 +105,6 @@ static uint64_t sum_of_lines_by_read(const char *text, size_t length)
         if (lines.status != TORKETTLE_OK)
             printf("no number in line %zu, at byte %zu\n", lines.index + 1, lines.offset);
     }
-
     return sum;
 }
 

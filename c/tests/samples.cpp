@@ -23,7 +23,6 @@ static std::uint64_t sum_of_lines(std::string_view text)
 static std::uint64_t sum_of_fields(std::string_view text)
 {
     std::uint64_t sum = 0;
-
     torkettle::fields<std::uint32_t> fields(text, ',');
     std::uint32_t values[256];
     std::size_t count;
@@ -33,7 +32,6 @@ static std::uint64_t sum_of_fields(std::string_view text)
         if (const auto error = fields.error_item())
             std::cout << "no number in field " << error->index << ", at byte " << error->offset << '\n';
     } while (count > 0 || fields.error_item());
-
     return sum;
 }
 

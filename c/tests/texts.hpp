@@ -1,6 +1,5 @@
 // Random texts for the tests: numbers near the bounds of each type, what is almost a number, and columns of both.
-#ifndef TEXTS_HPP
-#define TEXTS_HPP
+#pragma once
 
 #include <cstddef>
 #include <cstring>
@@ -112,5 +111,3 @@ inline std::string_view placed(const std::string &text, bool at_end = true)
         std::memcpy(to, text.data(), text.size());
     return {to, text.size()};
 }
-
-#endif

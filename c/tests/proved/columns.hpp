@@ -1,6 +1,5 @@
 // Reads a column in every way that there is in C and C++: each has to give what `_next` gives, and that Rust.
-#ifndef COLUMNS_HPP
-#define COLUMNS_HPP
+#pragma once
 
 #include "test.hpp"
 #include "torkettle.hpp"
@@ -205,5 +204,3 @@ private:
     bool lines;
     std::vector<Expected<T>> expected = {};
 };
-
-#endif

@@ -71,8 +71,9 @@ template <class C> void parses(Test &test)
     test.require(is_same(all, torkettle::parse<T>(test.text, flags)), "parse of C++");
     test.require(is_same(canonical, torkettle::canonical<T>(test.text)), "canonical of C++");
     test.require(is_same(json, number ? std::optional<T>(number->first) : std::nullopt), "json_integer of C++");
-    test.require(!number || number->second.data() == text + json[1], "the rest after json_integer");
-    test.require(!number || number->second.size() == length - json[1], "the rest after json_integer");
+    const bool is_rest =
+        !number || (number->second.data() == text + json[1] && number->second.end() == test.text.end());
+    test.require(is_rest, "the rest after json_integer");
     test.push(all);
     push_error(test, C::parse_error(text, length, flags), all[0]);
     test.push(start);

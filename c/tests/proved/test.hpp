@@ -1,6 +1,5 @@
 // One text under test, and the row of numbers that its calls give, which the Rust of the package has to give too.
-#ifndef TEST_HPP
-#define TEST_HPP
+#pragma once
 
 #include "../texts.hpp"
 #include "torkettle.h"
@@ -98,5 +97,3 @@ struct Test {
         CALL(column_next, torkettle_column_##name##_next)                                                              \
         CALL(column_read, torkettle_column_##name##_read)                                                              \
     };
-
-#endif
