@@ -37,7 +37,8 @@ module _ (int : IntType) (sized : IsSized int) (s : List ℕ) where
       sym (ok_prefix int (looked_for false) true s (with_sign sign.minus number) len (record {
         is_prefix = record {
           some = some;
-          short = rw (limit_of_prefix int true (limit_of int) (inl refl)) (in_range_short decimal_table int sized sign.minus sign.body fits);
+          short = rw (limit_of_prefix int true (limit_of int) (inl refl))
+              (in_range_short decimal_table int sized sign.minus sign.body fits);
           in_range = fits;
           ends = refl;
         };

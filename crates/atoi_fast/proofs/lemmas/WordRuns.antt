@@ -125,11 +125,13 @@ masked_top x none =
     let y = x / 2 ^ 24 in
     let split : x ≡ y * 2 ^ 24 + 0 = omega arith in
     let block = and_block 24 y 0xFF_00FF_00 0 0xFF_00FF (lit< tt) (lit< tt) in
-    omega (arith, ap (λ n. bit_and n 0x00FF_00FF_00FF_00FF) split, block, and_zero_l 0xFF_00FF, and_mod y 0xFF_00FF_00 8, and_zero_r (y % 256))
+    let low = and_mod y 0xFF_00FF_00 8 in
+    omega (arith, ap (λ n. bit_and n 0x00FF_00FF_00FF_00FF) split, block, and_zero_l 0xFF_00FF, low, and_zero_r (y % 256))
 
 -- So the upper field alone is their sum.
 pub sum_of_high_field : (len word : ℕ) → len ≤ 4 → bit_and (at_top len word) 0x0F0F_0F0F_0F0F_0F0F ≡ at_top len word
-    → bit_and (at_top len word * 0xA01 % 2 ^ 64 / 2 ^ 8) 0x00FF_00FF_00FF_00FF * 0x64_0001 % 2 ^ 64 / 2 ^ 48 ≡ low_value (low_bytes len word)
+    → bit_and (at_top len word * 0xA01 % 2 ^ 64 / 2 ^ 8) 0x00FF_00FF_00FF_00FF * 0x64_0001 % 2 ^ 64 / 2 ^ 48
+    ≡ low_value (low_bytes len word)
 sum_of_high_field len word few halves =
     let x = at_top len word * 0xA01 % 2 ^ 64 / 2 ^ 8 in
     let hundreds = bit_and x 0x00FF_00FF_00FF_00FF * 0x64_0001 % 2 ^ 64 in

@@ -1,4 +1,4 @@
-/* Made by .ci/translate from crates/atoi_fast/src/in_range.rt. Do not edit. */ //! The number of a sign and a magnitude that one word spells, or two.
+/* Made by .ci/translate from crates/atoi_fast/src/in_range.rt. Do not edit. */ //! The number of a sign and a magnitude that one to three words spell.
 // ghost use Rattle.std.specs.Prelude.{◌≡◌, ◌≤◌, IfSome, true};
 // ghost use Rattle.atoi_core.specs.IntType.{bound_of};
 // ghost use Rattle.atoi_core.specs.Sign.{with_sign};

@@ -46,6 +46,10 @@ returns-else-len-eq0-clause-some c =
           run_ends decimal_table s len w.loop-len-test.true
           (grind (arith, nat_tests, w.if-is_ascii_digit.false, w.is_ascii_digit.ensures)) c.loop-len.invariant.digits
       | else-loop-len-test w ↦
-          omega (arith, c.loop-len.invariant.digits, prefix_len-drop_all (is_digit decimal_table) s len (omega (arith, w.loop-len-test.false)))
+          omega (
+            arith,
+            c.loop-len.invariant.digits,
+            prefix_len-drop_all (is_digit decimal_table) s len (omega (arith, w.loop-len-test.false)),
+          )
     ] in
     (omega (arith, c.if-len-eq0.false), sym ends, rw ends c.loop-len.invariant.number, c.loop-len.invariant.bound)

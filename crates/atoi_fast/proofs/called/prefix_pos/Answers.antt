@@ -26,6 +26,10 @@ returns-in-Some-clause-loads g c =
     let some : 0 < run_len decimal_table s = starts_with_digit s (omega arith) (grind (arith, nat_tests)) (grind (arith, nat_tests)) in
     let few : zeros g.E.Engine.table s < 32 =
     rw c.requires.decimal
-    (omega (arith, c.in-Some.ensures.short, rw (sign_of_digits int.signed false s some) at (zeros-few int false s _ _ c.in-Some.ensures.answer))) in
+    (omega (
+      arith,
+      c.in-Some.ensures.short,
+      rw (sign_of_digits int.signed false s some) at (zeros-few int false s _ _ c.in-Some.ensures.answer),
+    )) in
     one_load g.E.Engine.table (most_loads g.E.Engine.table (class_of int) s + 1)
     (skips_zeros (class_of int) prefix c.args.skip) s (omega arith) few c.loaded_prefix.ensures.one_step

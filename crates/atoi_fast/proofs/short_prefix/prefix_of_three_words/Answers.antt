@@ -15,7 +15,8 @@ use Rattle.atoi_fast.proofs.short_prefix.prefix_of_three_words.Goals as goal
 
 pub sum_of-requires : goal.sum_of-requires
 sum_of-requires g c =
-    let all = all_digits c.args.minus c.args.s.now 8 (omega arith) (λ i. (c.type_inv.s i).fits) (omega arith) c.args.second c.requires.second (omega arith) in
+    let all = all_digits c.args.minus c.args.s.now 8 (omega arith) (λ i. (c.type_inv.s i).fits) (omega arith) c.args.second
+    c.requires.second (omega arith) in
     (lowered_eight c.args.second _ all refl).0
 
 -- What two words spell.
@@ -80,6 +81,7 @@ returns-clause-answer g c =
     let at_16 = next_word_prefix c.args.minus c.args.s.now 16 (omega arith) (λ i. (c.type_inv.s i).fits) r.full third
     c.load_from-third.ensures int (λ e. (g.met.T.Number.type_is.sign_is ∙ (r.minus e).0, (r.minus e).1)) (omega arith) in
     rw (c.in_ok-number.ensures.number, c.power_of_ten-2.ensures.power, c.leading_digits-more.ensures.len)
-    (at_16 (c.args.high * c.power_of_ten.result + c.sum_of.result) _ (sixteen g (goal.at.returns-clause-answer g c).After-four_by_product-low)
+    (at_16 (c.args.high * c.power_of_ten.result + c.sum_of.result) _
+    (sixteen g (goal.at.returns-clause-answer g c).After-four_by_product-low)
     (rw c.leading_digits-more.ensures.len at few) (rw c.leading_digits-more.ensures.len at limit)
     (rw c.leading_digits-more.ensures.len at low_is) (rw c.leading_digits-more.ensures.len at in_range))

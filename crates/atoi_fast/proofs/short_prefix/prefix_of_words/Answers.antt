@@ -33,8 +33,8 @@ pub prefix_of_two_words-requires-clause-minus : goal.prefix_of_two_words-require
 prefix_of_two_words-requires-clause-minus g c =
     let signed = known g (goal.at.prefix_of_two_words-requires-clause-minus g c).Else-lowest_byte-gt9 in
     rw c.SIGNED.ensures
-    (has_minus (g.T.Number.SIGNED && nat_eq c.lowest_byte.result 45) c.args.s.now (omega arith) (λ i. (c.type_inv.s i).fits) c.load_full-word.result
-    c.load_full-word.ensures signed.is_minus g.T.Number.SIGNED (λ e. grind (arith, nat_tests)))
+    (has_minus (g.T.Number.SIGNED && nat_eq c.lowest_byte.result 45) c.args.s.now (omega arith) (λ i. (c.type_inv.s i).fits)
+    c.load_full-word.result c.load_full-word.ensures signed.is_minus g.T.Number.SIGNED (λ e. grind (arith, nat_tests)))
 
 pub prefix_of_two_words-requires-clause-full : goal.prefix_of_two_words-requires-clause-full
 prefix_of_two_words-requires-clause-full g c =

@@ -16,5 +16,6 @@ returns g c =
     c.load_full-word.result c.from.result _ c.load_last-last.result c.load_full-word.ensures back refl c.load_last-last.ensures
     c.load_full-word.type_inv (sym c.leading_digits.ensures.len ∙ c.if-leading_digits-ne8.false)
     (sym c.leading_digits-else-leading_digits-ne8.ensures.len ∙ c.if-leading_digits-ne8-2.false) int c.value_of-high.result
-    c.value_of.result _ (λ e. g.met.T.Number.type_is.sign_is ∙ grind (arith, nat_tests, c.SIGNED.ensures)) c.value_of-high.ensures.sum c.value_of.ensures.sum
+    c.value_of.result _ (λ e. g.met.T.Number.type_is.sign_is ∙ grind (arith, nat_tests, c.SIGNED.ensures))
+    c.value_of-high.ensures.sum c.value_of.ensures.sum
     (rw c.power_of_ten.ensures.power refl))
