@@ -4,7 +4,6 @@
 use crate::source::{Source, Span};
 
 /// What a rule has read.
-#[derive(Clone)]
 pub struct Node {
     /// The name of the rule, and the part of that name before the point.
     pub rule: &'static str,
@@ -31,7 +30,7 @@ impl Node {
     }
 
     /// Returns its parts of a kind.
-    pub fn all(&self, kind: &str) -> impl Iterator<Item = &Node> + Clone {
+    pub fn all(&self, kind: &str) -> impl Iterator<Item = &Node> {
         self.parts.iter().filter(move |part| part.kind == kind)
     }
 
