@@ -141,22 +141,24 @@ integer_type       ~ signed / unsigned -- a type of integers
 signed             ~ @'i8' / @'i16' / @'i32' / @'i64' / @'i128' / @'isize'
 unsigned           ~ @'u8' / @'u16' / @'u32' / @'u64' / @'u128' / @'usize'
 unary              ~ reference.value / negation / primary << behind_primary -- an expression
-behind_primary     ~ try / index / part / method / member_of
+behind_primary     ~ try / in_brackets / method / member_of
 reference.value    = ^'&' mutable? unary
 negation           = ( @'!' / @'-' / @'*' ) unary
 try                = '?' -- an operator
-index              = '[' expression ']' -- an operator
-part               ~ part.from / part.between / part.to -- an operator
-part.from          = '[' expression '..' ']'
-part.between       = '[' expression '..' expression ']'
-part.to            = '[' '..' expression ']'
+in_brackets        ~ '[' ( part.to / expression <! ( index / part.from / part.between ) ) -- an operator
+index              = ']'
+part.from          = '..' ']'
+part.between       = '..' expression ']'
+part.to            = '..' expression ']'
 method             = '.' name arguments.value '(' expression,* ')' -- an operator
 member_of          = '.' ( name / INTEGER ) -- an operator
 
-primary            ~ literal / group / tuple / repeat / list / closure / matches / named / block_like / return / break
+primary            ~ literal / tuple / in_parentheses / repeat / list / closure / matches / named / block_like / return / break
 named              ~ struct.value / call / path.value
-group              = '(' expression ')'
-tuple              = '(' expression,* ')'
+tuple              = '(' ')'
+in_parentheses     ~ '(' expression <! ( group / tuple.more )
+group              = ')'
+tuple.more         = ',' expression,* ')'
 list               = '[' expression,* ']'
 repeat             = '[' ( literal / path.value ) ';' length ']'
 closure            = '|' binding.name '|' expression
