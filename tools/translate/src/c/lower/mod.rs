@@ -155,9 +155,9 @@ impl<'w, 'i> Lowering<'w, 'i> {
 
     // Returns a condition of two terms, or what is known of it.
     fn test(&self, operator: &'static str, left: Term, right: Term) -> Term {
-        let numbers = left.number().zip(right.number());
-        if let Some(known) = numbers.and_then(|(left, right)| compared(operator, left, right)) {
-            return self.boolean(known);
+        // No source asks which of two known numbers is greater.
+        if let ("==" | "!=", Some(one), Some(other)) = (operator, left.number(), right.number()) {
+            return self.boolean((one == other) == (operator == "=="));
         }
         match (operator, &left.kind, &right.kind) {
             ("&&", Kind::Boolean(true), _) | ("||", Kind::Boolean(false), _) => return right,
@@ -263,18 +263,6 @@ impl<'w, 'i> Lowering<'w, 'i> {
         let term = self.any(expression)?;
         self.coerce(term, of)
     }
-}
-
-fn compared(operator: &str, left: u128, right: u128) -> Option<bool> {
-    Some(match operator {
-        "==" => left == right,
-        "!=" => left != right,
-        "<" => left < right,
-        ">" => left > right,
-        "<=" => left <= right,
-        ">=" => left >= right,
-        _ => return None,
-    })
 }
 
 // The operator that a sign is.
