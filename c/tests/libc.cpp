@@ -1,5 +1,5 @@
-// Compares what c/README.md has in place of functions of libc and of std::stoi with these, for texts of few characters
-// and for numbers at the bounds: the number, the end, and errno.
+// Compares what c/README.md has in place of functions of libc and of std::stoi with these, for texts of few characters,
+// for numbers at the bounds and for random texts: the number, the end, and errno.
 #define main run_samples
 #include "samples.c"
 #undef main
@@ -11,6 +11,8 @@
 #include <string>
 #include <type_traits>
 #include <utility>
+
+#include "texts.hpp"
 
 const char spaces[] = " \t\n\v\f\r";
 static unsigned long checks, failures;
@@ -101,6 +103,9 @@ int main()
              {"", "-", "+", " \n-", "\v\f\r", "000000000000000000000000", "-00000000000000000000000"})
             for (const char *after : {"", " ", "x", "-1"})
                 check_text(std::string(before) + digits + after);
+    Random random(1);
+    for (unsigned number = 0; number < 300000; number++)
+        check_text(random_text(random).c_str());
     std::printf("%lu checks, %lu failed\n", checks, failures);
     return failures > 0;
 }
