@@ -246,7 +246,8 @@ fn cells_of_which_some_are_blank() {
 #[test]
 fn the_greatest_number_in_place_of_one_out_of_range() {
     fn seconds(text: &[u8]) -> Result<u32, IntError> {
-        let only_digits = text.iter().all(u8::is_ascii_digit);
+        let digits = text.strip_prefix(b"+").unwrap_or(text);
+        let only_digits = digits.iter().all(u8::is_ascii_digit);
         match from_ascii(text) {
             Err(error) if error.kind() == IntErrorKind::PosOverflow && only_digits => Ok(u32::MAX),
             result => result,
@@ -256,11 +257,11 @@ fn the_greatest_number_in_place_of_one_out_of_range() {
     assert_eq!(seconds(b"99999999999"), Ok(u32::MAX));
     assert!(seconds(b"99999999999s").is_err());
 
-    for text in ["0", "4294967294", "4294967295", "4294967296"] {
+    for text in ["0", "+60", "4294967294", "4294967295", "4294967296", "+99999999999"] {
         let expected = text.parse::<u64>().unwrap().min(u32::MAX.into());
         assert_eq!(seconds(text.as_bytes()).map(u64::from), Ok(expected));
     }
-    for text in ["", "-1", "-99999999999", "x", "9 "] {
+    for text in ["", "-1", "-99999999999", "x", "9 ", "++60", "+99999999999s"] {
         assert!(seconds(text.as_bytes()).is_err(), "{text:?}");
     }
 }
