@@ -3,7 +3,7 @@
 use std::error::Error;
 use std::io::{self, Read};
 use torkettle::column::{Column, ColumnError, FieldError, Fields, LineReader, is_separator};
-use torkettle::formats::digits_then;
+use torkettle::formats::{digits_then, number, number_then};
 use torkettle::{
     AtoiSimdError, Parse, from_ascii, from_ascii_prefix, parse, parse_neg, parse_pos, parse_prefix,
     parse_prefix_neg, parse_prefix_pos,
@@ -140,6 +140,11 @@ fn version(text: &[u8]) -> Option<(u32, u32, u32)> {
     Some((major, minor, patch))
 }
 
+fn width_and_height(row: &[u8]) -> Option<(u32, u32)> {
+    let (width, rest) = number_then(row, b',')?;
+    Some((width, number(rest)?))
+}
+
 fn total_of_third_column(table: impl Read) -> io::Result<(u64, Vec<(usize, usize)>)> {
     let (mut reader, mut total, mut bad) = (LineReader::new(table), 0, Vec::new());
     while let Some(item) = reader.next_line()? {
@@ -177,6 +182,8 @@ fn totals() {
     assert_eq!(total_between(b"1;2", b'-'), None);
     assert_eq!(version(b"1.22.333"), Some((1, 22, 333)));
     assert_eq!(version(b"1.22.x"), None);
+    assert_eq!(width_and_height(b"640,+480"), Some((640, 480)));
+    assert_eq!(width_and_height(b"640,480,"), None);
     let mut table = b"tea;-3;250\r\nmilk;;90;x\r\nr\xf6sti\n;;9\xff\n".to_vec();
     table.resize(table.len() + (1 << 20) + 1, b'y');
     table.extend(b"\n;;2");
