@@ -100,7 +100,6 @@ fn integers_and_floats() {
     fn value(text: &str) -> Result<Value, ParseFloatError> {
         match from_ascii(text.as_bytes()) {
             Ok(number) => Ok(Value::Integer(number)),
-            // `1.5`, `.5` and `99999999999999999999.5` have different errors, so do not look at the kind.
             Err(_) => text.parse().map(Value::Float),
         }
     }

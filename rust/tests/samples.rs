@@ -104,7 +104,6 @@ fn total_of_good_lines(input: &[u8]) -> u64 {
     for item in Fields::<u32>::lines(input) {
         match item {
             Ok(number) => total += u64::from(number),
-            // A blank line is skipped.
             Err(error) if error.text.is_empty() => {}
             Err(error) => eprintln!("line {}: \"{}\"", error.line(), error.text.escape_ascii()),
         }
