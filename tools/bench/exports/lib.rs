@@ -1,10 +1,7 @@
 //! The loops that are timed: `bench` wrote the last lines of this file, and copied the others.
 #![allow(dead_code, unused_imports)]
 
-pub mod jobs;
 pub mod loops;
-pub mod number;
-pub mod packages;
 pub mod readers;
 pub mod texts;
 
@@ -12,7 +9,7 @@ pub mod texts;
 macro_rules! export {
     ($name:ident, $($code:tt)*) => {
         mod $name {
-            use crate::{jobs::*, loops::*, sides::*, texts::*};
+            use crate::{loops::*, sides::*, texts::*};
 
             /// # Safety
             /// The texts must be as `Texts` says.

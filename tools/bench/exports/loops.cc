@@ -87,7 +87,7 @@ template <typename By, typename T> INLINED uint64_t column(const Texts &texts) {
     }
 }
 
-template <typename T> INLINED uint64_t fields(const Texts &texts) {
+template <typename, typename T> INLINED uint64_t fields(const Texts &texts) {
     uint64_t sum = 0;
     for (const auto &item : torkettle::fields<T>(std::string_view(texts.text, texts.length), ',')) {
         if (!item.value) return ERROR;
@@ -98,31 +98,28 @@ template <typename T> INLINED uint64_t fields(const Texts &texts) {
 
 // The functions of C for a column.
 template <typename T> struct Column;
-#define COLUMN(NAME, T)                                                                              \
-    template <> struct Column<T> {                                                                   \
-        torkettle_column_##NAME column;                                                              \
-        INLINED explicit Column(const Texts &texts) {                                                \
-            torkettle_column_##NAME##_init(&column, texts.text, texts.length, ',');                  \
-        }                                                                                            \
-        INLINED bool next(T *value) { return torkettle_column_##NAME##_next(&column, value); }       \
-        INLINED size_t read(T *values, size_t count) {                                               \
-            return torkettle_column_##NAME##_read(&column, values, count);                           \
-        }                                                                                            \
+#define COLUMN(NAME, T)                                                                            \
+    template <> struct Column<T> : torkettle_column_##NAME {                                       \
+        INLINED explicit Column(const Texts &texts) {                                              \
+            torkettle_column_##NAME##_init(this, texts.text, texts.length, ',');                   \
+        }                                                                                          \
+        INLINED bool next(T *value) { return torkettle_column_##NAME##_next(this, value); }        \
+        INLINED size_t read(T *to, size_t count) { return torkettle_column_##NAME##_read(this, to, count); } \
     };
 COLUMN(u32, uint32_t)
 COLUMN(i32, int32_t)
 COLUMN(u64, uint64_t)
 COLUMN(i64, int64_t)
 
-template <typename T> INLINED uint64_t next(const Texts &texts) {
+template <typename, typename T> INLINED uint64_t next(const Texts &texts) {
     Column<T> column(texts);
     T value;
     uint64_t sum = 0;
     while (column.next(&value)) sum += low_bits(value);
-    return column.column.status == TORKETTLE_OK ? sum : ERROR;
+    return column.status == TORKETTLE_OK ? sum : ERROR;
 }
 
-template <typename T> INLINED uint64_t read(const Texts &texts) {
+template <typename, typename T> INLINED uint64_t read(const Texts &texts) {
     Column<T> column(texts);
     T values[128];
     uint64_t sum = 0;
@@ -131,5 +128,5 @@ template <typename T> INLINED uint64_t read(const Texts &texts) {
         count = column.read(values, 128);
         for (size_t at = 0; at < count; at++) sum += low_bits(values[at]);
     } while (count == 128);
-    return column.column.status == TORKETTLE_OK ? sum : ERROR;
+    return column.status == TORKETTLE_OK ? sum : ERROR;
 }

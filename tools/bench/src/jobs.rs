@@ -1,19 +1,15 @@
 //! The texts of jobs that tokenizers do, and the sums of their numbers.
 
+use crate::input::Input;
+use crate::lists::LEAST;
+use crate::table::Task;
 use torkettle_common::random::Random;
 
-/// A text, and what is known of the numbers that a job reads.
-pub struct JobText {
-    pub text: String,
-    pub sum: u64,
-    pub count: usize,
-}
+// Writes a part of a text, with a `#` before each number that is read.
+type Part = fn(&mut Random) -> String;
 
-/// Writes a part of a text, with a `#` before each number that is read.
-pub type Part = fn(&mut Random) -> String;
-
-/// The names of the jobs, as the loops have them, and what writes their texts.
-pub const JOBS: [(&str, Part); 7] = [
+// The names of the jobs, as the loops have them, and what writes their texts.
+const JOBS: [(&str, Part); 7] = [
     ("iso_dates", iso_date),
     ("ipv4", |random| format!("{}\n", address(random))),
     ("access_log", access),
@@ -23,32 +19,38 @@ pub const JOBS: [(&str, Part); 7] = [
     ("http", answer),
 ];
 
-// A text has at least so many numbers.
-const LEAST: usize = 100_000;
+// The jobs that functions of `formats` do, too.
+const BY_FORMATS: [&str; 3] = ["iso_dates", "ipv4", "semver"];
 
-/// The text of a job.
-pub fn text(part: Part) -> JobText {
-    let (mut job, random) =
-        (JobText { text: String::new(), sum: 0, count: 0 }, &mut Random::new(1));
-    while job.count < LEAST {
-        job.add(&part(random));
-    }
-    job
+/// The jobs that have what `--only` says.
+pub fn tasks(only: &str) -> Vec<Task> {
+    let jobs = JOBS.into_iter().map(|(name, part)| (name, format!("job {name}"), part));
+    let jobs = jobs.filter(|(_, line, _)| line.contains(only));
+    let task = |(name, line, part): (&str, _, _)| {
+        let words = if BY_FORMATS.contains(&name) { &["$job", "$format"][..] } else { &["$job"] };
+        let words = words.iter().map(|word| (*word, name.to_string())).collect();
+        Task { kind: "job", line, groups: vec![String::from("jobs")], words, input: input(part) }
+    };
+    jobs.map(task).collect()
 }
 
-impl JobText {
-    // Adds what a part wrote.
-    fn add(&mut self, part: &str) {
+// The text of a job.
+fn input(part: Part) -> Input {
+    let (mut text, mut sum, mut count) = (String::new(), 0_u64, 0);
+    let random = &mut Random::new(1);
+    while count < LEAST {
+        let part = part(random);
         let mut pieces = part.split('#');
-        self.text.extend(pieces.next());
+        text.extend(pieces.next());
         for piece in pieces {
             let digits = piece.bytes().skip(1).take_while(u8::is_ascii_digit).count();
             let number: i64 = piece[..=digits].parse().expect("a number follows each mark");
-            self.text += piece;
-            self.sum = self.sum.wrapping_add(number as u64);
-            self.count += 1;
+            text += piece;
+            sum = sum.wrapping_add(number as u64);
+            count += 1;
         }
     }
+    Input::of_text(text, sum, count)
 }
 
 // A number below `end`. That it is below the square root is as likely as that it is not.
@@ -135,16 +137,16 @@ fn answer(random: &mut Random) -> String {
 
 #[cfg(test)]
 mod tests {
-    use super::{JOBS, text};
+    use super::{Input, JOBS, LEAST, input};
 
     #[test]
     fn sums_are_those_of_the_texts() {
         for (name, part) in JOBS.into_iter().filter(|(name, _)| ["ipv4", "semver"].contains(name)) {
-            let job = text(part);
-            let numbers = job.text.split(['.', '\n']).filter(|number| !number.is_empty());
+            let Input { text, expected, count, .. } = input(part);
+            let numbers = text.split(['.', '\n']).filter(|number| !number.is_empty());
             let numbers: Vec<u64> = numbers.map(|number| number.parse().unwrap()).collect();
-            assert_eq!((numbers.iter().sum(), numbers.len()), (job.sum, job.count), "{name}");
-            assert!(job.count >= super::LEAST);
+            assert_eq!((numbers.iter().sum(), numbers.len()), (expected, count), "{name}");
+            assert!(count >= LEAST);
         }
     }
 }

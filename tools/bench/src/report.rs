@@ -3,13 +3,20 @@
 
 use crate::measure::{Figures, mean};
 use crate::table::{Table, Task};
+use std::rc::Rc;
 
-/// Prints the figures of a table, in Markdown too if `is_markdown`, and returns how many sums were wrong. `unit`
-/// is, for example, `nanoseconds per slice`.
-pub fn print(table: &Table, figures: &[Figures], unit: &str, is_markdown: bool) -> usize {
-    println!("\n{unit}, and ours divided by theirs:");
+/// Prints the figures of a table, in Markdown too if `is_markdown`, and returns how many sums were wrong. `unit` is,
+/// for example, `nanoseconds`, and `place` is where the loops were compiled.
+pub fn print(
+    table: &Table,
+    figures: &[Figures],
+    unit: &str,
+    place: &str,
+    is_markdown: bool,
+) -> usize {
+    println!("\n{unit} per {}, {place}, and ours divided by theirs:", table.item);
     for (number, side) in table.sides.iter().enumerate() {
-        println!("    {}  {}, {}", letter(number), side.way, side.name);
+        println!("    {}  {}, {}", letter(number), side.way, side.reader.name);
     }
     let rows = rows(table, figures);
     print!("{}", aligned(&rows));
@@ -19,54 +26,44 @@ pub fn print(table: &Table, figures: &[Figures], unit: &str, is_markdown: bool) 
     figures.iter().map(|figures| figures.wrong().count()).sum()
 }
 
-// The head of the table, its lines, and the means of each group of tasks.
+// The head of the table, its lines, and the mean and the worst of the ratios of each group of tasks.
 fn rows(table: &Table, figures: &[Figures]) -> Vec<Vec<String>> {
-    let pairs = table.pairs();
-    let letters = (0..table.sides.len()).map(|side| letter(side).to_string());
-    let ratios =
-        pairs.iter().map(|(ours, theirs)| format!("{}/{}", letter(*ours), letter(*theirs)));
-    let head = [String::from("list")].into_iter().chain(letters).chain(ratios).collect();
-    let mut rows = vec![head];
-    rows.extend(table.tasks.iter().zip(figures).map(|(task, figures)| row(task, figures, &pairs)));
+    let (pairs, sides) = (table.pairs(), 0..table.sides.len());
+    let names = pairs.iter().map(|(ours, theirs)| format!("{}/{}", letter(*ours), letter(*theirs)));
+    let letters = sides.clone().map(|side| letter(side).to_string());
+    let mut rows = vec![[String::from("list")].into_iter().chain(letters).chain(names).collect()];
+    for (task, figures) in table.tasks.iter().zip(figures) {
+        let wrong: String = figures.wrong().map(letter).collect();
+        let wrong = if wrong.is_empty() { wrong } else { format!(" WRONG ANSWERS: {wrong}") };
+        let ratios = pairs.iter().map(|pair| shown(figures.ratio(*pair), 2));
+        let cells = sides.clone().map(|side| shown(figures.of(side), 1)).chain(ratios);
+        rows.push([format!("{}{wrong}", task.line)].into_iter().chain(cells).collect());
+    }
+    let worst = |ratios: &[f64]| ratios.iter().copied().reduce(f64::max);
     for group in groups(&table.tasks) {
-        let tasks = table.tasks.iter().zip(figures).filter(|(task, _)| task.groups.contains(group));
-        let figures: Vec<&Figures> = tasks.map(|(_, figures)| figures).collect();
-        rows.extend(means(group, &figures, &pairs));
+        let is_in = |(task, _): &(&Rc<Task>, _)| task.groups.contains(group);
+        let figures: Vec<_> = table.tasks.iter().zip(figures).filter(is_in).collect();
+        for (name, figure) in [("mean", &mean as &dyn Fn(&[f64]) -> _), ("worst", &worst)] {
+            let ratios = |pair| -> Vec<f64> {
+                figures.iter().filter_map(|(_, it)| it.ratio(pair)).collect()
+            };
+            let cells = pairs.iter().map(|pair| shown(figure(&ratios(*pair)), 2));
+            let empty = sides.clone().map(|_| String::new());
+            rows.push([format!("{name}, {group}")].into_iter().chain(empty).chain(cells).collect());
+        }
     }
     rows
 }
 
 // The groups of tasks, each once.
-fn groups(tasks: &[Task]) -> Vec<&String> {
-    tasks.iter().flat_map(|task| &task.groups).fold(Vec::new(), |mut groups, group| {
+fn groups(tasks: &[Rc<Task>]) -> Vec<&String> {
+    let mut groups: Vec<&String> = Vec::new();
+    for group in tasks.iter().flat_map(|task| &task.groups) {
         if !groups.contains(&group) {
             groups.push(group);
         }
-        groups
-    })
-}
-
-// The line of a task: the figures, and the ratios.
-fn row(task: &Task, figures: &Figures, pairs: &[(usize, usize)]) -> Vec<String> {
-    let wrong: String = figures.wrong().map(letter).collect();
-    let wrong = if wrong.is_empty() { wrong } else { format!(" WRONG ANSWERS: {wrong}") };
-    let sides = (0..figures.is_wrong.len()).map(|side| shown(figures.of(side), 1));
-    let ratios = pairs.iter().map(|pair| shown(figures.ratio(*pair), 2));
-    [format!("{}{wrong}", task.line)].into_iter().chain(sides).chain(ratios).collect()
-}
-
-// The geometric means of the ratios of a group of tasks, and the worst ratios.
-fn means(group: &str, figures: &[&Figures], pairs: &[(usize, usize)]) -> [Vec<String>; 2] {
-    let sides = figures[0].is_wrong.len();
-    let row = |name: &str, figure: fn(Vec<f64>) -> Option<f64>| {
-        let mut row = vec![String::new(); sides + 1];
-        row[0] = format!("{name}, {group}");
-        let ratios = |pair| figures.iter().filter_map(|figures| figures.ratio(pair)).collect();
-        row.extend(pairs.iter().map(|pair| shown(figure(ratios(*pair)), 2)));
-        row
-    };
-    let worst = |ratios: Vec<f64>| ratios.into_iter().reduce(f64::max);
-    [row("mean", |ratios| mean(&ratios)), row("worst", worst)]
+    }
+    groups
 }
 
 fn shown(figure: Option<f64>, places: usize) -> String {
@@ -101,29 +98,29 @@ mod tests {
     use super::{aligned, in_markdown, rows};
     use crate::input::Input;
     use crate::measure::Figures;
-    use crate::table::{Author, Side, Table, Task};
+    use crate::table::{Author, Reader, Table, Task, tables};
     use std::rc::Rc;
-    use torkettle_common::integer::Integer;
 
     fn table() -> Table {
         let task = |line: &str| {
             let (line, groups) = (line.to_string(), vec![String::from("real")]);
-            let input = Rc::new(Input::column(&[], Integer::U8));
-            Task { line, groups, subject: String::new(), input }
+            let input = Input::of_text(String::new(), 0, 0);
+            Rc::new(Task { kind: "real", line, groups, words: Vec::new(), input })
         };
-        let side = |author| Side::new(author, "parse", "", ["", ""]);
-        let sides = vec![side(Author::Ours), side(Author::Other)];
-        Table { item: "slice", sides, tasks: vec![task("one"), task("other")] }
+        let reader = |author| Reader::new(author, "", ["", "", "@any"]);
+        let readers = [reader(Author::Ours), reader(Author::Other)];
+        tables(&[["slice", "real", "parse", "@any"]], &readers, &[task("one"), task("other")])
+            .remove(0)
     }
 
     fn figures(ours: f64, theirs: Option<f64>) -> Figures {
         let mut figures = Figures::new(1, 2);
-        figures.push(0, vec![Some(ours), theirs]);
+        figures.layouts[0].push(vec![Some(ours), theirs]);
         figures
     }
 
     #[test]
-    fn ratios_and_means() {
+    fn ratios_and_means_in_both_forms() {
         let mut all = [figures(1.0, Some(2.0)), figures(4.0, Some(2.0))];
         all[1].is_wrong[0] = true;
         let rows = rows(&table(), &all);
@@ -132,13 +129,8 @@ mod tests {
         assert_eq!(rows[2], ["other WRONG ANSWERS: A", "4.0", "2.0", "2.00"]);
         assert_eq!(rows[3..], [["mean, real", "", "", "1.00"], ["worst, real", "", "", "2.00"]]);
         assert_eq!(super::rows(&table(), &[figures(1.0, None)])[1], ["one", "1.0", "", ""]);
-    }
-
-    #[test]
-    fn forms() {
-        let rows =
-            [["list", "A"], ["csv-cells u32", "1.5"]].map(|row| row.map(String::from).to_vec());
-        assert_eq!(aligned(&rows), "list               A\ncsv-cells u32    1.5\n");
-        assert_eq!(in_markdown(&rows), "| list | A |\n|---|---|\n| csv-cells u32 | 1.5 |\n");
+        assert_eq!(aligned(&rows[3..4]), "mean, real                 1.00\n");
+        let markdown = "| list | A | B | A/B |\n|---|---|---|---|\n| one | 1.0 | 2.0 | 0.50 |\n";
+        assert_eq!(in_markdown(&rows[..2]), markdown);
     }
 }

@@ -1,35 +1,16 @@
 //! What a call answers, and how an export passes it on.
 
-/// What a call answers. `place` is the number of bytes of the text before the error's slice, and
-/// this slice is the rest of the text.
+/// What a call answers. `place` is the number of bytes of the text before the error's slice, and this slice is the rest
+/// of the text. `count` is how many bytes a prefix has, and 0 for a whole text. No call should answer `Unlike`: there
+/// is no such call, or the error's slice is not the rest of the text.
 #[derive(Clone, Copy, PartialEq, Eq, Debug)]
 pub enum Answer {
-    /// The value, and how many bytes a prefix has. For a whole text `count` is 0.
-    Value {
-        negative: bool,
-        magnitude: u128,
-        count: usize,
-    },
+    Value { negative: bool, magnitude: u128, count: usize },
     Empty,
-    Size {
-        length: usize,
-        place: usize,
-    },
-    Overflow {
-        place: usize,
-    },
-    Invalid64 {
-        number: u128,
-        index: usize,
-        place: usize,
-    },
-    Invalid128 {
-        number: u128,
-        index: usize,
-        place: usize,
-    },
-    /// What no call should answer: there is no such call, or the error's slice is not the rest of
-    /// the text.
+    Size { length: usize, place: usize },
+    Overflow { place: usize },
+    Invalid64 { number: u128, index: usize, place: usize },
+    Invalid128 { number: u128, index: usize, place: usize },
     Unlike(RawAnswer),
 }
 
@@ -43,7 +24,7 @@ impl Answer {
 /// An answer as `torkettle_answer` writes it. The fields are the fields of `Answer` in
 /// `exports/answer.rt.in`.
 #[repr(C)]
-#[derive(Clone, Copy, PartialEq, Eq, Debug)]
+#[derive(Clone, Copy, PartialEq, Eq, Debug, Default)]
 pub struct RawAnswer {
     variant: u32,
     negative: bool,
@@ -56,27 +37,8 @@ pub struct RawAnswer {
 
 impl RawAnswer {
     /// What no call should answer.
-    pub const UNLIKE: RawAnswer = RawAnswer::plain(6);
-
-    const fn plain(variant: u32) -> RawAnswer {
-        RawAnswer {
-            variant,
-            negative: false,
-            ends_the_text: false,
-            low: 0,
-            high: 0,
-            count: 0,
-            place: 0,
-        }
-    }
-
-    // The answer for an error that has a slice.
-    fn refused(variant: u32, number: u128, count: usize, place: usize) -> RawAnswer {
-        RawAnswer { ends_the_text: true, count, place, ..RawAnswer::plain(variant) }.of(number)
-    }
-
-    fn of(self, number: u128) -> RawAnswer {
-        RawAnswer { low: number as u64, high: (number >> 64) as u64, ..self }
+    pub fn unlike() -> RawAnswer {
+        RawAnswer { variant: 6, ..RawAnswer::default() }
     }
 }
 
@@ -98,21 +60,17 @@ impl From<RawAnswer> for Answer {
 
 impl From<Answer> for RawAnswer {
     fn from(answer: Answer) -> RawAnswer {
-        match answer {
-            Answer::Value { negative, magnitude, count } => {
-                RawAnswer { negative, count, ..RawAnswer::plain(0) }.of(magnitude)
-            }
-            Answer::Empty => RawAnswer::plain(1),
-            Answer::Size { length, place } => RawAnswer::refused(2, 0, length, place),
-            Answer::Overflow { place } => RawAnswer::refused(3, 0, 0, place),
-            Answer::Invalid64 { number, index, place } => {
-                RawAnswer::refused(4, number, index, place)
-            }
-            Answer::Invalid128 { number, index, place } => {
-                RawAnswer::refused(5, number, index, place)
-            }
-            Answer::Unlike(raw) => raw,
-        }
+        let (variant, negative, number, count, place) = match answer {
+            Answer::Value { negative, magnitude, count } => (0, negative, magnitude, count, 0),
+            Answer::Empty => (1, false, 0, 0, 0),
+            Answer::Size { length, place } => (2, false, 0, length, place),
+            Answer::Overflow { place } => (3, false, 0, 0, place),
+            Answer::Invalid64 { number, index, place } => (4, false, number, index, place),
+            Answer::Invalid128 { number, index, place } => (5, false, number, index, place),
+            Answer::Unlike(raw) => return raw,
+        };
+        let (low, high) = (number as u64, (number >> 64) as u64);
+        RawAnswer { variant, negative, ends_the_text: variant > 1, low, high, count, place }
     }
 }
 
@@ -130,7 +88,7 @@ mod tests {
             Answer::Overflow { place: 3 },
             Answer::Invalid64 { number, index: 4, place: 1 },
             Answer::Invalid128 { number, index: 4, place: 0 },
-            Answer::Unlike(RawAnswer::UNLIKE),
+            Answer::Unlike(RawAnswer::unlike()),
         ] {
             assert_eq!(Answer::from(RawAnswer::from(answer)), answer);
         }

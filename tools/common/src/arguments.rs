@@ -56,3 +56,23 @@ pub fn run(usage: &str, work: impl FnOnce(&[String]) -> Result<bool, String>) ->
         }
     }
 }
+
+#[cfg(test)]
+mod tests {
+    use super::Given;
+
+    const USAGE: &str = "--texts N  how many texts\n--debug    build in debug";
+
+    fn read(words: &[&str]) -> Result<Given, String> {
+        Given::read(USAGE, &words.iter().copied().map(String::from).collect::<Vec<_>>())
+    }
+
+    #[test]
+    fn every_argument_is_read_or_refused() {
+        let all = read(&["--texts", "5", "--debug"]).unwrap();
+        assert!(all.has("--debug") && all.value("--texts") == Ok(Some(5)));
+        assert!(read(&["--texts", "many"]).unwrap().value::<u64>("--texts").is_err());
+        assert!(!read(&[]).unwrap().has("--debug"));
+        assert!(read(&["--texts"]).is_err() && read(&["--count"]).is_err());
+    }
+}

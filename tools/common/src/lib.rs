@@ -10,11 +10,9 @@ pub mod command;
 pub mod integer;
 pub mod object;
 pub mod original;
-pub mod package;
 pub mod question;
 pub mod random;
 pub mod rules;
-pub mod stamp;
 pub mod standard;
 pub mod texts;
 

@@ -15,47 +15,32 @@ unsafe extern "C" {
 // To look up everything at once, so that no call pays for it.
 const RTLD_NOW: c_int = 2;
 
-/// A call: it reads as many bytes of the array as the length says.
-pub type Call = unsafe extern "C" fn(*const u8, usize) -> u64;
-
 /// A loaded shared object. It stays loaded until the program ends.
-#[derive(Clone, Copy)]
 pub struct Object(NonNull<c_void>);
 
 impl Object {
     /// Loads a file.
     pub fn open(file: &Path) -> Result<Object, String> {
-        let name = CString::new(file.as_os_str().as_bytes())
-            .map_err(|_| format!("{} is no name of a file", file.display()))?;
+        let name = CString::new(file.as_os_str().as_bytes()).map_err(|fault| fault.to_string())?;
         // SAFETY: the name is a string of C. What runs when the file is loaded is its compiler's.
-        let object = unsafe { dlopen(name.as_ptr(), RTLD_NOW) };
-        NonNull::new(object)
-            .map(Object)
-            .ok_or_else(|| format!("{} cannot be loaded: {}", file.display(), fault()))
+        let object = NonNull::new(unsafe { dlopen(name.as_ptr(), RTLD_NOW) });
+        object.map(Object).ok_or_else(|| {
+            // SAFETY: after a failure, the system returns a string of C.
+            let fault = unsafe { CStr::from_ptr(dlerror()) };
+            format!("{} cannot be loaded: {}", file.display(), fault.to_string_lossy())
+        })
     }
 
-    /// The function of this name, if the file exports one.
-    pub fn call(self, name: &str) -> Option<Call> {
-        let address = self.address(name)?;
-        // SAFETY: whoever made the file promises that an export of this name has this type.
-        Some(unsafe { std::mem::transmute::<*mut c_void, Call>(address.as_ptr()) })
-    }
-
-    /// The address of this name, if the file exports it.
-    pub fn address(self, name: &str) -> Option<NonNull<c_void>> {
+    /// The function of this name, if the file exports it.
+    ///
+    /// # Safety
+    /// `F` must be the type of the function.
+    pub unsafe fn function<F>(&self, name: &str) -> Option<F> {
+        assert_eq!(size_of::<F>(), size_of::<*mut c_void>());
         let name = CString::new(name).ok()?;
         // SAFETY: the object was loaded, and the name is a string of C.
-        NonNull::new(unsafe { dlsym(self.0.as_ptr(), name.as_ptr()) })
+        let address = NonNull::new(unsafe { dlsym(self.0.as_ptr(), name.as_ptr()) })?;
+        // SAFETY: both are pointers, and the caller promises the type.
+        Some(unsafe { std::mem::transmute_copy(&address) })
     }
-}
-
-// What the system says about the last call that failed.
-fn fault() -> String {
-    // SAFETY: the system returns a string of C, or null.
-    let fault = unsafe { dlerror() };
-    if fault.is_null() {
-        return String::from("no reason is known");
-    }
-    // SAFETY: it is not null.
-    unsafe { CStr::from_ptr(fault) }.to_string_lossy().into_owned()
 }

@@ -3,21 +3,6 @@
 use crate::integer::Integer;
 use std::fmt;
 
-/// One of the ten functions. Their order is the order of their numbers in `tools/compare/exports/ask.rt.in`.
-#[derive(Clone, Copy, PartialEq, Eq)]
-pub enum Call {
-    Parse,
-    Pos,
-    Neg,
-    Prefix,
-    PrefixPos,
-    PrefixNeg,
-    Skipped,
-    Any,
-    AnyPos,
-    AnyNeg,
-}
-
 /// Where a call gets the sign of its number from.
 #[derive(Clone, Copy, PartialEq, Eq)]
 pub enum Sign {
@@ -29,62 +14,54 @@ pub enum Sign {
     Minus,
 }
 
-impl Call {
-    /// Every call, in the order of their numbers.
-    pub const ALL: [Call; 10] = [
-        Call::Parse,
-        Call::Pos,
-        Call::Neg,
-        Call::Prefix,
-        Call::PrefixPos,
-        Call::PrefixNeg,
-        Call::Skipped,
-        Call::Any,
-        Call::AnyPos,
-        Call::AnyNeg,
-    ];
+// Choices of flags, as SKIP_ZEROES and SKIP_PLUS. A flag that a call does not have is off, and the name of a deprecated
+// function fixes both.
+type Flags = &'static [(bool, bool)];
+const ALL: Flags = &[(false, false), (false, true), (true, false), (true, true)];
+const ZEROES: Flags = &[(false, false), (true, false)];
+const NONE: Flags = &[(false, false)];
 
-    fn name(self) -> &'static str {
-        match self {
-            Call::Parse => "parse",
-            Call::Pos => "parse_pos",
-            Call::Neg => "parse_neg",
-            Call::Prefix => "parse_prefix",
-            Call::PrefixPos => "parse_prefix_pos",
-            Call::PrefixNeg => "parse_prefix_neg",
-            Call::Skipped => "parse_skipped",
-            Call::Any => "parse_any",
-            Call::AnyPos => "parse_any_pos",
-            Call::AnyNeg => "parse_any_neg",
+macro_rules! calls {
+    ($($call:ident $name:literal $sign:ident $flags:expr,)*) => {
+        /// One of the ten functions. Their order is the order of their numbers in `tools/compare/exports/ask.rt.in`.
+        #[derive(Clone, Copy, PartialEq, Eq)]
+        pub enum Call {
+            $($call,)*
         }
+
+        const CALLS: [(Call, &str, Sign, Flags); 10] =
+            [$((Call::$call, $name, Sign::$sign, $flags),)*];
+    };
+}
+
+calls! {
+    Parse "parse" Taken ALL,
+    Pos "parse_pos" Plus ZEROES,
+    Neg "parse_neg" Minus ZEROES,
+    Prefix "parse_prefix" Taken ALL,
+    PrefixPos "parse_prefix_pos" Plus ZEROES,
+    PrefixNeg "parse_prefix_neg" Minus ZEROES,
+    Skipped "parse_skipped" Taken &[(true, true)],
+    Any "parse_any" Taken NONE,
+    AnyPos "parse_any_pos" Plus NONE,
+    AnyNeg "parse_any_neg" Minus NONE,
+}
+
+impl Call {
+    /// The call with this number.
+    pub fn numbered(number: u32) -> Call {
+        CALLS[number as usize].0
     }
 
     /// Returns where the call gets the sign of its number from.
     pub fn sign(self) -> Sign {
-        match self {
-            Call::Parse | Call::Prefix | Call::Skipped | Call::Any => Sign::Taken,
-            Call::Pos | Call::PrefixPos | Call::AnyPos => Sign::Plus,
-            Call::Neg | Call::PrefixNeg | Call::AnyNeg => Sign::Minus,
-        }
+        CALLS[self as usize].2
     }
 
     /// Says whether the call parses only a prefix of the text. Such a call also returns the length
     /// of that prefix.
     pub fn is_prefix(self) -> bool {
         !matches!(self, Call::Parse | Call::Pos | Call::Neg | Call::Skipped)
-    }
-
-    // Returns each choice of flags that the call has, as SKIP_ZEROES and SKIP_PLUS. A flag that the
-    // call does not have is off. The name of a deprecated function fixes both flags.
-    fn flags(self) -> &'static [(bool, bool)] {
-        match self {
-            Call::Parse | Call::Prefix => {
-                &[(false, false), (false, true), (true, false), (true, true)]
-            }
-            Call::Skipped => &[(true, true)],
-            Call::Any | Call::AnyPos | Call::AnyNeg => &[(false, false)],
-            _ => &[(false, false), (true, false)],
-        }
     }
 }
 
@@ -102,14 +79,11 @@ impl Question {
     pub fn all() -> Vec<Question> {
         let mut all = Vec::new();
         for integer in Integer::ALL {
-            let calls = Call::ALL.into_iter();
-            for call in calls.filter(|call| integer.is_signed() || call.sign() != Sign::Minus) {
-                all.extend(call.flags().iter().map(|&(skip_zeroes, skip_plus)| Question {
-                    call,
-                    integer,
-                    skip_zeroes,
-                    skip_plus,
-                }));
+            let is_there = |sign| integer.is_signed() || sign != Sign::Minus;
+            for (call, _, _, flags) in CALLS.into_iter().filter(|call| is_there(call.2)) {
+                let question =
+                    |&(skip_zeroes, skip_plus)| Question { call, integer, skip_zeroes, skip_plus };
+                all.extend(flags.iter().map(question));
             }
         }
         all
@@ -130,6 +104,6 @@ impl fmt::Display for Question {
     fn fmt(&self, f: &mut fmt::Formatter<'_>) -> fmt::Result {
         let zeroes = if self.skip_zeroes { "z" } else { "-" };
         let plus = if self.skip_plus { "p" } else { "-" };
-        write!(f, "{} {} {zeroes}{plus}", self.call.name(), self.integer.name())
+        write!(f, "{} {} {zeroes}{plus}", CALLS[self.call as usize].1, self.integer.name())
     }
 }

@@ -24,7 +24,7 @@ pub unsafe extern "C" fn torkettle_answer(
     answer: *mut RawAnswer,
 ) {
     let question = Question {
-        call: Call::ALL[call as usize],
+        call: Call::numbered(call),
         integer: Integer::ALL[integer as usize],
         skip_zeroes,
         skip_plus,
@@ -70,7 +70,7 @@ fn every<T: Parse + Bits>(question: &Question, text: &[u8]) -> Answer {
         (Call::Skipped, _, _) => whole(calls::parse_skipped::<T>(text), text),
         (Call::Any, _, _) => prefix(calls::parse_any::<T>(text), text),
         (Call::AnyPos, _, _) => prefix(calls::parse_any_pos::<T>(text), text),
-        (Call::Neg | Call::PrefixNeg | Call::AnyNeg, _, _) => Answer::Unlike(RawAnswer::UNLIKE),
+        (Call::Neg | Call::PrefixNeg | Call::AnyNeg, _, _) => Answer::Unlike(RawAnswer::unlike()),
     }
 }
 
@@ -115,5 +115,5 @@ fn prefix<T: Bits>(parsed: Result<(T, usize), AtoiSimdError<'_>>, text: &[u8]) -
             place(slice).map(|place| Answer::Invalid128 { number, index, place })
         }
     };
-    answer.unwrap_or(Answer::Unlike(RawAnswer::UNLIKE))
+    answer.unwrap_or(Answer::Unlike(RawAnswer::unlike()))
 }

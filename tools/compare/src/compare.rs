@@ -1,8 +1,8 @@
 //! The comparison of the answers of our builds with the rules, with `str::parse`, with the
 //! original, and with each other.
 
-use crate::answers::Answers;
-use crate::original;
+use crate::original::{self, Kind};
+use crate::sides::Answers;
 use std::collections::BTreeMap;
 use std::fmt;
 use std::time::{Duration, Instant};
@@ -23,7 +23,6 @@ pub struct Sides {
 }
 
 /// One of the two libraries in one of our builds.
-#[derive(Clone)]
 pub struct Ours {
     pub build: &'static str,
     pub form: Form,
@@ -36,78 +35,68 @@ impl fmt::Display for Ours {
     }
 }
 
-/// With what an answer of ours is compared.
-#[derive(Clone, Copy, PartialEq, Eq)]
-pub enum Other {
+// With what an answer of ours is compared. `FirstBuild` is the same library in the first of our builds that has it.
+#[derive(Clone, Copy)]
+enum Other {
     Rules,
     Standard,
     Original,
-    /// The same library in the first of our builds that has it.
     FirstBuild,
 }
 
-impl Other {
-    /// All of them.
-    pub const ALL: [Other; 4] = [Other::Rules, Other::Standard, Other::Original, Other::FirstBuild];
-
-    pub fn name(self) -> &'static str {
-        match self {
-            Other::Rules => "the rules",
-            Other::Standard => "str::parse",
-            Other::Original => "the original",
-            Other::FirstBuild => "the kit's build",
-        }
-    }
-}
-
-/// How many answers were compared, and how many differed in a way that docs/DIFFERENCES.md does not
-/// name.
-#[derive(Clone, Copy, Default)]
-pub struct Count {
-    pub compared: u64,
-    pub differences: u64,
-}
+// Their names, in their order.
+const OTHERS: [&str; 4] = ["the rules", "str::parse", "the original", "the kit's build"];
 
 /// The result of a comparison.
 pub struct Counts {
-    // For each of ours, in the order of `Other::ALL`.
-    counts: Vec<[Count; 4]>,
-    /// The differences from the Rust crate that docs/DIFFERENCES.md lists: the name of each, and
-    /// how often it was found.
-    pub named: BTreeMap<&'static str, u64>,
-    pub time: Duration,
+    // For each of ours and each other: how many answers were compared, and how many differed in a way that
+    // docs/DIFFERENCES.md does not name.
+    counts: Vec<[[u64; 2]; 4]>,
+    // The differences from the Rust crate that docs/DIFFERENCES.md lists: the name of each, and how often it was found.
+    named: BTreeMap<&'static str, u64>,
+    time: Duration,
 }
 
 impl Counts {
-    fn new(sides: &Sides) -> Counts {
-        let counts = vec![[Count::default(); 4]; sides.ours.len()];
-        Counts { counts, named: BTreeMap::new(), time: Duration::ZERO }
+    // Everything that was compared, or that differed.
+    fn total(&self, column: usize) -> u64 {
+        self.counts.iter().flatten().map(|count| count[column]).sum()
     }
 
-    /// What was counted for one of ours.
-    pub fn of(&self, ours: usize, other: Other) -> Count {
-        self.counts[ours][other as usize]
-    }
-
-    /// Everything that was counted.
-    pub fn total(&self) -> Count {
-        self.counts.iter().flatten().fold(Count::default(), |total, count| Count {
-            compared: total.compared + count.compared,
-            differences: total.differences + count.differences,
-        })
-    }
-
-    fn print_progress(&self, percent: u64) {
-        let Count { compared, differences } = self.total();
-        eprintln!("{percent:3} % {compared:>11} compared, {differences} differ");
+    /// How many answers differed.
+    pub fn differences(&self) -> u64 {
+        self.total(1)
     }
 
     // Counts a comparison. Says whether a difference has to be printed.
     fn count(&mut self, ours: usize, other: Other, differs: bool) -> bool {
-        let count = &mut self.counts[ours][other as usize];
-        count.compared += 1;
-        count.differences += u64::from(differs);
-        differs && self.total().differences <= PRINTED
+        let [compared, differences] = &mut self.counts[ours][other as usize];
+        *compared += 1;
+        *differences += u64::from(differs);
+        differs && self.differences() <= PRINTED
+    }
+
+    /// Prints how many answers of each side were compared.
+    pub fn print(&self, sides: &Sides) {
+        for (ours, counts) in sides.ours.iter().zip(&self.counts) {
+            println!("{ours}, compared with");
+            for (other, [compared, differences]) in OTHERS.iter().zip(counts) {
+                if *compared > 0 {
+                    println!("    {other}: {compared} answers, {differences} differ");
+                }
+            }
+        }
+        for (name, times) in &self.named {
+            println!("    {times} more differ as docs/DIFFERENCES.md says: {name}");
+        }
+        if sides.original.is_some() && !original::IS_PORTABLE {
+            println!(
+                "    the original is built with vector instructions, so it may answer otherwise"
+            );
+        }
+        let (compared, differences) = (self.total(0), self.differences());
+        let speed = compared as f64 / self.time.as_secs_f64() / 1e6;
+        println!("{compared} comparisons, {speed:.1} million per second; {differences} differ");
     }
 }
 
@@ -115,7 +104,8 @@ impl Counts {
 pub fn compare(sides: &Sides, seed: u64, texts: u64) -> Counts {
     let questions = Question::all();
     let mut random = Random::new(seed);
-    let mut counts = Counts::new(sides);
+    let counts = vec![[[0; 2]; 4]; sides.ours.len()];
+    let mut counts = Counts { counts, named: BTreeMap::new(), time: Duration::ZERO };
     let mut signed = Vec::new();
     let from = Instant::now();
     for number in 1..=texts {
@@ -124,7 +114,9 @@ pub fn compare(sides: &Sides, seed: u64, texts: u64) -> Counts {
         texts::push_text(&mut random, &mut signed);
         questions.iter().for_each(|question| ask(sides, question, &signed, &mut counts));
         if number % (texts / 20).max(1) == 0 {
-            counts.print_progress(100 * number / texts);
+            let (percent, [compared, differ]) =
+                (100 * number / texts, [0, 1].map(|it| counts.total(it)));
+            eprintln!("{percent:3} % {compared:>11} compared, {differ} differ");
         }
     }
     counts.time = from.elapsed();
@@ -139,9 +131,12 @@ fn ask(sides: &Sides, question: &Question, signed: &[u8], counts: &mut Counts) {
     let mut first = [None; 2];
     for (number, ours) in sides.ours.iter().enumerate() {
         let answer = ours.answers.of(ours.form, question, text);
-        let mut count = |other, differs, theirs| {
+        let mut count = |other, differs, theirs: Option<Answer>| {
             if counts.count(number, other, differs) {
-                Difference { ours, question, text, answer, other, theirs }.print();
+                let (other, text) = (OTHERS[other as usize], text.escape_ascii());
+                println!("{ours} differs from {other}: {question} on \"{text}\"");
+                println!("    here  {answer:?}");
+                theirs.iter().for_each(|theirs| println!("    there {theirs:?}"));
             }
         };
         count(Other::Rules, answer != expected, Some(expected));
@@ -154,32 +149,10 @@ fn ask(sides: &Sides, question: &Question, signed: &[u8], counts: &mut Counts) {
         }
         if let Some(original) = original {
             let kind = original::kind_of(question, text, &expected, &answer, &original);
-            let differs = matches!(kind, original::Kind::Unnamed);
-            count(Other::Original, differs, Some(original));
-            if let original::Kind::Named(name) = kind {
+            count(Other::Original, matches!(kind, Kind::Unnamed), Some(original));
+            if let Kind::Named(name) = kind {
                 *counts.named.entry(name).or_default() += 1;
             }
-        }
-    }
-}
-
-// An answer of ours that differs from another. `theirs` is `None` for `str::parse`.
-struct Difference<'a> {
-    ours: &'a Ours,
-    question: &'a Question,
-    text: &'a [u8],
-    answer: Answer,
-    other: Other,
-    theirs: Option<Answer>,
-}
-
-impl Difference<'_> {
-    fn print(&self) {
-        let (other, text) = (self.other.name(), self.text.escape_ascii());
-        println!("{} differs from {other}: {} on \"{text}\"", self.ours, self.question);
-        println!("    here  {:?}", self.answer);
-        if let Some(theirs) = self.theirs {
-            println!("    there {theirs:?}");
         }
     }
 }

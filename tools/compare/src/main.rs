@@ -2,53 +2,40 @@
 //! package, with the rules of docs/SPECIFICATION.md, with `str::parse`, with the Rust crate
 //! `atoi_simd`, and with each other.
 //!
-//! `arguments::USAGE` lists the arguments. The status is 1 if an answer differs in a way that
-//! docs/DIFFERENCES.md does not name, 2 if something that was asked for cannot be done, and 0
-//! otherwise.
+//! `USAGE` lists the arguments. The status is 1 if an answer differs in a way that docs/DIFFERENCES.md does not name, 2
+//! if something that was asked for cannot be done, and 0 otherwise.
 
-mod answers;
-mod arguments;
 mod compare;
 mod kit;
 mod original;
 mod sides;
 
-use arguments::{Arguments, USAGE};
-use compare::{Counts, Other, Sides};
 use std::process::ExitCode;
+use torkettle_common::arguments::{self, Given};
+
+// How the program is called: what `--help` prints.
+const USAGE: &str = "\
+cargo run --release -- [ARGUMENT..]
+  --texts N           on how many texts answers are compared (200000)
+  --seed N            which random texts are taken (1)
+  --cpu CPU           build our library for a processor (x86-64-v2)
+  --debug             build the package in debug, with checks for overflow
+  --original FOLDER   take the original from FOLDER or FOLDER/atoi_simd, and not from crates.io
+                      (the value of TORKETTLE_ORIGINAL)
+Without the kit, only the Cargo package is compared.";
 
 fn main() -> ExitCode {
-    torkettle_common::arguments::run(USAGE, |words| run(&Arguments::read(words)?))
+    arguments::run(USAGE, |words| run(&Given::read(USAGE, words)?))
 }
 
 // Compares the answers, prints how many differ, and returns whether none does.
-fn run(arguments: &Arguments) -> Result<bool, String> {
-    println!("seed {}, {} texts", arguments.seed, arguments.texts);
-    let sides = sides::open(arguments)?;
-    let counts = compare::compare(&sides, arguments.seed, arguments.texts);
-    print_counts(&sides, &counts);
-    Ok(counts.total().differences == 0)
-}
-
-fn print_counts(sides: &Sides, counts: &Counts) {
-    for (number, ours) in sides.ours.iter().enumerate() {
-        println!("{ours}, compared with");
-        for other in Other::ALL {
-            let count = counts.of(number, other);
-            if count.compared > 0 {
-                let (name, differences) = (other.name(), count.differences);
-                println!("    {name}: {} answers, {differences} differ", count.compared);
-            }
-        }
-    }
-    for (name, times) in &counts.named {
-        println!("    {times} more differ as docs/DIFFERENCES.md says: {name}");
-    }
-    if sides.original.is_some() && !original::IS_PORTABLE {
-        println!("    the original is built with vector instructions, so it may answer otherwise");
-    }
-    let total = counts.total();
-    let speed = total.compared as f64 / counts.time.as_secs_f64() / 1e6;
-    let (compared, differences) = (total.compared, total.differences);
-    println!("{compared} comparisons, {speed:.1} million per second; {differences} differ");
+fn run(given: &Given) -> Result<bool, String> {
+    let texts = given.value("--texts")?.unwrap_or(200_000);
+    let seed = given.value("--seed")?.unwrap_or(1);
+    let cpu = given.value("--cpu")?.unwrap_or(String::from("x86-64-v2"));
+    println!("seed {seed}, {texts} texts");
+    let sides = sides::open(&cpu, given.has("--debug"), given.value("--original")?)?;
+    let counts = compare::compare(&sides, seed, texts);
+    counts.print(&sides);
+    Ok(counts.differences() == 0)
 }

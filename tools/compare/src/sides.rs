@@ -1,86 +1,21 @@
 //! Builds and opens what is compared: the kit's build, the Cargo package and the original. One that
 //! is not there is left out, with one line that says why.
 
-use crate::answers::Answers;
-use crate::arguments::Arguments;
 use crate::compare::{Ours, Sides};
-use crate::kit::{self, Library};
+use crate::kit;
 use crate::original::IS_PORTABLE;
-use std::path::{Path, PathBuf};
-use std::process::Command;
+use std::path::PathBuf;
 use torkettle_common::Form;
-use torkettle_common::cache::Cache;
-use torkettle_common::cargo::{Dependency, Generated, Kind};
-use torkettle_common::command::{print_left_out, run};
+use torkettle_common::answer::{Answer, RawAnswer};
+use torkettle_common::cache::repository;
+use torkettle_common::cargo::{Generated, dependency};
+use torkettle_common::command::print_left_out;
+use torkettle_common::object::Object;
 use torkettle_common::original;
-use torkettle_common::package::{PACKAGE, Package};
-use torkettle_common::stamp::Stamp;
+use torkettle_common::question::Question;
 
 /// What the kit compiles.
 pub const KIT: &str = "the kit's build";
-
-/// Opens everything.
-pub fn open(arguments: &Arguments) -> Result<Sides, String> {
-    let cache = Cache::new()?;
-    let mut ours = of_kit(arguments, &cache)?;
-    ours.extend(of_package(arguments, &cache)?);
-    let original = original::find(&cache, arguments.original.as_deref())?;
-    let original = original.map(|dependency| of_original(&cache, dependency)).transpose()?;
-    Ok(Sides { ours, original })
-}
-
-// Both libraries, compiled by the kit, if it is there.
-fn of_kit(arguments: &Arguments, cache: &Cache) -> Result<Vec<Ours>, String> {
-    if let Err(fault) = kit::version() {
-        print_left_out(KIT, &fault);
-        return Ok(Vec::new());
-    }
-    let answers = Answers::open(&kit_object(cache, &arguments.cpu)?)?;
-    Ok(Form::BOTH.map(|form| Ours { build: KIT, form, answers }).to_vec())
-}
-
-// The shared object of the kit's build with the function that makes any call.
-fn kit_object(cache: &Cache, cpu: &str) -> Result<PathBuf, String> {
-    let files = vec![
-        ("lib.rt", include_str!("../exports/lib.rt.in").to_string()),
-        ("ask.rt", include_str!("../exports/ask.rt.in").to_string()),
-        ("answer.rt", include_str!("../exports/answer.rt.in").to_string()),
-    ];
-    let library = Library { name: "atoi_ask", uses: "atoi_core atoi_simd", files };
-    let name = format!("atoi_ask-{}", library.stamp(cache.repository(), cpu)?);
-    let folder = cache.built(&name, |_, filled| {
-        let workspace = cache.folder("checkout");
-        let archive = library.build(cache.repository(), &workspace, cpu)?;
-        link(&archive, &filled.join("answers.so"))
-    })?;
-    Ok(folder.join("answers.so"))
-}
-
-fn link(archive: &Path, object: &Path) -> Result<(), String> {
-    let mut linker = Command::new("cc");
-    linker.args(["-shared", "-Wl,-Bsymbolic", "-Wl,-u,torkettle_answer", "-o"]).arg(object);
-    run(linker.arg(archive).args(["-lpthread", "-ldl", "-lm"])).map(|_| ())
-}
-
-// Both libraries, compiled by cargo.
-fn of_package(arguments: &Arguments, cache: &Cache) -> Result<[Ours; 2], String> {
-    let dependency = Package::of_folder(cache.repository())?.dependency(PACKAGE);
-    let (build, kind) = match arguments.is_debug {
-        true => ("the package, debug", Kind::DebugSharedObject),
-        false => ("the package, release", Kind::SharedObject),
-    };
-    let flags = format!("-C target-cpu={}", arguments.cpu);
-    let open = |form| {
-        let (dependency, head) = match form {
-            Form::Words => (dependency.clone(), "use torkettle as calls;\n"),
-            Form::Lanes => (dependency.clone().with_feature("lanes"), LANES),
-        };
-        let object =
-            generated(cache, dependency, head, kind, &flags)?.shared_object(cache, "package")?;
-        Ok::<Ours, String>(Ours { build, form, answers: Answers::open(&object)? })
-    };
-    Ok([open(Form::Words)?, open(Form::Lanes)?])
-}
 
 // The module with the error, which it shares with words.
 const LANES: &str = "mod calls {
@@ -89,27 +24,73 @@ const LANES: &str = "mod calls {
 }
 ";
 
-fn of_original(cache: &Cache, dependency: Dependency) -> Result<Answers, String> {
-    let flags = if IS_PORTABLE { "-C target-cpu=x86-64" } else { "" };
-    let head = "use atoi_simd as calls;\n";
-    let generated = generated(cache, dependency, head, Kind::SharedObject, flags)?;
-    Answers::open(&generated.shared_object(cache, "original")?)
+// The order of the arguments is: whether it is a call of `lanes`, the numbers of the call and of
+// the type, both flags, the address and the length of the text, and the answer.
+type Export = unsafe extern "C" fn(bool, u32, u32, bool, bool, *const u8, usize, *mut RawAnswer);
+
+/// The export that makes any call of a library: `torkettle_answer` of `exports`.
+#[derive(Clone, Copy)]
+pub struct Answers(Export);
+
+impl Answers {
+    fn new(object: &Object) -> Result<Answers, String> {
+        // SAFETY: `exports` declares the function with this type.
+        let export = unsafe { object.function("torkettle_answer") };
+        export.map(Answers).ok_or(String::from("exports has no torkettle_answer"))
+    }
+
+    /// What a library answers to a question about a text.
+    pub fn of(self, form: Form, question: &Question, text: &[u8]) -> Answer {
+        let Question { call, integer, skip_zeroes, skip_plus } = *question;
+        let (start, length) = (text.as_ptr(), text.len());
+        let (is_lanes, call, integer) = (form == Form::Lanes, call as u32, integer as u32);
+        let mut answer = RawAnswer::unlike();
+        // SAFETY: the address and the length are of one slice, which the call only reads, and
+        // `RawAnswer` has the fields of the struct that the call writes.
+        unsafe {
+            self.0(is_lanes, call, integer, skip_zeroes, skip_plus, start, length, &mut answer);
+        }
+        answer.into()
+    }
 }
 
-// A crate that exports the function that makes any call of another crate.
-fn generated(
-    cache: &Cache,
-    dependency: Dependency,
+/// Opens everything. Our library is built for a processor, and the package in debug if `is_debug`.
+pub fn open(cpu: &str, is_debug: bool, original: Option<PathBuf>) -> Result<Sides, String> {
+    let mut ours = Vec::new();
+    match kit::version() {
+        Ok(_) => {
+            let answers = Answers::new(&kit::object(cpu)?)?;
+            ours.extend(Form::BOTH.map(|form| Ours { build: KIT, form, answers }));
+        }
+        Err(fault) => print_left_out(KIT, &fault),
+    }
+    let build = if is_debug { "the package, debug" } else { "the package, release" };
+    let heads = ["use torkettle as calls;\n", LANES];
+    for ((form, head), features) in Form::BOTH.into_iter().zip(heads).zip([&[][..], &["lanes"]]) {
+        let package = dependency("torkettle", "torkettle", repository(), features);
+        let answers = answers("package", package, head, format!("-C target-cpu={cpu}"), is_debug)?;
+        ours.push(Ours { build, form, answers });
+    }
+    let flags = if IS_PORTABLE { "-C target-cpu=x86-64" } else { "" };
+    let of_original =
+        |line| answers("original", line, "use atoi_simd as calls;\n", flags.to_string(), false);
+    Ok(Sides { ours, original: original::find(original)?.map(of_original).transpose()? })
+}
+
+// Builds and opens a crate that exports the function that makes any call of another crate.
+fn answers(
+    name: &str,
+    library: String,
     head: &str,
-    kind: Kind,
-    flags: &str,
-) -> Result<Generated, String> {
-    let folder = cache.repository().join("tools/common");
-    let contents = Stamp::new().with_folder(&folder)?;
-    let common = Dependency::of_folder("torkettle_common", "torkettle_common", &folder, contents);
+    flags: String,
+    is_debug: bool,
+) -> Result<Answers, String> {
+    let common = repository().join("tools/common");
+    let common = dependency("torkettle_common", "torkettle_common", &common, &[]);
     let files = vec![
         ("lib.rs", format!("#![allow(dead_code, unused_imports)]\n{head}mod ask;\n")),
         ("ask.rs", include_str!("../exports/ask.rs").to_string()),
     ];
-    Ok(Generated { kind, dependencies: vec![dependency, common], files, flags: flags.to_string() })
+    let dependencies = vec![library, common];
+    Answers::new(&Generated { dependencies, files, flags, is_debug }.open(name)?)
 }

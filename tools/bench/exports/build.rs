@@ -1,3 +1,0 @@
-fn main() {
-    println!("cargo::rustc-link-arg-cdylib=-Wl,-T,{}/src/tables.ld", env!("CARGO_MANIFEST_DIR"));
-}
