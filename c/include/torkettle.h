@@ -5,7 +5,7 @@
  * SPDX-License-Identifier: MIT
  *
  *     int64_t value;
- *     if (torkettle_parse_i64(text, length, 0, &value) == TORKETTLE_OK) ...
+ *     if (torkettle_parse_i64(text, length, TORKETTLE_SKIP_ZEROES, &value) == TORKETTLE_OK) ...
  *
  * A text consists of the `length` bytes at `text`. It needs no terminator, and no other byte is read. If `length` is 0,
  * the text is empty, and `text` may be NULL.
