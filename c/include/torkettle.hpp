@@ -254,8 +254,7 @@ public:
         pointer operator->() const noexcept { return &current; }
         [[gnu::always_inline]] iterator &operator++() noexcept
         {
-            if (!items->next(current))
-                items = nullptr;
+            has_item = items->next(current);
             return *this;
         }
         iterator operator++(int) noexcept
@@ -264,11 +263,12 @@ public:
             ++*this;
             return before;
         }
-        friend bool operator==(const iterator &a, const iterator &b) noexcept { return a.items == b.items; }
-        friend bool operator!=(const iterator &a, const iterator &b) noexcept { return a.items != b.items; }
+        friend bool operator==(const iterator &a, const iterator &b) noexcept { return a.has_item == b.has_item; }
+        friend bool operator!=(const iterator &a, const iterator &b) noexcept { return a.has_item != b.has_item; }
 
     private:
         range *items = nullptr;
+        bool has_item = false;
         item<T> current{};
     };
 
@@ -297,7 +297,9 @@ public:
         }
         if (found.length == 0)
             return false;
-        field = refused();
+        if (ends)
+            state.rest_length = 0;
+        field = error(state);
         return true;
     }
 
@@ -308,8 +310,8 @@ public:
     std::size_t read(T *values, std::size_t count) noexcept
     {
         const std::size_t numbers = functions::read(state, values, count);
-        if (state.status != TORKETTLE_OK)
-            refused();
+        if (ends && state.status != TORKETTLE_OK)
+            state.rest_length = 0;
         return numbers;
     }
 
@@ -318,7 +320,7 @@ public:
     {
         if (state.status == TORKETTLE_OK)
             return std::nullopt;
-        return error();
+        return error(state);
     }
 
     // Returns the same fields, but the next one has this index and this offset. To read a long text in pieces that end
@@ -347,18 +349,11 @@ private:
         state.rest_length = torkettle_rest_length(text.size(), separator);
     }
 
-    item<T> error() const noexcept
+    [[gnu::noinline, gnu::cold]] static item<T> error(fields stopped) noexcept
     {
-        const bool is_large = state.status == TORKETTLE_SIZE || state.status == TORKETTLE_OVERFLOW;
+        const bool is_large = stopped.status == TORKETTLE_SIZE || stopped.status == TORKETTLE_OVERFLOW;
         const auto code = is_large ? std::errc::result_out_of_range : std::errc::invalid_argument;
-        return {std::nullopt, code, std::string_view(state.text, state.length), state.index, state.offset};
-    }
-
-    [[gnu::noinline, gnu::cold]] item<T> refused() noexcept
-    {
-        if (ends)
-            state.rest_length = 0;
-        return error();
+        return {std::nullopt, code, std::string_view(stopped.text, stopped.length), stopped.index, stopped.offset};
     }
 
     // What is left to read.

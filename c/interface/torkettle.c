@@ -197,18 +197,6 @@ const char *torkettle_version(void) TORKETTLE_NOEXCEPT { return TORKETTLE_VERSIO
         return tk_explained(found.error, bytes);                                                                       \
     }                                                                                                                  \
                                                                                                                        \
-    void torkettle_column_##name##_init(torkettle_column_##name *column, const char *text, size_t length,              \
-                                        char separator) TORKETTLE_NOEXCEPT                                             \
-    {                                                                                                                  \
-        bool is_separator = tk_is_separator(TK_CAST(uint8_t, separator));                                              \
-        column->status = is_separator ? TORKETTLE_OK : TORKETTLE_INVALID;                                              \
-        column->index = column->offset = is_separator ? 0 : SIZE_MAX;                                                  \
-        column->next_index = column->next_offset = 0;                                                                  \
-        column->rest = text;                                                                                           \
-        column->rest_length = is_separator ? length : 0;                                                               \
-        column->separator = separator;                                                                                 \
-        column->is_lines = 0;                                                                                          \
-    }                                                                                                                  \
     TK_COLD void tk_refuse_field_##name(torkettle_fields_##name *fields, tk_field_error bad)                           \
     {                                                                                                                  \
         fields->status = tk_status_of(bad.cause);                                                                      \

@@ -299,15 +299,20 @@ static inline size_t torkettle_rest_length(size_t length, char separator) TORKET
     return tk_is_separator(TK_CAST(uint8_t, separator)) ? length : 0;
 }
 
-/* Reads the next field of a column or of fields. `called` does that, unless a number and then a separator are first. */
+/* Reads the next field of a column or of fields. `called` does that, unless a number and then a separator are first. It
+   gets a copy, so that compilers can keep the fields of a loop in registers. */
 #define TORKETTLE_NEXT_(kind, called, suffix)                                                                          \
     TK_INLINE torkettle_found##suffix torkettle_next_of_##kind##suffix(torkettle_##kind##suffix *fields)               \
         TORKETTLE_NOEXCEPT                                                                                             \
     {                                                                                                                  \
         tk_option_pair##suffix##_size quick = tk_quick_prefix##suffix(tk_text(fields->rest, fields->rest_length));     \
         size_t count = quick.value.second;                                                                             \
-        if (!quick.is_some || count == fields->rest_length || fields->rest[count] != fields->separator)                \
-            return torkettle_##called##suffix(fields);                                                                 \
+        if (!quick.is_some || count == fields->rest_length || fields->rest[count] != fields->separator) {              \
+            torkettle_##kind##suffix copy = *fields;                                                                   \
+            torkettle_found##suffix found = torkettle_##called##suffix(&copy);                                         \
+            *fields = copy;                                                                                            \
+            return found;                                                                                              \
+        }                                                                                                              \
         fields->status = TORKETTLE_OK;                                                                                 \
         fields->next_index += 1;                                                                                       \
         fields->next_offset += count + 1;                                                                              \
@@ -394,8 +399,6 @@ static inline size_t torkettle_rest_length(size_t length, char separator) TORKET
         TORKETTLE_SYMBOL_(parse_prefix_##name);                                                                        \
     TK_CALLED(torkettle_error, parse_error_##name, const char *text, size_t length, unsigned flags);                   \
     TK_CALLED(torkettle_error, parse_prefix_error_##name, const char *text, size_t length, unsigned flags);            \
-    TK_CALLED(void, column_##name##_init, torkettle_column_##name *column, const char *text, size_t length,            \
-              char separator);                                                                                         \
     TK_CALLED(size_t, column_##name##_read, torkettle_column_##name *column, type *values, size_t count);              \
     TK_CALLED(size_t, fields_##name##_read, torkettle_fields_##name *fields, type *values, size_t count);              \
                                                                                                                        \
@@ -419,6 +422,18 @@ static inline size_t torkettle_rest_length(size_t length, char separator) TORKET
     TORKETTLE_NEXT_(column, next, _##name)                                                                             \
     TORKETTLE_NEXT_(fields, next_field, _##name)                                                                       \
     TORKETTLE_PARSES_(_##name, type, _##name)                                                                          \
+    static inline void torkettle_column_##name##_init(torkettle_column_##name *column, const char *text,               \
+                                                      size_t length, char separator) TORKETTLE_NOEXCEPT                \
+    {                                                                                                                  \
+        bool is_separator = tk_is_separator(TK_CAST(uint8_t, separator));                                              \
+        column->status = is_separator ? TORKETTLE_OK : TORKETTLE_INVALID;                                              \
+        column->index = column->offset = is_separator ? 0 : SIZE_MAX;                                                  \
+        column->next_index = column->next_offset = 0;                                                                  \
+        column->rest = text;                                                                                           \
+        column->rest_length = is_separator ? length : 0;                                                               \
+        column->separator = separator;                                                                                 \
+        column->is_lines = 0;                                                                                          \
+    }                                                                                                                  \
     static inline bool torkettle_column_##name##_next(torkettle_column_##name *column, type *value) TORKETTLE_NOEXCEPT \
     {                                                                                                                  \
         torkettle_found_##name found = torkettle_next_of_column_##name(column);                                        \
