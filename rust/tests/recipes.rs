@@ -1,7 +1,7 @@
 //! The recipes of docs/RECIPES.md, and what they return for more texts than the page shows.
 
 use std::num::{IntErrorKind, NonZero, ParseFloatError, ParseIntError, Wrapping};
-use torkettle::formats::{canonical, digits_then, fixed_width};
+use torkettle::formats::{canonical, canonical_then, digits_then, fixed_width, strip_byte};
 use torkettle::{
     AtoiSimdError, IntError, Parse, from_ascii, from_ascii_prefix, parse, parse_pos, parse_prefix,
 };
@@ -142,6 +142,77 @@ fn amounts_with_two_digits_after_the_point() {
     let bad = ["", "-", "1", "1.", ".50", "1.5", "1.505", "--1.00", "-+1.00", "1.-5", " 1.00"];
     for text in bad.into_iter().chain(["92233720368547758.08", "99999999999999999999.00"]) {
         assert_eq!(cents(text.as_bytes()), None, "{text}");
+    }
+}
+
+#[test]
+fn addresses_and_timestamps() {
+    fn address(text: &[u8]) -> Option<[u8; 4]> {
+        let (first, rest) = canonical_then(text, b'.')?;
+        let (second, rest) = canonical_then(rest, b'.')?;
+        let (third, rest) = canonical_then(rest, b'.')?;
+        Some([first, second, third, canonical(rest)?])
+    }
+
+    // Does not check the calendar.
+    fn timestamp(text: &[u8]) -> Option<[u16; 6]> {
+        let (year, mut rest) = fixed_width(text, 4)?;
+        let mut parts = [year, 0, 0, 0, 0, 0];
+        for (part, before) in parts[1..].iter_mut().zip(b"--T::") {
+            (*part, rest) = fixed_width(strip_byte(rest, *before)?, 2)?;
+        }
+        (rest == b"Z").then_some(parts)
+    }
+
+    assert_eq!(address(b"192.168.0.1"), Some([192, 168, 0, 1]));
+    assert_eq!(timestamp(b"2026-11-26T07:30:05Z"), Some([2026, 11, 26, 7, 30, 5]));
+
+    for text in ["", "1.2.3", "1.2.3.4.", "1.2.3.04", "1.2.3.256", "1.2.3.+4", "1..3.4", " 1.2.3.4"]
+    {
+        assert_eq!(address(text.as_bytes()), None, "{text:?}");
+    }
+    assert_eq!(timestamp(b"0000-99-99T99:99:99Z"), Some([0, 99, 99, 99, 99, 99]));
+    for text in ["", "2026-11-26", "2026-11-26T07:30:05", "2026-11-26T07:30:05ZZ"] {
+        assert_eq!(timestamp(text.as_bytes()), None, "{text:?}");
+    }
+    for text in ["2026-11-26 07:30:05Z", "2026-11-26T07:30:5Z", "2026-11-26T07:30:+5Z"] {
+        assert_eq!(timestamp(text.as_bytes()), None, "{text:?}");
+    }
+}
+
+#[test]
+fn units_and_separators() {
+    fn bytes(text: &[u8]) -> Option<u64> {
+        let (number, length) = from_ascii_prefix::<u64>(text).ok()?;
+        let factor = match &text[length..] {
+            b"" => 1,
+            b"k" => 1000,
+            b"KiB" => 1024,
+            _ => return None,
+        };
+        number.checked_mul(factor)
+    }
+
+    // Accepts `1__0`, too.
+    fn without_separators(text: &[u8]) -> Result<u64, IntError> {
+        let digits: Vec<u8> = text.iter().copied().filter(|byte| *byte != b'_').collect();
+        from_ascii(&digits)
+    }
+
+    assert_eq!(bytes(b"64KiB"), Some(65536));
+    assert_eq!(without_separators(b"1_000_000"), Ok(1_000_000));
+
+    for (text, expected) in
+        [("10k", 10_000), ("0KiB", 0), ("+7", 7), ("18014398509481983KiB", u64::MAX - 1023)]
+    {
+        assert_eq!(bytes(text.as_bytes()), Some(expected), "{text}");
+    }
+    for text in ["", "k", "-1k", "1 k", "1K", "1kk", "1.5k", "18014398509481984KiB"] {
+        assert_eq!(bytes(text.as_bytes()), None, "{text:?}");
+    }
+    assert_eq!(without_separators(b"_1__0_"), Ok(10));
+    for text in ["", "_", "1 000", "1_x"] {
+        assert!(without_separators(text.as_bytes()).is_err(), "{text:?}");
     }
 }
 
