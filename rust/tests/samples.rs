@@ -2,8 +2,8 @@
 
 use std::error::Error;
 use std::io::{self, Read};
-use torkettle::column::{Column, ColumnError, FieldError, Fields, LineReader, is_separator};
-use torkettle::formats::{digits_then, number, number_then};
+use torkettle::column::{Column, ColumnError, FieldError, Fields, Line, LineReader, is_separator};
+use torkettle::formats::digits_then;
 use torkettle::{
     AtoiSimdError, Parse, from_ascii, from_ascii_prefix, parse, parse_neg, parse_pos, parse_prefix,
     parse_prefix_neg, parse_prefix_pos,
@@ -139,9 +139,9 @@ fn version(text: &[u8]) -> Option<(u32, u32, u32)> {
     Some((major, minor, patch))
 }
 
-fn width_and_height(row: &[u8]) -> Option<(u32, u32)> {
-    let (width, rest) = number_then(row, b',')?;
-    Some((width, number(rest)?))
+fn cells(line: Line<'_>) -> Result<Vec<u32>, String> {
+    let cells = Fields::<u32>::new(line.text, b',').starting_at(0, line.place);
+    cells.collect::<Result<_, _>>().map_err(|error| format!("line {}, {error}", line.line()))
 }
 
 fn total_of_third_column(table: impl Read) -> io::Result<(u64, Vec<(usize, usize)>)> {
@@ -181,8 +181,10 @@ fn totals() {
     assert_eq!(total_between(b"1;2", b'-'), None);
     assert_eq!(version(b"1.22.333"), Some((1, 22, 333)));
     assert_eq!(version(b"1.22.x"), None);
-    assert_eq!(width_and_height(b"640,+480"), Some((640, 480)));
-    assert_eq!(width_and_height(b"640,480,"), None);
+    let line = |text| Line { index: 2, place: 21, text };
+    assert_eq!(cells(line(b"640,+480")), Ok(vec![640, 480]));
+    let error = cells(line(b"640,4294967296")).unwrap_err();
+    assert_eq!(error, "line 3, field 1 at byte 25 is out of range");
     let mut table = b"tea;-3;250\r\nmilk;;90;x\r\nr\xf6sti\n;;9\xff\n".to_vec();
     table.resize(table.len() + (1 << 20) + 1, b'y');
     table.extend(b"\n;;2");
@@ -203,6 +205,10 @@ fn errors_of_columns() {
     assert_eq!(Column::<u8>::new(b"12a,3", b',').next(), Some(Err(error)));
     // A line that ends in `\r\n` has the byte `\r` after its number.
     assert_eq!(Column::<u8>::new(b"12\r\n3\r\n", b'\n').next(), Some(Err(error)));
+    // A line feed at the end is part of the last field.
+    let text = |error: FieldError<'static>| error.text;
+    let last = Fields::<u8>::new(b"1,2\n", b',').nth(1);
+    assert_eq!(last.map(|item| item.map_err(text)), Some(Err(&b"2\n"[..])));
     // The slice in `cause` extends to the end of the input.
     let cause = AtoiSimdError::Overflow(b"256,1");
     let error = ColumnError::Field { index: 0, place: 0, cause };
