@@ -6799,11 +6799,12 @@ TK_INLINE tk_option_u64 tk_number_before(tk_bytes s, size_t width, uint64_t end_
 /* atoi_column/src/guesses.rt:132 */
 TK_INLINE tk_option_i8 tk_signed_i8(bool minus, uint64_t magnitude)
 {
-    tk_u128 magnitude_2 = tk_u128_of(magnitude);
-    if (tk_u128_less(tk_u128_of(127), tk_u128_saturating_sub(magnitude_2, tk_u128_of(minus)))) {
+    /* A type that has all numbers of 64 bits needs no test. */
+    if (tk_u128_less(tk_u128_of(127), tk_u128_of(UINT64_C(18446744073709551615)))
+        && magnitude > tk_u128_low(tk_u128_of(127)) + tk_bit(minus)) {
         return tk_none_i8();
     }
-    return tk_some_i8(tk_from_parts_i8(minus, magnitude_2));
+    return tk_some_i8(tk_from_parts_i8(minus, tk_u128_of(magnitude)));
 }
 
 /* `number_of_digits`, if the `end_len` bytes after the number are those of `end_word`. */
@@ -7113,11 +7114,12 @@ TK_HINTED size_t tk_fields_read_i8(tk_fields *self, tk_room_i8 values)
 /* atoi_column/src/guesses.rt:132 */
 TK_INLINE tk_option_u8 tk_signed_u8(bool minus, uint64_t magnitude)
 {
-    tk_u128 magnitude_2 = tk_u128_of(magnitude);
-    if (tk_u128_less(tk_u128_of(255), tk_u128_saturating_sub(magnitude_2, tk_u128_of(minus)))) {
+    /* A type that has all numbers of 64 bits needs no test. */
+    if (tk_u128_less(tk_u128_of(255), tk_u128_of(UINT64_C(18446744073709551615)))
+        && magnitude > tk_u128_low(tk_u128_of(255)) + tk_bit(minus)) {
         return tk_none_u8();
     }
-    return tk_some_u8(tk_from_parts_u8(minus, magnitude_2));
+    return tk_some_u8(tk_from_parts_u8(minus, tk_u128_of(magnitude)));
 }
 
 /* atoi_column/src/guesses.rt:87 */
@@ -7365,11 +7367,12 @@ TK_HINTED size_t tk_fields_read_u8(tk_fields *self, tk_room_u8 values)
 /* atoi_column/src/guesses.rt:132 */
 TK_INLINE tk_option_i16 tk_signed_i16(bool minus, uint64_t magnitude)
 {
-    tk_u128 magnitude_2 = tk_u128_of(magnitude);
-    if (tk_u128_less(tk_u128_of(32767), tk_u128_saturating_sub(magnitude_2, tk_u128_of(minus)))) {
+    /* A type that has all numbers of 64 bits needs no test. */
+    if (tk_u128_less(tk_u128_of(32767), tk_u128_of(UINT64_C(18446744073709551615)))
+        && magnitude > tk_u128_low(tk_u128_of(32767)) + tk_bit(minus)) {
         return tk_none_i16();
     }
-    return tk_some_i16(tk_from_parts_i16(minus, magnitude_2));
+    return tk_some_i16(tk_from_parts_i16(minus, tk_u128_of(magnitude)));
 }
 
 /* atoi_column/src/guesses.rt:87 */
@@ -7621,11 +7624,12 @@ TK_HINTED size_t tk_fields_read_i16(tk_fields *self, tk_room_i16 values)
 /* atoi_column/src/guesses.rt:132 */
 TK_INLINE tk_option_u16 tk_signed_u16(bool minus, uint64_t magnitude)
 {
-    tk_u128 magnitude_2 = tk_u128_of(magnitude);
-    if (tk_u128_less(tk_u128_of(65535), tk_u128_saturating_sub(magnitude_2, tk_u128_of(minus)))) {
+    /* A type that has all numbers of 64 bits needs no test. */
+    if (tk_u128_less(tk_u128_of(65535), tk_u128_of(UINT64_C(18446744073709551615)))
+        && magnitude > tk_u128_low(tk_u128_of(65535)) + tk_bit(minus)) {
         return tk_none_u16();
     }
-    return tk_some_u16(tk_from_parts_u16(minus, magnitude_2));
+    return tk_some_u16(tk_from_parts_u16(minus, tk_u128_of(magnitude)));
 }
 
 /* atoi_column/src/guesses.rt:87 */
@@ -7874,11 +7878,12 @@ TK_HINTED size_t tk_fields_read_u16(tk_fields *self, tk_room_u16 values)
 /* atoi_column/src/guesses.rt:132 */
 TK_INLINE tk_option_i32 tk_signed_i32(bool minus, uint64_t magnitude)
 {
-    tk_u128 magnitude_2 = tk_u128_of(magnitude);
-    if (tk_u128_less(tk_u128_of(2147483647), tk_u128_saturating_sub(magnitude_2, tk_u128_of(minus)))) {
+    /* A type that has all numbers of 64 bits needs no test. */
+    if (tk_u128_less(tk_u128_of(2147483647), tk_u128_of(UINT64_C(18446744073709551615)))
+        && magnitude > tk_u128_low(tk_u128_of(2147483647)) + tk_bit(minus)) {
         return tk_none_i32();
     }
-    return tk_some_i32(tk_from_parts_i32(minus, magnitude_2));
+    return tk_some_i32(tk_from_parts_i32(minus, tk_u128_of(magnitude)));
 }
 
 /* atoi_column/src/guesses.rt:87 */
@@ -8130,11 +8135,12 @@ TK_HINTED size_t tk_fields_read_i32(tk_fields *self, tk_room_i32 values)
 /* atoi_column/src/guesses.rt:132 */
 TK_INLINE tk_option_u32 tk_signed_u32(bool minus, uint64_t magnitude)
 {
-    tk_u128 magnitude_2 = tk_u128_of(magnitude);
-    if (tk_u128_less(tk_u128_of(UINT64_C(4294967295)), tk_u128_saturating_sub(magnitude_2, tk_u128_of(minus)))) {
+    /* A type that has all numbers of 64 bits needs no test. */
+    if (tk_u128_less(tk_u128_of(UINT64_C(4294967295)), tk_u128_of(UINT64_C(18446744073709551615)))
+        && magnitude > tk_u128_low(tk_u128_of(UINT64_C(4294967295))) + tk_bit(minus)) {
         return tk_none_u32();
     }
-    return tk_some_u32(tk_from_parts_u32(minus, magnitude_2));
+    return tk_some_u32(tk_from_parts_u32(minus, tk_u128_of(magnitude)));
 }
 
 /* atoi_column/src/guesses.rt:87 */
@@ -8383,12 +8389,12 @@ TK_HINTED size_t tk_fields_read_u32(tk_fields *self, tk_room_u32 values)
 /* atoi_column/src/guesses.rt:132 */
 TK_INLINE tk_option_i64 tk_signed_i64(bool minus, uint64_t magnitude)
 {
-    tk_u128 magnitude_2 = tk_u128_of(magnitude);
-    if (tk_u128_less(tk_u128_of(UINT64_C(9223372036854775807)),
-                     tk_u128_saturating_sub(magnitude_2, tk_u128_of(minus)))) {
+    /* A type that has all numbers of 64 bits needs no test. */
+    if (tk_u128_less(tk_u128_of(UINT64_C(9223372036854775807)), tk_u128_of(UINT64_C(18446744073709551615)))
+        && magnitude > tk_u128_low(tk_u128_of(UINT64_C(9223372036854775807))) + tk_bit(minus)) {
         return tk_none_i64();
     }
-    return tk_some_i64(tk_from_parts_i64(minus, magnitude_2));
+    return tk_some_i64(tk_from_parts_i64(minus, tk_u128_of(magnitude)));
 }
 
 /* atoi_column/src/guesses.rt:87 */
@@ -8640,12 +8646,12 @@ TK_HINTED size_t tk_fields_read_i64(tk_fields *self, tk_room_i64 values)
 /* atoi_column/src/guesses.rt:132 */
 TK_INLINE tk_option_u64 tk_signed_u64(bool minus, uint64_t magnitude)
 {
-    tk_u128 magnitude_2 = tk_u128_of(magnitude);
-    if (tk_u128_less(tk_u128_of(UINT64_C(18446744073709551615)),
-                     tk_u128_saturating_sub(magnitude_2, tk_u128_of(minus)))) {
+    /* A type that has all numbers of 64 bits needs no test. */
+    if (tk_u128_less(tk_u128_of(UINT64_C(18446744073709551615)), tk_u128_of(UINT64_C(18446744073709551615)))
+        && magnitude > tk_u128_low(tk_u128_of(UINT64_C(18446744073709551615))) + tk_bit(minus)) {
         return tk_none_u64();
     }
-    return tk_some_u64(tk_from_parts_u64(minus, magnitude_2));
+    return tk_some_u64(tk_from_parts_u64(minus, tk_u128_of(magnitude)));
 }
 
 /* atoi_column/src/guesses.rt:87 */
@@ -8894,12 +8900,14 @@ TK_HINTED size_t tk_fields_read_u64(tk_fields *self, tk_room_u64 values)
 /* atoi_column/src/guesses.rt:132 */
 TK_INLINE tk_option_i128 tk_signed_i128(bool minus, uint64_t magnitude)
 {
-    tk_u128 magnitude_2 = tk_u128_of(magnitude);
+    /* A type that has all numbers of 64 bits needs no test. */
     if (tk_u128_less(tk_u128_make(UINT64_C(9223372036854775807), UINT64_C(18446744073709551615)),
-                     tk_u128_saturating_sub(magnitude_2, tk_u128_of(minus)))) {
+                     tk_u128_of(UINT64_C(18446744073709551615)))
+                         && magnitude > tk_u128_low(tk_u128_make(UINT64_C(9223372036854775807),
+                                                                 UINT64_C(18446744073709551615))) + tk_bit(minus)) {
         return tk_none_i128();
     }
-    return tk_some_i128(tk_from_parts_i128(minus, magnitude_2));
+    return tk_some_i128(tk_from_parts_i128(minus, tk_u128_of(magnitude)));
 }
 
 /* atoi_column/src/guesses.rt:87 */
@@ -9154,12 +9162,14 @@ TK_HINTED size_t tk_fields_read_i128(tk_fields *self, tk_room_i128 values)
 /* atoi_column/src/guesses.rt:132 */
 TK_INLINE tk_option_u128 tk_signed_u128(bool minus, uint64_t magnitude)
 {
-    tk_u128 magnitude_2 = tk_u128_of(magnitude);
+    /* A type that has all numbers of 64 bits needs no test. */
     if (tk_u128_less(tk_u128_make(UINT64_C(18446744073709551615), UINT64_C(18446744073709551615)),
-                     tk_u128_saturating_sub(magnitude_2, tk_u128_of(minus)))) {
+                     tk_u128_of(UINT64_C(18446744073709551615)))
+                         && magnitude > tk_u128_low(tk_u128_make(UINT64_C(18446744073709551615),
+                                                                 UINT64_C(18446744073709551615))) + tk_bit(minus)) {
         return tk_none_u128();
     }
-    return tk_some_u128(tk_from_parts_u128(minus, magnitude_2));
+    return tk_some_u128(tk_from_parts_u128(minus, tk_u128_of(magnitude)));
 }
 
 /* atoi_column/src/guesses.rt:87 */

@@ -134,11 +134,11 @@ fn signed<T: Parse>(minus: bool, magnitude: u64) -> Option<T>
     // ensures fits { IfSome result (λ value. magnitude ≤ bound_of T.int_type minus) }
     // ensures number { IfSome result (λ value. T.number value ≡ with_sign minus magnitude) }
 {
-    let magnitude = u128::from(magnitude);
-    if magnitude.saturating_sub(u128::from(minus)) > T::GREATEST {
+    // A type that has all numbers of 64 bits needs no test.
+    if T::GREATEST < u128::from(u64::MAX) && magnitude > T::GREATEST as u64 + u64::from(minus) {
         return None;
     }
-    Some(T::from_parts(minus, magnitude))
+    Some(T::from_parts(minus, u128::from(magnitude)))
 }
 
 // `number_of_digits` for any width.
