@@ -4965,7 +4965,7 @@ TK_INLINE tk_result_i8 tk_parse_i8(bool skip_zeroes, bool skip_plus, tk_bytes s)
 }
 
 /* Says whether a zero or a minus could be left out of `bytes`. */
-/* atoi_formats/src/canonical_numbers.rt:125 */
+/* atoi_formats/src/canonical_numbers.rt:126 */
 TK_HINTED bool tk_has_needless_byte(tk_bytes bytes)
 {
     return (bytes.len >= 2 && bytes.at[0] == '0') || (bytes.len >= 2 && bytes.at[0] == '-' && bytes.at[1] == '0');
@@ -4975,7 +4975,7 @@ TK_HINTED bool tk_has_needless_byte(tk_bytes bytes)
  * Parses all of `text` as a number that is written as `{}` prints it: without a plus, a needless
  * leading zero or a minus before zero.
  */
-/* atoi_formats/src/canonical_numbers.rt:32 */
+/* atoi_formats/src/canonical_numbers.rt:33 */
 TK_HINTED tk_option_i8 tk_canonical_i8(tk_bytes text)
 {
     tk_result_i8 found = tk_parse_i8(true, false, text);
@@ -4995,7 +4995,7 @@ TK_INLINE tk_result_u8 tk_parse_u8(bool skip_zeroes, bool skip_plus, tk_bytes s)
     return tk_atoi_simd_parse_u8(s, skip_zeroes, skip_plus);
 }
 
-/* atoi_formats/src/canonical_numbers.rt:32 */
+/* atoi_formats/src/canonical_numbers.rt:33 */
 TK_HINTED tk_option_u8 tk_canonical_u8(tk_bytes text)
 {
     tk_result_u8 found = tk_parse_u8(true, false, text);
@@ -5015,7 +5015,7 @@ TK_INLINE tk_result_i16 tk_parse_i16(bool skip_zeroes, bool skip_plus, tk_bytes 
     return tk_atoi_simd_parse_i16(s, skip_zeroes, skip_plus);
 }
 
-/* atoi_formats/src/canonical_numbers.rt:32 */
+/* atoi_formats/src/canonical_numbers.rt:33 */
 TK_HINTED tk_option_i16 tk_canonical_i16(tk_bytes text)
 {
     tk_result_i16 found = tk_parse_i16(true, false, text);
@@ -5035,7 +5035,7 @@ TK_INLINE tk_result_u16 tk_parse_u16(bool skip_zeroes, bool skip_plus, tk_bytes 
     return tk_atoi_simd_parse_u16(s, skip_zeroes, skip_plus);
 }
 
-/* atoi_formats/src/canonical_numbers.rt:32 */
+/* atoi_formats/src/canonical_numbers.rt:33 */
 TK_HINTED tk_option_u16 tk_canonical_u16(tk_bytes text)
 {
     tk_result_u16 found = tk_parse_u16(true, false, text);
@@ -5055,7 +5055,7 @@ TK_INLINE tk_result_i32 tk_parse_i32(bool skip_zeroes, bool skip_plus, tk_bytes 
     return tk_atoi_simd_parse_i32(s, skip_zeroes, skip_plus);
 }
 
-/* atoi_formats/src/canonical_numbers.rt:32 */
+/* atoi_formats/src/canonical_numbers.rt:33 */
 TK_HINTED tk_option_i32 tk_canonical_i32(tk_bytes text)
 {
     tk_result_i32 found = tk_parse_i32(true, false, text);
@@ -5075,7 +5075,7 @@ TK_INLINE tk_result_u32 tk_parse_u32(bool skip_zeroes, bool skip_plus, tk_bytes 
     return tk_atoi_simd_parse_u32(s, skip_zeroes, skip_plus);
 }
 
-/* atoi_formats/src/canonical_numbers.rt:32 */
+/* atoi_formats/src/canonical_numbers.rt:33 */
 TK_HINTED tk_option_u32 tk_canonical_u32(tk_bytes text)
 {
     tk_result_u32 found = tk_parse_u32(true, false, text);
@@ -5095,7 +5095,7 @@ TK_INLINE tk_result_i64 tk_parse_i64(bool skip_zeroes, bool skip_plus, tk_bytes 
     return tk_atoi_simd_parse_i64(s, skip_zeroes, skip_plus);
 }
 
-/* atoi_formats/src/canonical_numbers.rt:32 */
+/* atoi_formats/src/canonical_numbers.rt:33 */
 TK_HINTED tk_option_i64 tk_canonical_i64(tk_bytes text)
 {
     tk_result_i64 found = tk_parse_i64(true, false, text);
@@ -5115,7 +5115,7 @@ TK_INLINE tk_result_u64 tk_parse_u64(bool skip_zeroes, bool skip_plus, tk_bytes 
     return tk_atoi_simd_parse_u64(s, skip_zeroes, skip_plus);
 }
 
-/* atoi_formats/src/canonical_numbers.rt:32 */
+/* atoi_formats/src/canonical_numbers.rt:33 */
 TK_HINTED tk_option_u64 tk_canonical_u64(tk_bytes text)
 {
     tk_result_u64 found = tk_parse_u64(true, false, text);
@@ -5135,7 +5135,7 @@ TK_INLINE tk_result_i128 tk_parse_i128(bool skip_zeroes, bool skip_plus, tk_byte
     return tk_atoi_simd_parse_i128(s, skip_zeroes, skip_plus);
 }
 
-/* atoi_formats/src/canonical_numbers.rt:32 */
+/* atoi_formats/src/canonical_numbers.rt:33 */
 TK_HINTED tk_option_i128 tk_canonical_i128(tk_bytes text)
 {
     tk_result_i128 found = tk_parse_i128(true, false, text);
@@ -5155,7 +5155,7 @@ TK_INLINE tk_result_u128 tk_parse_u128(bool skip_zeroes, bool skip_plus, tk_byte
     return tk_atoi_simd_parse_u128(s, skip_zeroes, skip_plus);
 }
 
-/* atoi_formats/src/canonical_numbers.rt:32 */
+/* atoi_formats/src/canonical_numbers.rt:33 */
 TK_HINTED tk_option_u128 tk_canonical_u128(tk_bytes text)
 {
     tk_result_u128 found = tk_parse_u128(true, false, text);

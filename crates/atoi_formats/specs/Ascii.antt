@@ -1,4 +1,4 @@
--- Why a text is no number of a type, or begins with none, and at which byte that is decided.
+-- Why a text is no number of a type, or begins with no number, and at which byte that is decided.
 use Rattle.std.specs.Prelude.{◌≡◌, ◌↔◌, ◌+◌, ◌<◌, ℕ, Bool, true, false, List, [], ◌∷◌, ◌++◌, ◌==◌, if◌then◌else◌, length, codes, decimal, ℤ, Result, IsErrOf}
 use Rattle.std.specs.declared.num.IntErrorKind.{IntErrorKind}
 use Rattle.std.specs.declared.num.IntErrorKind.TheVariants.{Empty as empty_kind, InvalidDigit, PosOverflow, NegOverflow}

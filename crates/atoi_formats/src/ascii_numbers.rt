@@ -24,8 +24,9 @@ use atoi_simd::{AtoiSimdError, Parse, parse, parse_prefix};
 /// assert_eq!(from_ascii::<u8>(b"12x").unwrap_err().to_string(), "unexpected byte at byte 2");
 /// ```
 ///
-/// **Proved:** the result is the number that `text` spells, or an error if and only if there is none in
-/// range. The error is [as specified](crate::specification#numbers-and-errors-asciiantt-in-atoi_formats).
+/// **Proved:** the result is the number that `text` spells, or an error if and only if `text` spells no
+/// number in range. The error is
+/// [as specified](crate::specification#numbers-and-errors-asciiantt-in-atoi_formats).
 ///
 /// # Errors
 ///
@@ -68,7 +69,7 @@ pub fn from_ascii<T: Parse>(text: &[u8]) -> Result<T, IntError>
 /// ```
 ///
 /// **Proved:** the result is the number that the bytes up to its length spell, where no digit follows, or
-/// an error if and only if there is none in range. The error is
+/// an error if and only if `text` begins with no number in range. The error is
 /// [as specified](crate::specification#numbers-and-errors-asciiantt-in-atoi_formats).
 ///
 /// # Errors

@@ -25,8 +25,9 @@ use atoi_simd::{Parse, parse, parse_prefix};
 ///
 /// See the [guide](crate::guide#read-other-formats).
 ///
-/// **Proved:** the result is the number that `{}` prints so, or `None` if and only if there is none in
-/// range (see the [specification](crate::specification#formats-formatsantt-in-atoi_formats)).
+/// **Proved:** the result is the number that `{}` prints so, or `None` if and only if no number in
+/// range is printed so (see the
+/// [specification](crate::specification#formats-formatsantt-in-atoi_formats)).
 #[inline]
 #[tactic(auto, unfolding(crate::specs::Formats::IsCanonical))]
 pub fn canonical<T: Parse>(text: &[u8]) -> Option<T>
@@ -99,8 +100,8 @@ pub fn canonical_prefix<T: Parse>(text: &[u8]) -> Option<(T, &[u8])>
 ///
 /// See the [guide](crate::guide#read-other-formats).
 ///
-/// **Proved:** the result is the only number and rest that fit, or `None` if and only if none in range
-/// fit (see the [specification](crate::specification#formats-formatsantt-in-atoi_formats)).
+/// **Proved:** the result is the only number and rest that fit, or `None` if and only if no number in
+/// range fits (see the [specification](crate::specification#formats-formatsantt-in-atoi_formats)).
 ///
 /// # Panics
 ///

@@ -9,8 +9,8 @@ use atoi_simd::{Parse, parse_prefix_pos};
 /// Reads the digits that `text` begins with, but at most `most` of them. Returns their number, and what
 /// follows them, which begins with a digit only if `most` digits were read.
 ///
-/// Returns `None` if there are fewer than `least` digits or none, or if the number is out of the range of
-/// `T`.
+/// Returns `None` if there is no digit, if there are fewer than `least` digits, or if the number is out
+/// of the range of `T`.
 ///
 /// ```
 /// use torkettle::formats::digits_between;

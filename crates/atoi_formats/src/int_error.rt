@@ -40,8 +40,8 @@ pub(crate) enum Fault {
 }
 
 impl IntError {
-    /// Returns the kind of the error. For `from_ascii`, it is that of the error that `str::parse` returns for
-    /// the same text.
+    /// Returns the kind of the error. For `from_ascii`, the error that `str::parse` returns for the same text
+    /// has the same kind.
     ///
     /// ```
     /// use std::num::IntErrorKind;
@@ -108,7 +108,7 @@ impl fmt::Display for IntError {
             Fault::TooLarge | Fault::TooSmall => return f.write_str("number out of range"),
         };
         f.write_str(what)?;
-        // Not by `write!`, whose contract says nothing under other options than those of `{}`.
+        // Not by `write!`, whose contract covers only the options of `{}`.
         let mut digits = [0; 39];
         let length = decimal(self.offset as u128, &mut digits);
         f.write_str(from_utf8(&digits[..length]).unwrap())

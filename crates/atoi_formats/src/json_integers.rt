@@ -27,8 +27,8 @@ use atoi_simd::{Number, Parse, parse_prefix};
 ///
 /// See the [guide](crate::guide#read-other-formats).
 ///
-/// **Proved:** the result is the only number and rest that fit, or `None` if and only if none in range
-/// fit (see the [specification](crate::specification#formats-formatsantt-in-atoi_formats)).
+/// **Proved:** the result is the only number and rest that fit, or `None` if and only if no number in
+/// range fits (see the [specification](crate::specification#formats-formatsantt-in-atoi_formats)).
 #[inline]
 pub fn json_integer<T: Parse>(text: &[u8]) -> Option<(T, &[u8])>
     ensures some { IfSome result (λ found.

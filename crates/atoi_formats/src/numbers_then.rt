@@ -23,8 +23,8 @@ use atoi_simd::{Parse, parse_prefix, parse_prefix_pos};
 ///
 /// See the [guide](crate::guide#read-other-formats).
 ///
-/// **Proved:** the result is the only number and rest that fit, or `None` if and only if none in range
-/// fit (see the [specification](crate::specification#formats-formatsantt-in-atoi_formats)).
+/// **Proved:** the result is the only number and rest that fit, or `None` if and only if no number in
+/// range fits (see the [specification](crate::specification#formats-formatsantt-in-atoi_formats)).
 ///
 /// # Panics
 ///
@@ -58,8 +58,8 @@ pub fn number_then<T: Parse>(text: &[u8], byte: u8) -> Option<(T, &[u8])>
 ///
 /// See the [guide](crate::guide#read-other-formats).
 ///
-/// **Proved:** the result is the only number and rest that fit, or `None` if and only if none in range
-/// fit (see the [specification](crate::specification#formats-formatsantt-in-atoi_formats)).
+/// **Proved:** the result is the only number and rest that fit, or `None` if and only if no number in
+/// range fits (see the [specification](crate::specification#formats-formatsantt-in-atoi_formats)).
 ///
 /// # Panics
 ///

@@ -1,4 +1,4 @@
-//! Tests over all libraries, which have none of their own: a crate with tests is proved twice.
+//! Tests over all libraries, which have no tests of their own: a crate with tests is proved twice.
 #![tactic(auto)]
 
 #[cfg(test)]

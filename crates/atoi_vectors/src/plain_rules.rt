@@ -72,9 +72,9 @@ impl<'a> Body<'a> {
         &self.bytes[zeros.min(self.bytes.len())..]
     }
 
-    // Returns how many zeros the slice of `Overflow` leaves out: without SKIP_ZEROES none, and with it
-    // all leading zeros for 64 and 128 bits. For a narrow prefix, those in whole blocks of 16 bytes,
-    // and the others too if the next block is full of digits.
+    // Returns how many zeros the slice of `Overflow` leaves out: 0 without SKIP_ZEROES, and all
+    // leading zeros with it for 64 and 128 bits. For a narrow prefix, it leaves out whole blocks of 16
+    // zeros, and the other zeros too if the next block is full of digits.
     fn dropped(self, class: Class, skip: bool) -> usize {
         match class {
             _ if !skip => 0,

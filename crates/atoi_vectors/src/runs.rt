@@ -53,7 +53,7 @@ fn before_a_byte_that_carries(rt: HostRuntime) {
     }
 }
 
-// Half of the bytes, those with the highest bit `high`, in turn at each offset of 41 bytes `fill`.
+// Each byte whose highest bit is `high`, in turn at each offset of 41 bytes `fill`.
 fn check_places(rt: &impl Abort, fill: u8, high: u8) {
     for place in 0..41 {
         let mut text = [fill; 41];

@@ -1,5 +1,5 @@
--- A text has at most one fault, and none if it is a number, or for a prefix begins with one. The sign, the digits after
--- it and their value decide which.
+-- A text has at most one fault, and no fault if it is a number, or for a prefix begins with a number. The sign, the
+-- digits after it and their value decide which.
 use Rattle.std.proofs.Common.{◌≡◌, ℕ, ◌+◌, ◌<◌, ◌≤◌, Bool, true, false, cond, eqb, ltb, List, length, take, drop, Option, None, Some, Ok, Err, ℤ, refl, sym, ap, ◌∙◌, arith, take-append-drop, eq-eqb, eqb-true, ne_eqb, le-ltb, subst, add_comm, inl, inr}
 use Rattle.std.proofs.lemmas.Bool.{eqb-false, lt-ltb, cases_lt, cases_Bool}
 use Rattle.std.proofs.lemmas.Bool.Decides.{nat_tests}

@@ -21,8 +21,8 @@ use crate::proved::atoi_simd::{Parse, parse_pos};
 ///
 /// See the [guide](crate::guide#read-other-formats).
 ///
-/// **Proved:** the result is the only number and rest that fit, or `None` if and only if none in range
-/// fit (see the [specification](crate::specification#formats-formatsantt-in-atoi_formats)).
+/// **Proved:** the result is the only number and rest that fit, or `None` if and only if no number in
+/// range fits (see the [specification](crate::specification#formats-formatsantt-in-atoi_formats)).
 #[inline]
 pub fn fixed_width<T: Parse>(text: &[u8], width: usize) -> Option<(T, &[u8])>
     // ensures some { IfSome result (λ found.

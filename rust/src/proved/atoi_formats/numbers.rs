@@ -21,8 +21,9 @@ use crate::proved::atoi_simd::{Parse, parse};
 ///
 /// See the [guide](crate::guide#read-other-formats).
 ///
-/// **Proved:** the result is the number that `text` spells, or `None` if and only if there is none in
-/// range (see the [specification](crate::specification#formats-formatsantt-in-atoi_formats)).
+/// **Proved:** the result is the number that `text` spells, or `None` if and only if `text` spells no
+/// number in range (see the
+/// [specification](crate::specification#formats-formatsantt-in-atoi_formats)).
 #[inline]
 // #[tactic(auto, unfolding(crate::specs::Formats::IsNumber))]
 pub fn number<T: Parse>(text: &[u8]) -> Option<T>
