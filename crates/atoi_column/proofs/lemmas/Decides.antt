@@ -14,7 +14,7 @@ use Rattle.atoi_column.proofs.lemmas.Fields.{length-fields_of}
 abbrev starts_with_value : List (Result ℤ Flaw) → Type 0
 starts_with_value items = (v : ℤ) × (others : List (Result ℤ Flaw)) × (items ≡ Ok v ∷ others)
 
--- A list splits in one way into values and a rest that starts with none.
+-- A list splits in one way into values and a rest that does not start with a value.
 same_split : (numbers values : List ℤ) (left last : List (Result ℤ Flaw)) → ¬ starts_with_value left → ¬ starts_with_value last
     → map Ok numbers ++ left ≡ map Ok values ++ last → (numbers ≡ values) × (left ≡ last)
 same_split [] [] left last p q same = (refl, same)

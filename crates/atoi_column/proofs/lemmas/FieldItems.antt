@@ -23,7 +23,6 @@ module _ (cut : List ℕ → List ℕ) (answer : List ℕ → Result ℤ Refusal
   part_then index place part [] some = absurd (omega arith)
   part_then index place part (next ∷ parts) some = refl
 
-  -- There are as many items as fields.
   length-items_of_parts : (index place : ℕ) (parts : List (List ℕ))
       → length (items_of_parts cut answer index place parts) ≡ length (without_empty_last parts)
   length-items_of_parts index place [] = refl

@@ -14,7 +14,6 @@ use Rattle.atoi_column.specs.Laws.{place_after, IsPlaced, ErrorsArePlaced}
 use Rattle.atoi_column.proofs.lemmas.FieldItems.{first_item, left_before, field_items_left-empty, first_field_step}
 use Rattle.atoi_column.proofs.lemmas.Places.{place_after-cons}
 
--- A part begins with its text.
 part_begins : (is_lines : Bool) (part : List ℕ) → (following : List ℕ) × (part ≡ cut_of is_lines part ++ following)
 part_begins false part = ([], sym (append-nil part))
 part_begins true part =
@@ -45,7 +44,6 @@ module _ (int : IntType) (is_lines : Bool) (separator : ℕ) (input : List ℕ) 
   abbrev place_of : List ℕ → ℕ
   place_of rest = length input - length rest
 
-  -- The bytes begin with the text of their first field.
   text_begins : (rest : List ℕ) → (following : List ℕ) × (rest ≡ first_text (cut_of is_lines) separator rest ++ following)
   text_begins rest =
       let field = before_first ends rest in

@@ -32,7 +32,6 @@ last_digit [] some all = absurd (omega arith)
 last_digit (c ∷ []) some all = all.0
 last_digit (c ∷ d ∷ digits) some all = rw (last_byte-cons c (d ∷ digits) (omega arith)) (last_digit (d ∷ digits) (omega arith) all.1)
 
--- A text ends with a digit.
 last_of_text : (sign : SignMark) (digits : List ℕ) → 0 < length digits
     → AllDigits 10 digits → digit_value (last_byte (sign_bytes sign ++ digits)) < 10
 last_of_text no_sign digits some all = last_digit digits some all
@@ -57,7 +56,6 @@ separator_then {separator} {following} (byte ∷ bytes) end =
       | inr other ↦ let none : None ≡ Some following = rw other.0 at end in absurd (cc)
     ]
 
--- What `ok` gives a value of.
 pub ok_is : {T E : Type 0} (result : Result T E) {value : T} → result_ok result ≡ Some value → result ≡ Ok value
 ok_is (Ok found) same = cc
 ok_is (Err bad) same = absurd (cc)

@@ -79,7 +79,6 @@ ended_line separator (byte ∷ next ∷ bytes) apart fits some is =
 word_from_two : (s : List ℕ) → length s ≤ 2 → from_le_bytes w16 s ≡ word_of s
 word_from_two s few = omega (arith, word_from_eight s (omega arith), get_or_past {X = ℕ})
 
--- The first of two bytes.
 pub first_of_two : (s bytes : List ℕ) → ((i : ℕ) → get_or s i 0 < 256) → (count : ℕ) → count ≤ 2 → bytes ≡ take 2 s → (two : ℕ)
     → two ≡ from_le_bytes w16 bytes → word_of (take count s) ≡ bit_and two (1 * 2 ^ (8 * count) % 2 ^ 64 - 1)
 first_of_two s bytes fits count few loaded two is =

@@ -54,7 +54,6 @@ module _ (whole : List ℕ → Result ℤ Refusal) (prefix : List ℕ → Result
       (λ v. omega (arith, length-items_from (index + 1) (place + length text + 1) (drop (length text + 1) rest) texts))
       (λ reason h. omega arith)
 
--- If dropping `n` leaves `b` first, `b` is at index `n`.
 pub drop_first : (n : ℕ) (xs : List ℕ) (b : ℕ) (ys : List ℕ) → drop n xs ≡ b ∷ ys
     → (n < length xs) × (get_or xs n 0 ≡ b) × (drop (n + 1) xs ≡ ys)
 drop_first n xs b ys h =
@@ -75,7 +74,6 @@ module _ (int : IntType) (separator index place : ℕ) where
   items_left-empty [] h = items_left-nil
   items_left-empty (byte ∷ bytes) h = absurd (omega arith)
 
-  -- Where a byte is left, an item is.
   pub some-items_left : (rest : List ℕ) → 0 < length rest → 0 < length (items_left int separator index place rest)
   unfolding items_left
   some-items_left rest some =

@@ -9,7 +9,6 @@ use Rattle.atoi_column.specs.declared.field_error.FieldError.{FieldError}
 use Rattle.atoi_column.specs.FieldItems.{BadField, FieldsLeft, after_first_field, field_item_of, field_items_left}
 use Rattle.atoi_column.specs.Reads.{BeginsWithNoNumber, HasFilled}
 
--- A refused field is no number.
 pub no_number : {T : Type 0} (number : T → ℤ) (item : Result T FieldError) (items : List (Result ℤ BadField)) → result_ok item ≡ None
     → BeginsWithNoNumber (field_item_of number item ∷ items)
 no_number number (Ok value) items none = absurd (cc)

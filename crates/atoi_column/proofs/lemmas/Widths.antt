@@ -105,7 +105,6 @@ module _ (w count : ℕ) (some : 0 < w) (few : w + count ≤ 8) where
           let all : w * 8 + (64 - w * 8) ≡ 64 = omega arith in
           omega (arith, marks_of_8 word, rw all at (zero_field (w * 8) (64 - w * 8) _ same))
 
-      -- The bytes after them are those of `ends`.
       ended : word / 2 ^ (w * 8) % 2 ^ (count * 8) ≡ ends
       unfolding low_bytes
       ended =

@@ -30,7 +30,6 @@ pub limit_of_prefix : (int : IntType) (skip : Bool) (limit : ℕ) → HasLimitOf
     → limit_at (class_of int) prefix skip limit ≡ limit_at (class_of int) whole skip limit
 limit_of_prefix int skip limit h = grind (arith, nat_tests)
 
--- A bound has at most `limit` digits if the largest of either sign has.
 magnitude_below : (limit bits : ℕ) (signed minus : Bool) → greatest_of bits true + 1 < 10 ^ limit → greatest_of bits false + 1 < 10 ^ limit
     → cond minus (greatest_of bits signed + 1) (greatest_of bits signed) < 10 ^ limit
 magnitude_below limit bits signed minus p q = grind (arith, nat_tests)

@@ -24,7 +24,6 @@ length-taken int form s = grind (arith, nat_tests)
 pub digit_in_range : (byte : ℕ) → is_digit decimal_table byte ≡ true → (48 ≤ byte) × (byte ≤ 57)
 digit_in_range byte h = grind (arith, nat_tests)
 
--- No sign is consumed before a digit.
 pub sign_of_digits : (signed plus : Bool) (s : List ℕ) → 0 < run_len decimal_table s
     → sign_of signed plus s ≡ record { minus = false; taken = 0; body = s }
 sign_of_digits signed plus s h = grind (arith, nat_tests, cases_Bool, digit_in_range)
@@ -49,7 +48,6 @@ pub prefix_call-is : (int : IntType) (form : SignForm) (skip : Bool) (s : List �
     ≡ with_more (sign_in int form s).taken (prefix_answer decimal_table int (sign_in int form s).minus skip (sign_in int form s).body)
 prefix_call-is int form skip s = grind (arith, with_more-zero)
 
--- The magnitude with its sign, and the number of bytes read.
 abbrev pub counted_number : Bool → ℕ × ℕ → ℤ × ℕ
 counted_number minus found = (with_sign minus found.0, found.1)
 
@@ -75,7 +73,6 @@ module _ (int : IntType) (minus skip : Bool) (body : List ℕ) where
   abbrev pub AcceptedAs : Extent → Type 0
   AcceptedAs extent = IsAccepted decimal_table (class_of int) (bound_of int minus) (limit_of int) extent skip body
 
-  -- The value of the run, with the sign.
   abbrev pub signed_value : ℤ
   signed_value = with_sign minus (value decimal_table (run decimal_table body))
 
@@ -110,7 +107,6 @@ ok_prefix int form skip s v count h = search (arith, prefix_call-is, map_unless_
 -- ---- Answers to a body, with a bound and a limit
 
 module _ (table : Table) (class : Class) (bound limit : ℕ) (skip : Bool) (s : List ℕ) where
-  -- `Ok` of a prefix: in range, and within the slice.
   pub prefix_in_bounds : (number len : ℕ) → Ok (number, len) ≡ prefix_magnitude table class bound limit skip s
       → (number ≤ bound) × (len ≤ length s)
   prefix_in_bounds number len found = search (arith, map_unless_ok, accepted, prefix_len-le-length)

@@ -20,7 +20,6 @@ sum_below-suc : (n : ℕ) (f : ℕ → ℕ) → sum_below (suc n) f ≡ f 0 + su
 sum_below-suc zero f = omega arith
 sum_below-suc (suc n) f = omega (arith, sum_below-suc n f)
 
--- The value of digits is this sum.
 pub value_is_closed : (table : Table) (s : List ℕ) → value table s ≡ closed_value table s
 value_is_closed table [] = refl
 value_is_closed table (digit ∷ digits) =

@@ -42,7 +42,6 @@ pub IsAscii-literal : (bytes : List ℕ) → list_all is_ascii bytes ≡ true �
 IsAscii-literal [] passes = IsAscii-nil
 IsAscii-literal (byte ∷ bytes) passes = grind (arith, nat_tests, IsAscii-cons, IsAscii-literal bytes)
 
--- A hexadecimal digit is ASCII.
 IsAscii-glyph : (digit : ℕ) (bytes : List ℕ) → digit < 16 → IsAscii bytes → IsAscii (digit_glyph true digit ∷ bytes)
 IsAscii-glyph digit bytes small rest = IsAscii-cons (digit_glyph true digit) bytes (grind (arith, nat_tests)) rest
 

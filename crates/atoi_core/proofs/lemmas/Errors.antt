@@ -24,7 +24,6 @@ refusal_cmp-total =
     then_total (on_total rank nat_cmp_total)
     (then_total (on_total numbers nat_list_cmp_total) (on_total input_of nat_list_cmp_total))
 
--- Equal in order: the same rank, numbers and slice.
 same-refusal_cmp : (a b : Refusal) → refusal_cmp a b ≡ Equal → a ≡ b
 same-refusal_cmp a b equal =
     let e = then_both (slice_cmp nat_cmp (numbers a) (numbers b)) _ (then_both (nat_cmp (rank a) (rank b)) _ equal).1 in

@@ -11,7 +11,6 @@ use Rattle.std.proofs.lemmas.Nat.Bits.{bit_at-trailing_ones}
 use Rattle.std.proofs.lemmas.Simd.{bit_mask_l, map-map, mask_l-lt, mask_l-mod}
 use lib.Lanes.{Each1, mask_l, top}
 
--- Tests that agree on each byte agree on lists of bytes.
 map-agree : (p q : ℕ → Bool) → agree_below p q 256 ≡ true → (xs : List ℕ) → Each1 (Fits w8) xs → map p xs ≡ map q xs
 map-agree p q all [] fits = refl
 map-agree p q all (x ∷ xs) fits = ap₂ (λ b bs. b ∷ bs) (agree_below_at p q 256 x all fits.0.fits) (map-agree p q all xs fits.1)
@@ -25,7 +24,6 @@ module _ (q : ℕ → Bool) (v : List ℕ) (few : length v ≤ 63) where
       ap (λ l. mask_l l % 2 ^ 64) (ap (map (top 7)) lanes ∙ map-map (top 7) f v)
       ∙ mask_l-mod (map set v) 64 (omega (arith, length-map v set)) ∙ ap mask_l (map-agree set q all v fits)
 
-  -- How many lanes pass at the start, counted in a mask of the lanes that pass.
   pub ones-of_mask : (mask : ℕ) → mask ≡ mask_l (map q v) → trailing_ones w64 mask ≡ prefix_len q v
   ones-of_mask mask is =
       let power : 2 ^ length v ≤ 2 ^ 63 = pow-le-pow_right {n = 2} (omega arith) few in

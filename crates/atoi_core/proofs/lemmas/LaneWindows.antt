@@ -32,7 +32,6 @@ module _ (n : ℕ) (s : List ℕ) where
 pub window_of_lanes : (s : List ℕ) → lane_window 16 (padded_start 16 s) ≡ window_of decimal_table 16 s
 window_of_lanes s = lanes_show 16 s 16
 
--- At most eight bytes.
 pub window_of_half : (n : ℕ) (s : List ℕ) → n ≡ min (length s) 8 → lane_window 8 (padded_start 16 (take n s)) ≡ window_of decimal_table 8 s
 window_of_half n s is =
     ap (λ l. lane_window 8 (padded_start 16 l)) (ap (λ k. take k s) (is ∙ min_comm (length s) 8) ∙ take_min 8 s)

@@ -19,7 +19,6 @@ use Rattle.atoi_core.proofs.lemmas.WordFields.{byte_more}
 
 -- ---- Loading a word from a slice
 
--- At most eight bytes, or four, little-endian, are their word.
 pub word_from_eight : (s : List ℕ) → length s ≤ 8 → from_le_bytes w64 s ≡ word_of s
 unfolding word_of
 word_from_eight [] few = omega arith
@@ -36,7 +35,6 @@ word_from_eight (a ∷ b ∷ c ∷ d ∷ e ∷ f ∷ g ∷ h ∷ i ∷ rest) few
 pub word_from_four : (s : List ℕ) → length s ≤ 4 → from_le_bytes w32 s ≡ word_of s
 word_from_four s few = omega (arith, word_from_eight s (omega arith), get_or_past {X = ℕ})
 
--- The first eight bytes, in an array.
 pub word_of_first : (s bytes : List ℕ) → bytes ≡ take 8 s → from_le_bytes w64 bytes ≡ word_of (take 8 s)
 word_of_first s bytes e = rw e (word_from_eight (take 8 s) (omega (arith, length-take 8 s)))
 
@@ -48,7 +46,6 @@ bytes_above (suc k) [] fits = zero-div (2 ^ (suc k * 8))
 bytes_above (suc k) (b ∷ bs) fits =
     rw (byte_more, ← div-div-eq-div-mul) (grind (arith, bytes_above k bs (λ i. fits (suc i)), fits 0))
 
--- The lowest n bytes of a word: its first n.
 pub word_start : (n : ℕ) (s : List ℕ) → ((i : ℕ) → get_or s i 0 < 256) → word_of s % 2 ^ (n * 8) ≡ word_of (take n s)
 unfolding word_of
 word_start zero s fits = omega arith
@@ -73,7 +70,6 @@ word_of_rest n s at enough inside few fits =
 pub bytes : (s : List ℕ) → ((i : ℕ) → get_or s i 0 < 256) → Each1 (λ x. x < 256) s
 bytes s fits = Each1-from_get_or (λ x. x < 256) s 0 (λ i _. fits i)
 
--- The word of two lists in a row.
 pub word_appended : (xs ys : List ℕ) → word_of (xs ++ ys) ≡ word_of ys * 2 ^ (length xs * 8) + word_of xs
 unfolding word_of
 word_appended [] ys = omega arith
@@ -81,7 +77,7 @@ word_appended (x ∷ xs) ys =
     let rest = word_appended xs ys in
     rw byte_more (omega arith)
 
--- Four to seven bytes: the first four, and above them those of the last four that follow.
+-- Four to seven bytes: the first four, and above them what follows of the last four.
 pub halves_joined : (s : List ℕ) (low high : ℕ) → 4 ≤ length s → length s < 8 → ((i : ℕ) → get_or s i 0 < 256)
     → low ≡ word_of (take 4 s) → high ≡ word_of (drop (length s - 4) s) → low < 2 ^ 32 → high < 2 ^ 32
     → bit_or (high / 2 ^ (64 - 8 * length s) * 2 ^ 32 % 2 ^ 64) low ≡ word_of s
@@ -97,7 +93,6 @@ halves_joined s low high enough few fits low_is high_is small small_high =
     let parts = ap word_of (sym (take-append-drop 4 s)) ∙ word_appended (take 4 s) (drop 4 s) in
     rw (rest, high_part, or_shifted (word_of (drop 4 s)) 32 low small) (omega (arith, low_is, rw length_is at parts))
 
--- Two words of eight bytes join to one of sixteen.
 pub words_joined : (s : List ℕ) (first next : ℕ) → 8 ≤ length s → first ≡ word_of (take 8 s) → next ≡ word_of (take 8 (drop 8 s))
     → first < 2 ^ 64 → next < 2 ^ 64 → bit_or (next * 2 ^ 64 % 2 ^ 128) first ≡ word_of (take 16 s)
 words_joined s first next enough first_is next_is small small_next =
@@ -107,7 +102,6 @@ words_joined s first next enough first_is next_is small small_next =
 
 -- ---- Digits and zeros of a loaded word
 
--- The lowest n bytes of the word of `xs`, padded with zeros.
 pub digits-of_bytes : (n m : ℕ) (xs : List ℕ) → Each1 (λ x. x < 256) xs → n ≤ length xs + m
     → digits_l 256 n (number_l 256 xs) ≡ take n (xs ++ replicate m 0)
 digits-of_bytes zero m xs h room = refl
@@ -115,7 +109,6 @@ digits-of_bytes (suc n) zero [] h room = absurd (omega arith)
 digits-of_bytes (suc n) (suc m) [] h room = ap (λ ds. 0 ∷ ds) (digits-of_bytes n m [] tt (omega arith))
 digits-of_bytes (suc n) m (x ∷ xs) h room = search (arith, digits-of_bytes n m xs h.1, h.0)
 
--- If 0 fails a test, zeros after a list do not change how far its first n elements pass.
 pub prefix_len-padded : (p : ℕ → Bool) → p 0 ≡ false → (n m : ℕ) (s : List ℕ)
     → prefix_len p (take n (s ++ replicate m 0)) ≡ prefix_len p (take n s)
 prefix_len-padded p none zero m s = refl
@@ -144,7 +137,6 @@ module _ (width : ℕ) (s : List ℕ) (fits : (i : ℕ) → get_or s i 0 < 256) 
   pub loaded_zeros : zeros decimal_table (low_bytes width word) ≡ zeros decimal_table (take width s)
   loaded_zeros = loaded_start (is_zero decimal_table) refl
 
-  -- The first bytes of the word are the slice.
   loaded_first : (n : ℕ) → n ≤ width → n ≤ length s → low_bytes n word ≡ take n s
   unfolding low_bytes word_of
   loaded_first n few enough =
@@ -163,7 +155,6 @@ module _ (width : ℕ) (s : List ℕ) (fits : (i : ℕ) → get_or s i 0 < 256) 
 pub fits_after : (n : ℕ) (s : List ℕ) → ((i : ℕ) → get_or s i 0 < 256) → (i : ℕ) → get_or (drop n s) i 0 < 256
 fits_after n s fits i = rw get_or-drop (fits (n + i))
 
--- The weighted sum of no bytes is 0.
 pub sum_of_none : (word len : ℕ) → len ≡ 0 → 0 ≡ low_value (low_bytes len word)
 unfolding low_bytes
 sum_of_none word len e = ap (λ l. low_value (low_bytes l word)) (sym e)

@@ -25,7 +25,6 @@ none_left : {table : Table} {skip : Bool} {s : List ℕ} {at before now : ℕ} {
     → skip ≡ true → zeros table (take 16 (drop at s)) ≡ 0
 none_left {table} {s = s} {at} after_skip full on = search (arith, prefix_len-take)
 
--- Without a digit, the answer is `Empty`.
 pub answers_empty : {table : Table} (class : Class) (bound limit : ℕ) {skip : Bool} {s : List ℕ} {at before now : ℕ} {w : Window} →
     Skipped table skip s at before now w → at + w.len ≡ 0 → Err empty ≡ prefix_magnitude table class bound limit skip s
 answers_empty {table} class bound limit {skip} {s} after_skip none = search (arith, refused_empty)
@@ -82,7 +81,6 @@ answers_128 {table} ten bound {skip} {s} {at} {middle = middle} after_skip full 
 
 -- ---- From prefix to whole slice
 
--- The answer to a whole slice, by the answer to its prefix.
 abbrev whole_from_prefix : (ℕ → ℕ → List ℕ → Refusal) → List ℕ → Result (ℕ × ℕ) Refusal → Result ℕ Refusal
 whole_from_prefix invalid s (Err reason) = Err reason
 whole_from_prefix invalid s (Ok found) = if found.1 == length s then Ok found.0 else Err (invalid found.0 found.1 s)
@@ -111,7 +109,6 @@ pub dropped_is : {table : Table} (skip : Bool) (limit : ℕ) {s : List ℕ} {at 
 dropped_is skip limit after_skip =
     grind (arith, nat_tests, after_skip.offset_is, after_skip.full, after_skip.skipped.asked)
 
--- A full window without a leading zero is at least 10^15.
 least : {table : Table} {s : List ℕ} {w : Window} → Shows table 16 s w → 16 ≤ w.len → w.zeroes ≡ 0 → 10 ^ 15 ≤ w.number
 least {table} {s} {w} seen full none =
     let len : w.len ≡ 16 = omega (arith, seen.len_is) in
@@ -132,7 +129,6 @@ ends true {w = w} after_skip few small = search (arith, least)
 -- Zeros are skipped, or the run has at most 16 digits.
 module _ {table : Table} {skip : Bool} {s : List ℕ} {at before now : ℕ} {w : Window}
     (after_skip : Skipped table skip s at before now w) (few : skip ≡ false → run_len table s ≤ 16) where
-  -- The number of the last window is at most the value of the run.
   number_most : w.number ≤ value table (run table s)
   number_most =
       let seen = after_skip.window in
@@ -143,7 +139,6 @@ module _ {table : Table} {skip : Bool} {s : List ℕ} {at before now : ℕ} {w :
         value-take-le table (drop at s) w.len (run_len table (drop at s)) (omega (arith, seen.len_is)),
       )
 
-  -- If its number fits in 32 bits, the last window ends the run and has its value.
   rest_is : w.number ≤ 4294967295 → (run_len table s ≡ at + w.len) × (value table (run table s) ≡ w.number)
   rest_is small =
       let rest : run_len table (drop at s) ≡ w.len = ends skip after_skip few small in
@@ -162,7 +157,6 @@ module _ {table : Table} {skip : Bool} {s : List ℕ} {at before now : ℕ} {w :
         | inr fits ↦ rw (le-ltb bound w.number fits) (search (arith, rest_is, short, refusal-none))
       ]
 
--- More than 16 digits without skipping are the error `Size` of 17.
 pub narrow_size : (table : Table) (bound limit : ℕ) (skip : Bool) (s : List ℕ) → true ≡ (not skip && nat_lt 16 (run_len table s)) →
     Err (size 17 s) ≡ prefix_magnitude table narrow bound limit skip s
 narrow_size table bound limit skip s long =
@@ -188,7 +182,6 @@ module _ (table : Table) (bound limit : ℕ) (skip : Bool) (s : List ℕ) where
   pub narrow_whole_none : run_len table s ≡ 0 → Err empty ≡ whole_magnitude table narrow bound limit skip s
   narrow_whole_none none = narrow_whole_is 0 0 none refl
 
-  -- Another byte follows i digits.
   pub narrow_whole_rest : (i number : ℕ) → 0 < i → i < length s → table (get_or s i 0) ≡ None
       → i + run_len table (drop i s) ≡ run_len table s → number ≡ value table (take i s) → number ≤ bound
       → Err (invalid64 number i s) ≡ whole_magnitude table narrow bound limit skip s
@@ -207,7 +200,6 @@ module _ (table : Table) (bound limit : ℕ) (skip : Bool) (s : List ℕ) where
       let all = narrow_whole_is (run_len table s) (value table (take (run_len table s) s)) refl refl in
       grind (arith, nat_tests, all)
 
-  -- All bytes are digits.
   pub narrow_whole_end : (i number : ℕ) → 0 < length s → i ≤ length s → length s ≤ i
       → i + run_len table (drop i s) ≡ run_len table s → number ≡ value table (take i s) → number ≤ bound
       → Ok number ≡ whole_magnitude table narrow bound limit skip s
@@ -216,7 +208,6 @@ module _ (table : Table) (bound limit : ℕ) (skip : Bool) (s : List ℕ) where
       let is = narrow_whole_is i number (omega arith) (sym is_number) in
       grind (arith, nat_tests, is)
 
--- The last window decides the answer to a narrow whole slice.
 pub narrow_decides : {table : Table} {s : List ℕ} {at before now : ℕ} {w : Window} {len : ℕ} → Skipped table true s at before now w →
     len ≡ at + w.len → (bound : ℕ) → bound ≤ 4294967295 →
     decision narrow bound len w.number s ≡ whole_magnitude table narrow bound 0 false s
@@ -249,7 +240,6 @@ module _ (table : Table) (ten : IsBelowTen table) (int : IntType) (s : List ℕ)
   all : take 16 s ≡ s
   all = take_all 16 s (omega arith)
 
-  -- Fifteen digits are in the range of a wide type.
   in_range : (bound : ℕ) → 10 ^ 15 ≤ bound → nat_lt bound (value table (run table s)) ≡ false
   in_range bound enough =
       let power : 10 ^ run_len table s ≤ 10 ^ 15 = pow-le-pow_right {n = 10} (omega arith) few in
@@ -262,7 +252,6 @@ module _ (table : Table) (ten : IsBelowTen table) (int : IntType) (s : List ℕ)
       let power : 10 ^ 15 ≤ 10 ^ (limit_of int - 1) = pow-le-pow_right {n = 10} (omega arith) long in
       rw all (in_range bound (omega (arith, digits.0)))
 
-  -- One window decides.
   pub short_decides : IsSized int → (minus skip : Bool)
       → decision (class_of int) (bound_of int minus) (run_len table (take 16 s)) (value table (run table (take 16 s))) s
       ≡ whole_magnitude table (class_of int) (bound_of int minus) (limit_of int) skip s

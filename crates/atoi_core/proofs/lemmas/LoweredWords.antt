@@ -63,7 +63,6 @@ length-digits : (base k word : ℕ) → length (digits_l base k word) ≡ k
 length-digits base zero word = refl
 length-digits base (suc k) word = cc (length-digits base k (word / base))
 
--- A mask to lower halves keeps the weighted sum.
 pub low_value_masked : (k word : ℕ) → low_value (digits_l 256 k (bit_and word (repeated 15 k))) ≡ low_value (digits_l 256 k word)
 low_value_masked zero word = refl
 low_value_masked (suc k) word =
@@ -80,11 +79,9 @@ low_value_masked (suc k) word =
       low_value_masked k (word / 256),
     )
 
--- A cut after a shift by z bits is one before it.
 pub shift_cut : (a j z : ℕ) → a * 2 ^ z % 2 ^ (j + z) ≡ a % 2 ^ j * 2 ^ z
 shift_cut a j z = rw (mod-pow-add, mul-mod_left, mul-div_cancel a (pow_pos z)) (omega arith)
 
--- If n + 1 elements pass, so does the first, then n.
 pub first_passes : (t : Bool) (n m : ℕ) → suc n ≤ cond t (1 + m) 0 → (t ≡ true) × (n ≤ m)
 first_passes true n m h = (refl, omega arith)
 first_passes false n m h = absurd (omega arith)
@@ -110,7 +107,6 @@ lowered_digits (suc n) (suc k) word digits =
     (lowered.low n word ∙ sym (lower_half byte passes.0))
     ∙ sym block ∙ ap (λ x. bit_and x (repeated 15 (suc k))) (sym (mod-pow-add word (k * 8) 8)))
 
--- A mask and a shift by whole bytes commute.
 shifted_halves : (z k word : ℕ) → bit_and word (repeated 15 k) * 2 ^ (z * 8) ≡ bit_and (word * 2 ^ (z * 8)) (repeated 15 (z + k))
 shifted_halves zero k word = cc (zero-add k, mul-one word, mul-one (bit_and word (repeated 15 k)))
 shifted_halves (suc z) k word =
@@ -152,7 +148,6 @@ pub lowered_value : (len word ones : ℕ) → len ≤ 8 → len ≤ run_len deci
     → (bit_and ones (repeated 15 8) ≡ ones) × (low_value (low_bytes 8 ones) ≡ low_value (low_bytes len word))
 lowered_value len word ones few digits is = lowered_bytes 8 8 len word (64 - 8 * len) ones (omega arith) few (omega arith) digits is
 
--- A shift in two steps is one shift.
 pub shifted_twice : (a len : ℕ) → len < 8 → a * 2 ^ (56 - 8 * len) % 2 ^ 64 * 2 ^ 8 % 2 ^ 64 ≡ a * 2 ^ (64 - 8 * len) % 2 ^ 64
 shifted_twice a len few =
     let p = 2 ^ (56 - 8 * len) in

@@ -61,7 +61,6 @@ run_of_begins s digit = grind (arith, digit_is)
 pub prefix_begins : (int : IntType) → PrefixBegins int
 prefix_begins int form skip s found h = search (arith, begins_of_run, found_prefix)
 
--- A number in range has few enough digits.
 long_is_above : (int : IntType) → IsSized int → (is_negative : Bool) (body : List ℕ)
     → is_above (limit_at (class_of int) prefix true (limit_of int)) (significant_len decimal_table true body) ≡ true
     → bound_of int is_negative < value decimal_table (run decimal_table body)

@@ -21,7 +21,6 @@ use Rattle.atoi_core.specs.declared.error.AtoiSimdError.{AtoiSimdError}
 
 -- ---- Where a prefix parse stops
 
--- A prefix parse stops at the end, or before a byte that is no digit.
 pub prefix_stops_at_rest : (int : IntType) → PrefixStopsAtRest int
 prefix_stops_at_rest int form skip s v count h =
     let counts = (found_prefix int form skip s v count h).count_is in
@@ -75,11 +74,9 @@ prefix_of_cut int = record {
 -- ---- Slices and prefixes that write a number
 -- With zeros skipped, exactly these are accepted.
 
--- A rest without a digit at its start has an empty run.
 stops : (rest : List ℕ) → ¬ BeginsWithDigit rest → run_len decimal_table rest ≡ 0
 stops rest ends = grind (arith, cases_Bool, digit_in_range)
 
--- If the byte at `count` is no digit, the bytes from there begin with none.
 pub no_digit : (s : List ℕ) (count : ℕ)
     → (count < length s → IsFalse (is_digit decimal_table (get_or s count 0))) → ¬ BeginsWithDigit (drop count s)
 no_digit [] zero h = λ digit. digit
@@ -88,7 +85,6 @@ no_digit (byte ∷ bytes) zero h = λ digit. absurd (cc (h (omega arith), ap is_
 no_digit (byte ∷ bytes) (suc count) h = no_digit bytes count (λ more. h (omega arith))
 
 module _ (digits rest : List ℕ) (all : AllDigits 10 digits) (ends : ¬ BeginsWithDigit rest) where
-  -- Digits that no digit follows are the run.
   pub run_len_before : run_len decimal_table (digits ++ rest) ≡ length digits
   run_len_before = search (arith, prefix_len-append, eq-eqb, run_of_digits, stops)
 
@@ -141,13 +137,11 @@ prefix_accepted int sized (looked_for takes_plus) s number count h =
     (rw sign_is (rw len at (prefix_found int sized (is_minus text.sign) (length (sign_bytes text.sign))
     text.digits rest number text.written h.ends)))
 
--- Bytes that write a number are not empty.
 some : (int : IntType) (form : SignForm) (prefix_bytes : List ℕ) (number : ℤ)
     → Writes int form prefix_bytes number → 0 < length prefix_bytes
 some int (looked_for takes_plus) prefix_bytes number h = omega (arith, ap length h.parts, length-append {A = ℕ}, h.written.numeral.0)
 some int (given is_negative) prefix_bytes number h = h.numeral.0
 
--- Equal answers `Ok` have equal parts.
 same_answer : {E : Type 0} (a b : ℤ) (m n : ℕ) (answer : Result (ℤ × ℕ) E) → answer ≡ Ok (a, m) → answer ≡ Ok (b, n) → (a ≡ b) × (m ≡ n)
 same_answer a b m n answer one other = search (arith)
 
@@ -170,7 +164,6 @@ accepted_numbers int sized = record {
       (prefix_is_whole int).whole form true s number (prefix_accepted int sized form s number (length s) all);
 }
 
--- An answer that is `Ok` has a value.
 ok_value : {A E : Type 0} (r : Result A E) → IsOk r → (x : A) × (r ≡ Ok x)
 ok_value (Ok x) h = (x, refl)
 ok_value (Err e) h = absurd (cc h)

@@ -17,7 +17,6 @@ first_none : (a b c d : Bool) (p q r s : Refusal) → first_of a b c d p q r s �
     → (a ≡ false) × (b ≡ false) × (c ≡ false) × (d ≡ false)
 first_none a b c d p q r s h = grind (arith, nat_tests)
 
--- What holds of each result holds of the chosen one.
 first_cases : (P : Refusal → Type 0) (a b c d : Bool) (p q r s reason : Refusal) → P p → P q → P r → P s
     → first_of a b c d p q r s ≡ Some reason → P reason
 first_cases P a b c d p q r s reason hp hq hr hs h = grind arith
@@ -35,7 +34,6 @@ limit-is : (class : Class) (extent : Extent) (skip : Bool) (limit digits skipped
 limit-is narrow prefix true limit digits skipped = refl
 limit-is class extent skip limit digits skipped = refl
 
--- How many digits of the run are significant.
 abbrev pub significant_len : Table → Bool → List ℕ → ℕ
 significant_len table skip body = run_len table body - skipped_zeros table skip body
 
@@ -118,16 +116,13 @@ module _ (table : Table) (class : Class) (bound limit : ℕ) (extent : Extent) (
       ≡ first_of is_empty is_long is_over is_followed 0 1 2 (rank (invalid class 0 0 []))
   refusal-rank = search (arith, refusal-is, first_map, rank-invalid)
 
--- Why a body of an integer type is refused.
 abbrev pub refused : Table → IntType → (minus : Bool) → Extent → Bool → List ℕ → Option Refusal
 refused table int minus extent skip body = refusal table (class_of int) (bound_of int minus) (limit_of int) extent skip body
 
--- For narrow prefixes the limit does not matter.
 pub narrow_prefix_limit : (table : Table) (bound limit : ℕ) (skip : Bool) (s : List ℕ)
     → refusal table narrow bound limit prefix skip s ≡ refusal table narrow bound 0 prefix skip s
 narrow_prefix_limit table bound limit skip s = grind (arith, nat_tests, refusal-is)
 
--- For narrow whole slices neither the limit nor the flag matters.
 pub narrow_whole_limit : (table : Table) (bound limit : ℕ) (skip : Bool) (s : List ℕ)
     → refusal table narrow bound limit whole skip s ≡ refusal table narrow bound 0 whole false s
 narrow_whole_limit table bound limit skip s = search (arith, refusal-is)

@@ -87,7 +87,6 @@ module _ (table : Table) where
   pub zeros-run : (s : List ℕ) → zeros table (run table s) ≡ zeros table s
   zeros-run s = omega (arith, prefix_len-take (is_zero table) (run_len table s) s, zeros-le table s)
 
-  -- n digits after the zeros spell at least 10^(n - 1).
   pub value-ge : (s : List ℕ) → zeros table s < run_len table s
       → 10 ^ (run_len table s - zeros table s - 1) ≤ value table (run table s)
   value-ge s h =

@@ -14,7 +14,7 @@ use Rattle.atoi_core.proofs.lemmas.Runs.{length-run, zeros-run, value-replicate,
 use Rattle.atoi_core.proofs.lemmas.Calls.{sign_again, whole_call-is, prefix_call-is, counted_number, with_more-zero}
 use Rattle.atoi_core.proofs.lemmas.Refusals.{refusal-rank, significant_len}
 
--- Equal numbers, and refusals of equal rank or none: whole answers have the same outcome.
+-- Equal numbers and equal ranks make the same outcome.
 same_outcome : (minus other_minus : Bool) (r q : Option Refusal) (x y : ℕ) → option_map rank r ≡ option_map rank q
     → with_sign minus x ≡ with_sign other_minus y
     → HaveSameOutcome (map_answer (with_sign minus) (unless_refused r x)) (map_answer (with_sign other_minus) (unless_refused q y))
@@ -27,15 +27,12 @@ same_prefix_outcome : (more taken other_taken : ℕ) (minus other_minus : Bool) 
     (with_more other_taken (map_answer (counted_number other_minus) (unless_refused q y)))
 same_prefix_outcome more taken other_taken minus other_minus r q x y h e c = grind arith
 
--- Why the body after the sign `g` is refused, if it is.
 abbrev reason_at : IntType → Bool → Extent → Sign → Option Refusal
 reason_at int skip extent g = refusal decimal_table (class_of int) (bound_of int g.minus) (limit_of int) extent skip g.body
 
--- The length of the body's run.
 abbrev len_at : Sign → ℕ
 len_at g = run_len decimal_table g.body
 
--- The value of the body's run.
 abbrev number_at : Sign → ℕ
 number_at g = value decimal_table (run decimal_table g.body)
 
@@ -80,18 +77,15 @@ rest_changes_nothing int form skip s t same =
 
 -- ---- Added leading zeros
 
--- A body with `count` zeros put before it.
 abbrev padded : ℕ → List ℕ → List ℕ
 padded count body = replicate count zero_byte ++ body
 
 length-padded : (count : ℕ) (body : List ℕ) → length (padded count body) ≡ count + length body
 length-padded count body = simp (length-append, length-replicate)
 
--- A prefix of the padded body with all added zeros is these and a prefix of the body.
 take-padded : (count n : ℕ) (body : List ℕ) → take (count + n) (padded count body) ≡ padded count (take n body)
 take-padded count n body = search (arith, length-replicate, take-add, take_at, drop_at)
 
--- The padded run has the same value.
 value-padded : (count : ℕ) (body : List ℕ)
     → value decimal_table (run decimal_table body) ≡ value decimal_table (run decimal_table (padded count body))
 value-padded count body = search (arith, value-replicate, take-padded, prefix_len-replicate_append)

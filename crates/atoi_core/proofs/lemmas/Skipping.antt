@@ -29,7 +29,7 @@ few_enough : (class : Class) (extent : Extent) (skip : Bool) (limit count : ℕ)
     → is_above (limit_at class extent skip limit) count ≡ false
 few_enough class extent skip limit count least few = grind (arith, nat_tests)
 
--- A narrow type drops none of the zeros.
+-- A narrow type drops no zero.
 same_dropped : (class : Class) (extent : Extent) (limit digits skipped : ℕ) → class ≡ narrow → skipped ≤ digits → digits < 16
     → (rule_of class extent true limit digits skipped).dropped ≡ (rule_of class extent false limit digits 0).dropped
 same_dropped class extent limit digits skipped is le few = grind (arith, nat_tests)

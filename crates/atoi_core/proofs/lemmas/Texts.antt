@@ -30,7 +30,6 @@ pub whole_skipping : (int : IntType) (is_negative : Bool) (body : List ℕ) (v :
 whole_skipping int is_negative body v h =
     search (arith, from_whole, limit_of_whole, shorter, to_whole)
 
--- A byte from 48 to 57 is a digit of value `byte - 48`.
 pub digit_is : (byte : ℕ) → 48 ≤ byte → byte ≤ 57 → decimal_table byte ≡ Some (byte - 48)
 digit_is byte lo hi = rw (le-leb 48 byte lo, le-leb byte 57 hi) refl
 
@@ -42,14 +41,12 @@ pub own : IsNumeralModel (AllDigits 10) (value decimal_table)
 own = numerals_by_weight (AllDigits 10) tells_digits (value decimal_table)
     (record { empty = refl; more = λ c cs h. rw (digit_value_is c h.0 h.1) refl })
 
--- If all bytes are std's digits, the run is the slice.
 pub run_of_digits : (ds : List ℕ) → AllDigits 10 ds → run_len decimal_table ds ≡ length ds
 run_of_digits [] h = refl
 run_of_digits (d ∷ ds) h =
     let r = digit_from_value d h.0 in
     rw (digit_is d r.0 r.1) (omega (arith, run_of_digits ds h.1))
 
--- The decimal text of a number in range is short enough.
 decimal_short : (int : IntType) → IsSized int → (is_negative skip : Bool) (n : ℕ) → n ≤ bound_of int is_negative
     → is_above (limit_at (class_of int) whole skip (limit_of int)) (length (decimal n)) ≡ false
 decimal_short int sized is_negative skip n le =
@@ -71,12 +68,10 @@ magnitude_text int sized is_negative skip n le =
       number = rw (is_run, value_is) refl;
     })
 
--- A signed type consumes a minus before digits.
 sign_of_minus : (signed takes_plus : Bool) (digits : List ℕ) → signed ≡ true
     → sign_of signed takes_plus (45 ∷ digits) ≡ record { minus = true; taken = 1; body = digits }
 sign_of_minus signed takes_plus digits h = grind (arith, nat_tests)
 
--- A negative number in range has a signed type and a magnitude in range.
 negative_in_range : (signed : Bool) (greatest n : ℕ) → cond signed (neg_ℤ (pos (greatest + 1))) (pos 0) ≤ℤ negsuc n
     → (signed ≡ true) × (n ≤ greatest)
 negative_in_range false greatest n h = absurd h.le
@@ -99,7 +94,6 @@ text_of_value int sized = record { parsed = parsed }
 
 -- ---- Decimal digits are std's
 
--- Our digits are std's.
 pub to_std : (s : List ℕ) → All (λ byte. IsTrue (is_digit decimal_table byte)) s → AllDigits 10 s
 to_std [] h = tt
 to_std (byte ∷ bytes) h =
@@ -136,7 +130,6 @@ digits_written int is_negative skip body number h =
     let same = own.same body digits in
     record { numeral = (omega arith, digits); in_range = rw (is_run, same) at found.in_range; value_is = rw (is_run, same) at found.number }
 
--- What a whole call accepts writes its number.
 pub whole_written : (int : IntType) (form : SignForm) (skip : Bool) (s : List ℕ) (number : ℤ)
     → whole_call int form skip s ≡ Ok number → Writes int form s number
 whole_written int (looked_for takes_plus) skip [] number h = no_mark int takes_plus [] number (digits_written int false skip [] number h)
@@ -166,7 +159,6 @@ whole_written int (given is_negative) skip s number h = digits_written int is_ne
 
 -- ---- Texts without needless zeros
 
--- Unsigned bytes that write a number begin with a digit.
 begins : (int : IntType) (is_negative : Bool) (digits : List ℕ) (number : ℤ)
     → DigitsWrite int is_negative digits number → BeginsWithDigit digits
 begins int is_negative digits number h = grind (arith, digit_from_value)
@@ -190,7 +182,6 @@ led n small = decimal_by_steps_wide IsLed (λ m low. (omega arith, λ above. ome
 no_needless : (digits : List ℕ) → 48 < get_or digits 0 0 → IsFalse (has_needless_zero digits)
 no_needless digits h = grind (arith, nat_tests)
 
--- `decimal n` has no needless zero.
 decimal_shortest : (n : ℕ) → n < 10 ^ 64 → IsFalse (has_needless_zero (decimal n))
 decimal_shortest zero small = rw (decimal_digit 0 (omega arith)) refl
 decimal_shortest (suc n) small = no_needless (decimal (suc n)) ((led (suc n) small).1 (omega arith))
@@ -226,7 +217,7 @@ decimal_of_digits (digit ∷ digits) numeral shortest small =
 with_sign-injective : (is_negative : Bool) (m n : ℕ) → with_sign is_negative m ≡ with_sign is_negative n → m ≡ n
 with_sign-injective is_negative m n h = grind arith
 
--- So are those that write a number of magnitude n.
+-- So are digits that write a number of magnitude n.
 decimal_only : (int : IntType) → IsSized int → (is_negative : Bool) (digits : List ℕ) (n : ℕ)
     → DigitsWrite int is_negative digits (with_sign is_negative n) → IsFalse (has_needless_zero digits) → digits ≡ decimal n
 decimal_only int sized is_negative digits n h shortest =
@@ -240,7 +231,6 @@ signed_writes int sized takes_plus (negsuc n) low high =
     let within = negative_in_range int.signed int.greatest n low in
     minus_mark int takes_plus (decimal (suc n)) (negsuc n) within.0 (decimal_writes int sized true (suc n) (omega (arith, within.1)))
 
--- The text of a negative number is a minus and its magnitude's text.
 minus_text : (x : ℤ) (n : ℕ) → x ≢ pos 0 → x ≡ neg_ℤ (pos n) → 45 ∷ decimal n ≡ signed_decimal x
 minus_text x n some is = grind arith
 

@@ -52,7 +52,6 @@ pub Shows-join_two : {table : Table} {s : List ℕ} {first_window middle back : 
     ((first_window.number * 10 ^ 16 + middle.number) * 10 ^ back.len + back.number)
 Shows-join_two first full second more third = join_readings (join_readings (Shows-full first full) (Shows-full second more)) third.reading
 
--- Two full windows are 32 digits.
 pub two_full : {table : Table} (s : List ℕ) {first second : Window} → Shows table 16 s first → 16 ≤ first.len
     → Shows table 16 (drop 16 s) second → 16 ≤ second.len → 32 ≤ run_len table s
 two_full {table} s seen full next more = omega (arith, prefix_len-drop (is_digit table) 16 s (omega (arith, seen.len_is)), next.len_is)
@@ -115,7 +114,6 @@ pub record Skipped (table : Table) (skip : Bool) (s : List ℕ) (at before now :
   pub least : skip ≡ true → zeros table s + 16 * before ≤ 16 * now
   pub offset_is : skip ≡ true → (at ≡ 16 * (zeros table s / 16)) ⊎ ((at ≡ zeros table s) × (zeros table s / 16 < run_len table s / 16))
 
--- A full last window has 16 bytes.
 pub Skipped-full : {table : Table} {skip : Bool} {s : List ℕ} {at before now : ℕ} {w : Window}
     → Skipped table skip s at before now w → 16 ≤ w.len → at + 16 ≤ length s
 Skipped-full {table} {s = s} after_skip full =
@@ -201,7 +199,6 @@ module _ {table : Table} (ten : IsBelowTen table) where
   Skipped-short skip s e one short =
       Skipped-first skip s e one (omega (arith, short, (shows ten 16 s e).len_is, prefix_len-le-length (is_digit table) s))
 
--- One load is enough for fewer than 16 bytes.
 pub short_loads : (table : Table) (class : Class) (skip : Bool) (s : List ℕ) {before after : ℕ} → length s < 16 → after ≡ before + 1
     → LoadsWithin (most_loads table class s) table skip s before after
 short_loads table class skip s short one = grind (arith, nat_tests, prefix_len-le-length (is_zero table) s)

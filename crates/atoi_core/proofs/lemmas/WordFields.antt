@@ -22,7 +22,6 @@ abbrev pub masks : ℕ → ℕ → ℕ
 masks h zero = 0
 masks h (suc k) = masks h k * 2 ^ (h + h) + (2 ^ h - 1)
 
--- Twice m, by two steps for each step of m.
 abbrev pub twice : ℕ → ℕ
 twice zero = zero
 twice (suc m) = suc (suc (twice m))
@@ -31,18 +30,15 @@ twice (suc m) = suc (suc (twice m))
 abbrev pub rounded : ℕ → ℕ → ℕ → ℕ → ℕ
 rounded h t m word = bit_and word (masks h (twice m)) * (1 + t * 2 ^ (h + h)) % 2 ^ (m * ((h + h) + (h + h))) / 2 ^ (h + h)
 
--- Half a field of set bits fits in a field.
 half_below : (h : ℕ) → 2 ^ h - 1 < 2 ^ (h + h)
 half_below h = let le : 2 ^ h ≤ 2 ^ (h + h) = pow_mono (omega arith) in omega (arith, ones_lt h)
 
--- The mask keeps the lower half of each field.
 mask_step : (h k word : ℕ) → bit_and word (masks h (suc k)) ≡ bit_and (word / 2 ^ (h + h)) (masks h k) * 2 ^ (h + h) + word % 2 ^ h
 mask_step h k word =
     let b = 2 ^ (h + h) in
     let fields = and_block (h + h) (word / b) (masks h k) (word % b) (2 ^ h - 1) (mod-lt word (pow_pos (h + h))) (half_below h) in
     cc (shr_split word (h + h), fields, and_mask (word % b) h, mod-mod-pow word h h)
 
--- So the lowest field of a masked word is below 2^h.
 masked_low : (h k word : ℕ) → bit_and word (masks h k) % 2 ^ (h + h) < 2 ^ h
 masked_low h zero word = search (arith, and_zero_r, zero-mod, pow_pos)
 masked_low h (suc k) word = search (arith, mask_step, mod-mul-add, half_below, pow_pos)
@@ -67,7 +63,6 @@ spread_pair b t u f g below =
     let e : ((u * b + g) * b + f) / b ≡ (q * b + r) * b + g = cc (split, div-mul-add (u * b + g) b f below) in
     rw e (omega arith)
 
--- A power of t * t.
 power_of_square : (t m : ℕ) → (t * t) ^ m ≡ t ^ twice m
 power_of_square t zero = pow-zero (t * t) ∙ sym (pow-zero t)
 power_of_square t (suc m) = search (arith, pow-suc, power_of_square t m, mul_assoc)
@@ -129,12 +124,10 @@ length-digits : (base k word : ℕ) → length (digits_l base k word) ≡ k
 length-digits base zero word = refl
 length-digits base (suc k) word = cc (length-digits base k (word / base))
 
--- Bits above the lowest k fields do not change these fields.
 pub digits_cut : (g k word : ℕ) → digits_l (2 ^ g) k (word % 2 ^ (k * g)) ≡ digits_l (2 ^ g) k word
 digits_cut g zero word = refl
 digits_cut g (suc k) word = search (arith, digits_cut g k (word / 2 ^ g), suc-mul, mod-pow-add, mod-mul-add, div-mul-add, pow_pos)
 
--- One more byte.
 pub byte_more : (z : ℕ) → 2 ^ (suc z * 8) ≡ 256 * 2 ^ (z * 8)
 byte_more z = rw (suc-mul z 8) (omega (arith, pow-add 2 (z * 8) 8))
 
@@ -203,11 +196,9 @@ repeated b (suc k) = repeated b k * 256 + b
 
 -- ---- Trailing zero bits
 
--- A field is its lowest bit and the others.
 lowest_bit : (a n : ℕ) → n % 2 ^ suc a ≡ (n / 2 % 2 ^ a) * 2 + n % 2
 lowest_bit a n = rw (← add-one a) (mod-pow-add n a 1)
 
--- Dropping a + 1 bits, one first.
 halves : (a n : ℕ) → n / 2 / 2 ^ a ≡ n / 2 ^ suc a
 halves a n = cc (div-div-eq-div-mul n 2 (2 ^ a), mul_comm 2 (2 ^ a), pow-suc 2 a)
 

@@ -20,7 +20,6 @@ pub window_from : (c : ℕ) (s : List ℕ) (len leading number : ℕ)
     → ◌≡◌ {A = Window} (record { len = len; zeroes = leading; number = number }) (window_of decimal_table c s)
 window_from c s len leading number len_is leading_is number_is = search (arith, prefix_len-take, take-take)
 
--- The window of eight bytes, from their word.
 pub loaded_window : (s : List ℕ) → ((i : ℕ) → get_or s i 0 < 256) → (word : ℕ) (w : Window) → word ≡ word_of (take 8 s)
     → w.len ≡ run_len decimal_table (low_bytes 8 word)
     → w.zeroes ≡ (if w.len == 8 then zeros decimal_table (low_bytes 8 word) else 0)

@@ -58,7 +58,6 @@ moved_values n v lanes le long digits moved =
     (moved ∙ ap (λ l. take 16 (drop n (padded l))) (zip2_splat less v 16 48 long)
     ∙ first_at_end n (map above_zero v) le (length-map v above_zero ∙ long))
 
--- The table `LAST_LANES`.
 abbrev last_lanes : List ℕ
 last_lanes = replicate 16 0 ++ replicate 16 255
 

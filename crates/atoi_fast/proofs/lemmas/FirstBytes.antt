@@ -7,7 +7,6 @@ use Rattle.atoi_core.specs.Sign.{with_sign}
 use Rattle.atoi_fast.specs.Short.{IsNumber, BeginsWithNumber}
 use Rattle.atoi_fast.proofs.lemmas.ShortNumbers.{sixteen_fit, prefix_is, whole_is, least_bound}
 
--- One byte.
 pub only_digit : (int : IntType) → IsSized int → (s : List ℕ) → length s ≡ 1 → 48 ≤ get_or s 0 0 → get_or s 0 0 ≤ 57
     → IsNumber int s (with_sign false (get_or s 0 0 - 48))
 only_digit int sized [] one low high = absurd (omega arith)
@@ -16,7 +15,7 @@ only_digit int sized (a ∷ []) one low high =
     (grind (arith, nat_tests)) (omega (arith, least_bound int sized false))
 only_digit int sized (a ∷ b ∷ rest) one low high = absurd (omega arith)
 
--- A digit before a byte that is none, or before nothing.
+-- A digit that no digit follows.
 pub first_digit : (int : IntType) → IsSized int → (s : List ℕ) → 1 ≤ length s → 48 ≤ get_or s 0 0 → get_or s 0 0 ≤ 57
     → (2 ≤ length s → is_digit decimal_table (get_or s 1 0) ≡ false) → BeginsWithNumber int s (with_sign false (get_or s 0 0 - 48)) 1
 first_digit int sized [] some low high ends = absurd (omega arith)
@@ -28,7 +27,7 @@ first_digit int sized (a ∷ b ∷ rest) some low high ends =
     prefix_is int false (a ∷ b ∷ rest) 1 (a - 48) (λ no. absurd (cc no)) (omega arith) (omega (arith, sixteen_fit int))
     (grind (arith, nat_tests)) (grind (arith, nat_tests)) (omega (arith, least_bound int sized false))
 
--- Two digits before a byte that is none.
+-- Two digits that no digit follows.
 pub first_two_digits : (int : IntType) → IsSized int → (s : List ℕ) → 3 ≤ length s → 48 ≤ get_or s 0 0 → get_or s 0 0 ≤ 57
     → 48 ≤ get_or s 1 0 → get_or s 1 0 ≤ 57 → is_digit decimal_table (get_or s 2 0) ≡ false
     → BeginsWithNumber int s (with_sign false (10 * (get_or s 0 0 - 48) + (get_or s 1 0 - 48))) 2

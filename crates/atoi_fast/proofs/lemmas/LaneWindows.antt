@@ -18,7 +18,6 @@ pub lanes-of_bytes : (m : ℕ) (xs : List ℕ) → Each1 (λ x. x < 256) xs
 unfolding word_of
 lanes-of_bytes m xs h room = digits-of_bytes 16 m xs h room
 
--- The first lanes of a slice are its first bytes.
 pub first_lanes : (n : ℕ) (s : List ℕ) → n ≤ 16 → n ≤ length s → take n (padded_start 16 s) ≡ take n s
 first_lanes n s few enough = search (arith, take-take, take-append-le)
 
@@ -30,7 +29,8 @@ module _ (s : List ℕ) (fits : (i : ℕ) → get_or s i 0 < 256) (word : ℕ) (
       let digit = is_digit decimal_table in
       omega (arith, digits_shown 16 s, prefix_len-take digit 16 s, prefix_len-take digit 8 s, loaded_run 8 s fits word loaded)
 
--- The last 16 of 16 to 31 bytes, the first 16 of which are digits: what they count, and those after the first 16.
+-- The last 16 of 16 to 31 bytes, the first 16 of which are digits: what they count, and the bytes after the
+-- first 16.
 pub last_shown : (s lanes : List ℕ) → 16 ≤ run_len decimal_table s → length s < 32
     → lanes ≡ padded_start 16 (take (length s - (length s - 16)) (drop (length s - 16) s))
     → (run_len decimal_table s ≡ length s - 16 + run_len decimal_table lanes) × (drop (16 - (length s - 16)) lanes ≡ drop 16 s)

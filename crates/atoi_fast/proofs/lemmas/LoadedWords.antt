@@ -52,7 +52,6 @@ pub last_bytes : (s last : List ℕ) (at : ℕ) → 8 ≤ length s → at ≤ le
 last_bytes s last at enough inside few fits is =
     ap (λ w. w / 2 ^ (8 * (at + 8 - length s))) (word_of_last s last is) ∙ word_of_rest 8 s at enough inside (omega arith) fits
 
--- After all bytes, there are none.
 pub word_after_all : (s : List ℕ) (at : ℕ) → length s ≤ at → 0 ≡ word_of (take 8 (drop at s))
 word_after_all s at all = word_of_none (take 8 (drop at s)) (ap (λ l. length (take 8 l)) (drop_all at s all))
 

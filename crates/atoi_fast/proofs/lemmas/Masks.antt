@@ -9,7 +9,6 @@ not-not : (b : Bool) → not (not b) ≡ b
 not-not true = refl
 not-not false = refl
 
--- How many lanes pass at the start, counted in a mask of the lanes that fail.
 pub run-of_others : (q : ℕ → Bool) (v : List ℕ) → length v ≡ 16 → (mask : ℕ) → mask ≡ mask_l (map (λ x. not (q x)) v)
     → (mask ≡ 0 → prefix_len q v ≡ 16) × (0 < mask → trailing_zeros w16 mask ≡ prefix_len q v)
 run-of_others q v long mask is =

@@ -16,7 +16,6 @@ use Rattle.atoi_fast.proofs.lemmas.LaneWindows.{lanes-of_bytes}
 use Rattle.atoi_fast.proofs.lemmas.WordRuns.{flipped_lowered}
 use lib.Lanes.{Each1, digits_l}
 
--- Masked bytes are below 16.
 halves_below : (k word : ℕ) → Each1 (λ x. x < 16) (digits_l 256 k (bit_and word (repeated 15 k)))
 halves_below zero word = tt
 halves_below (suc k) word =

@@ -126,7 +126,7 @@ pub if_in_range : {T : Type 0} (number : T → ℤ) (int : IntType) (s : List �
 if_in_range number int s minus magnitude None in_range number_is is = tt
 if_in_range number int s minus magnitude (Some n) in_range number_is is = rw number_is (is in_range)
 
--- Each type has the number 127, and those of 32 bits and more have all of nine digits.
+-- Each type has the number 127, and types of 32 bits and more have all numbers of nine digits.
 pub least_bound : (int : IntType) → IsSized int → (minus : Bool) → 127 ≤ bound_of int minus
 least_bound int sized minus = grind (arith, nat_tests, sized.bits, sized.greatest)
 

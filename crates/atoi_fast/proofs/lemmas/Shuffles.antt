@@ -11,7 +11,6 @@ use lib.Lanes.{Each1}
 abbrev shifts : List ℕ
 shifts = replicate 16 128 ++ (range_with_len 0 16 ++ replicate 16 128)
 
--- What holds of each of n numbers from a on.
 pub each_from : (P : ℕ → Type 0) (a n : ℕ) → Each1 P (range_with_len a n) → (k : ℕ) → a ≤ k → k < a + n → P k
 each_from P a n each k from to =
     subst P (get_or-range_with_len a n (k - a) 0 (omega arith) ∙ omega arith)
@@ -40,7 +39,7 @@ first_at_end n v le long =
     subst (λ w. FirstAtEnd w n) (pick_l_whole 0 v 16 long)
     (each_from (FirstAtEnd (map (λ i. get_or v i 0) (range_with_len 0 16))) 0 17 (search rules) n (omega arith) (omega arith))
 
--- The last 16 of 16 to 31 bytes, moved, are those after the first 16.
+-- The last 16 of 16 to 31 bytes, moved, are the bytes after the first 16.
 abbrev LastMoved : List ℕ → Type 0
 LastMoved s = take 16 (drop (48 - length s) (padded (take 16 (drop (length s - 16) s)))) ≡ padded_start 16 (drop 16 s)
 

@@ -34,7 +34,6 @@ unmarked b small none =
     refl small in
     grind (arith, nat_tests, same)
 
--- A digit has no mark.
 digit_unmarked : (b : ℕ) → b < 256 → is_digit decimal_table b ≡ true → marking.of_byte b ≡ 0
 digit_unmarked b small digit =
     let same = agree_below_at (λ n. marking.of_byte n == 0) (is_digit decimal_table) 256 b refl small in
@@ -62,7 +61,7 @@ module _ (k word : ℕ) where
       and_mod (bit_or above below) (repeated 128 (suc k)) 8
       ∙ ap₂ bit_and (or_mod above below 8 ∙ ap₂ bit_or above_low below_low) (omega arith)
 
-  -- Without a mark in the lowest byte, the borrow ends there, and the marks are those of the digits.
+  -- Without a mark in the lowest byte, the borrow ends there, and the marks are the marks of the digits.
   borrowed_marks : borrowed (suc k) word % 256 ≡ 0 → borrowed (suc k) word ≡ marks_in (suc k) word
   unfolding above below
   borrowed_marks none =
@@ -106,7 +105,8 @@ marks_after_digit word digit =
     let rest : marks_in 8 word / 256 ≡ bit_and (x / 256) (repeated 128 7) = and_shr x (repeated 128 8) 8 in
     omega (arith, after_first x)
 
--- With a minus first, they are those of the word with a zero in its place, if the second byte has none.
+-- With a minus first and no mark in the second byte, they are the marks of the word with a zero for the
+-- minus.
 pub marks_after_minus : (word : ℕ) → word % 256 ≡ 45 → bit_and (marks_after_first word) 0x8000 ≡ 0
     → marks_after_first word ≡ marks_in 8 (word + 3)
 marks_after_minus word minus none =
@@ -152,7 +152,6 @@ module _ (word : ℕ) where
 
 -- ---- The word with a zero in the place of its minus
 
--- The word, with a zero in the place of its minus, if it has one.
 abbrev pub zeroed : Bool → ℕ → ℕ
 zeroed minus word = word + (if minus then 3 else 0)
 

@@ -56,7 +56,6 @@ ended_in_32 bound {s} {len} digits reading some few found_is count_is =
     rw (found_is, count_is) (sym (rw (zero-add len, ne_eqb len 0 (omega arith))
     at (short decimal_below_ten wide128 bound 39 (lit< tt) digits (start false s) reading few (omega arith)).1))
 
--- No zero leads unless the first byte is one.
 pub first_decides : (s : List ℕ) → (slice_index_or s 0 0 ≡ 48 → ⊥) → zeros decimal_table s ≡ 0
 first_decides [] other = refl
 first_decides (x ∷ xs) other = grind (arith, nat_tests)

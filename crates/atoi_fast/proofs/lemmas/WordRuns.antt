@@ -38,7 +38,6 @@ none_marked_of_4 = none_counted 4
 
 -- ---- Words xor zeros
 
--- To flip the same bits twice changes nothing.
 pub flipped_back : (a b : ℕ) → bit_xor (bit_xor a b) b ≡ a
 flipped_back a b = xor_assoc a b b ∙ ap (bit_xor a) (xor_self b) ∙ xor_zero_r a
 
@@ -159,7 +158,6 @@ pub lowered_sum : (len word ones number : ℕ) → number ≡ low_value (low_byt
     → ones ≡ (word + without_48 8) % 2 ^ 64 * 2 ^ (64 - 8 * len) % 2 ^ 64 → number ≡ low_value (low_bytes len word)
 lowered_sum len word ones number sum few digits is = sum ∙ (lowered_value len word ones few digits is).1
 
--- The bytes after the first z.
 bytes_after : (z k word : ℕ) → drop z (digits_l 256 (z + k) word) ≡ digits_l 256 k (word / 2 ^ (z * 8))
 bytes_after zero k word = cc (zero-add k, div-one word)
 bytes_after (suc z) k word = search (arith, suc-add, byte_more, bytes_after z k (word / 256), div-div-eq-div-mul)
@@ -171,7 +169,7 @@ cleared x mask j =
     let block = and_block j (x / 2 ^ j) (mask / 2 ^ j) 0 (mask % 2 ^ j) (pow_pos j) (mod-lt mask (pow_pos j)) in
     rw (and_shr, none) (omega (arith, rw shr_split at block, and_zero_l (mask % 2 ^ j)))
 
--- Of four digits, those after the first z: shifted down and up, they are the last bytes.
+-- The digits after the first z of four: shifted down and up, they are the last bytes.
 pub lowered_end : (z word ones : ℕ) → z < 4 → run_len decimal_table (low_bytes 4 word) ≡ 4
     → ones ≡ (word + 0xCFCF_CFD0) % 2 ^ 32 / 2 ^ (8 * z) * 2 ^ (8 * z) % 2 ^ 32
     → (bit_and ones (repeated 15 4) ≡ ones) × (low_value (low_bytes 4 ones) ≡ low_value (drop z (low_bytes 4 word)))

@@ -61,7 +61,6 @@ module _ (s : List ℕ) (enough : 8 < length s) (few : length s < 16) (fits : (i
 
 -- ---- Short slices in the highest bytes of a word
 
--- The elements are still bytes after zeros are put before them.
 filled_fit : (m : ℕ) (s : List ℕ) → ((i : ℕ) → get_or s i 0 < 256) → (i : ℕ) → get_or (replicate m 48 ++ s) i 0 < 256
 filled_fit zero s fits i = fits i
 filled_fit (suc m) s fits zero = omega arith

@@ -60,7 +60,6 @@ no_wrap m a (x ∷ xs) (y ∷ ys) h =
     let sum : (a + x * y) % m ≡ a + x * y = mod-eq_of_lt (omega arith) in
     rw (product, sum) (no_wrap m (a + x * y) xs ys (omega arith) ∙ omega arith)
 
--- The sum that the code computes.
 pub lanes_sum : (v : List ℕ) (n : ℕ) → length v ≡ 16 → n ≤ 16 → n ≤ run_len decimal_table v
     → fold_l (λ s x. (s + x) % 2 ^ 64) 0
     (zip2 (λ x y. (x * y) % 2 ^ 64) (map (λ x. x) (zip2 (λ x y. (x + (2 ^ 8 - y)) % 2 ^ 8) v (replicate 16 48)))

@@ -12,7 +12,7 @@ use Rattle.atoi_core.proofs.lemmas.Runs.{decimal_below_ten}
 use Rattle.atoi_lanes.specs.Lanes.{ReadsAfterZeros}
 use Rattle.atoi_lanes.specs.declared.window_32.Window32.{Window32}
 
--- Which digits of a window are significant, and that those of a full one are more than 24.
+-- Which digits of a window are significant: at least 24 if it is full.
 significant : (skip : Bool) (len leading : ℕ) → leading ≤ len → (skip ≡ true → 32 ≤ len → leading ≡ 0)
     → (significant_digits skip len leading ≡ len - cond skip leading 0) × (len - significant_digits skip len leading ≡ cond skip leading 0)
     × ((len < 32) ⊎ (24 ≤ significant_digits skip len leading))

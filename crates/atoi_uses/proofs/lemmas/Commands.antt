@@ -9,7 +9,6 @@ use Rattle.atoi_uses.specs.declared.commands.Command.{Command}
 use Rattle.atoi_uses.specs.declared.commands.Word.{Word}
 use Rattle.atoi_uses.specs.declared.commands.Word.TheVariants.{Set, IncrBy}
 
--- The first byte of a line cannot be two different bytes.
 first_apart : (line : List ℕ) (a b : ℕ) → slice_index line 0 ≡ a → slice_index line 0 ≡ b → a ≢ b → ⊥
 first_apart line a b h k apart = apart (sym h ∙ k)
 

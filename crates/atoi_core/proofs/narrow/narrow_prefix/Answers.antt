@@ -16,7 +16,7 @@ returns-then-window-eq0-clause-answer g c =
     c.window-window.ensures.window c.window-window.ensures.one_step (omega arith) in
     answers_empty _ _ _ after_skip (omega arith)
 
--- The first window has all digits, or a second one is loaded and has none.
+-- The first window has all digits, or a second one is loaded and has no digit.
 second : (g : _) (c : After-answer_at g) →
     (c.else-window-eq16.steps
     ≡ c.window-window.new.steps + (if c.args.skip || nat_lt (run_len g.E.Engine.table c.args.s.now) 16 then 0 else 1))
@@ -33,7 +33,6 @@ second g c =
           (grind (arith, nat_tests, w.steps-is, w.if-window-eq16.false), λ _. grind (arith, nat_tests, w.if-window-eq16.false))
     ]
 
--- What holds after the window.
 last : (g : _) (c : After-answer_at g)
     → Skipped g.E.Engine.table c.args.skip c.args.s.now 0 c.args.steps.now c.window-window.new.steps c.window-window.result
 last g c =

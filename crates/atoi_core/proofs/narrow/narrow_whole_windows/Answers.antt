@@ -5,7 +5,6 @@ use Rattle.atoi_core.proofs.lemmas.Windows.{Skipped, Skipped-at_once, Skipped-lo
 use Rattle.atoi_core.proofs.narrow.narrow_whole_windows.Goals as goal
 use Rattle.atoi_core.proofs.narrow.narrow_whole_windows.Goals.{After-narrow_answer}
 
--- What holds after the window.
 first : (g : _) (c : After-narrow_answer g)
     → Skipped g.E.Engine.table true c.args.s.now 0 c.args.steps.now c.window-window.new.steps c.window-window.result
 first g c =

@@ -1,4 +1,4 @@
--- The loads before the loop are those of the caller and one.
+-- Before the loop, the caller's loads and one more were made.
 use Rattle.std.proofs.Common.{◌≡◌, ◌+◌, ◌-◌, ◌/◌, length}
 use Rattle.atoi_lanes.proofs.lemmas.Skipping.{Skipping}
 use Rattle.atoi_lanes.proofs.wide_lanes.skip_by_32.Given as goal

@@ -26,7 +26,6 @@ loop-first-preserved g c = (
   c.window-first-in-loop-first.ensures.window,
 )
 
--- What holds after the loop.
 ended : (g : _) (c : Left-loop-first g)
     → Skipped g.Self.Engine.table c.args.skip c.args.s.now c.loop-first.at c.args.steps.now c.loop-first.steps c.loop-first.first
 ended g c =
