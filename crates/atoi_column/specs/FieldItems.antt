@@ -61,7 +61,6 @@ field_items_left int left =
     items_of_parts (cut_of left.is_lines) (parse_answer int true true) left.index left.place
     (slice_split (λ byte. byte == left.separator) left.rest)
 
--- After the first field.
 abbrev pub after_first_field : FieldsLeft → FieldsLeft
 after_first_field left =
     let rest = after_first (λ byte. byte == left.separator) left.rest in

@@ -17,8 +17,8 @@ abbrev pub after_separator : (separator : ℕ) → List ℕ → Option (List ℕ
 after_separator separator [] = None
 after_separator separator (byte ∷ bytes) = if byte == separator then Some bytes else None
 
--- What follows a field that ends before these bytes, if one does: none are left, or a separator
--- comes first, of a line perhaps after a carriage return.
+-- What follows a field that ends before these bytes, if one does: they are empty, or begin with
+-- a separator, of a line perhaps after a carriage return.
 abbrev pub after_field : (is_lines : Bool) (separator : ℕ) → List ℕ → Option (List ℕ)
 after_field is_lines separator [] = Some []
 after_field is_lines separator (byte ∷ bytes) =

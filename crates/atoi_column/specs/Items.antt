@@ -33,7 +33,7 @@ abbrev pub item_of : {T : Type 0} → (T → ℤ) → Result T ColumnError → R
 item_of number (Ok value) = Ok (number value)
 item_of number (Err error) = Err (flaw_of error)
 
--- The flaw of a refused field, from the answer of `parse_prefix`.
+-- The error of a refused field, from the answer of `parse_prefix`.
 abbrev pub flaw_at : (index place : ℕ) → Result (ℤ × ℕ) Refusal → Flaw
 flaw_at index place (Ok found) = trailing index (place + found.1)
 flaw_at index place (Err reason) = field index place reason

@@ -1,4 +1,5 @@
--- Laws about fields and items, over the definitions only.
+-- Laws about fields and items, over the definitions only. A law on an input holds for every input and any
+-- byte as the separator.
 use Rattle.std.specs.Prelude.{◌≡◌, ◌⊎◌, ℕ, ◌+◌, ◌<◌, ◌≤◌, ◌==◌, true, List, [], ◌∷◌, ◌++◌, length, take, drop, map, All, ℤ, Result, Ok, Err, IfOk, OnErr}
 use Rattle.std.specs.Bool.{⊤}
 use Rattle.std.specs.List.{AllZip, slice_split, before_first, after_first, position_or_len, sum_by}
@@ -44,7 +45,7 @@ abbrev pub place_after : List (List ℕ) → ℕ
 place_after texts = sum_by (λ text. length text + 1) texts
 
 -- After fields that are texts: `last` is empty if no other field is left, otherwise one item, the
--- flaw of the next field, which is no text. `prefix` answers `rest`, the input from there on.
+-- error of the next field, which is no text. `prefix` answers `rest`, the input from there on.
 abbrev pub EndsItems : IntType → (prefix : List ℕ → Result (ℤ × ℕ) Refusal) → (index place : ℕ) → (rest : List ℕ)
     → List (List ℕ) → List (Result ℤ Flaw) → Type 0
 EndsItems int prefix index place rest [] last = last ≡ []
@@ -63,7 +64,6 @@ pub record HasItems (int : IntType) (separator : ℕ) (input : List ℕ) : Type 
   pub end : EndsItems int (parse_prefix_answer int true true)
       (length texts) (place_after texts) (drop (place_after texts) input) others last
 
--- `HasItems` holds for every input, with any byte as the separator.
 abbrev pub TextsAndItems : IntType → Type 0
 TextsAndItems int = (separator : ℕ) (input : List ℕ) → HasItems int separator input
 
@@ -87,7 +87,7 @@ pub record IsFirstBad (int : IntType) (separator : ℕ) (input : List ℕ) (inde
       ≡ place_after before + number_len (parse_prefix_answer int true true (drop (place_after before) input))
 
 -- If all items are values, all fields are texts that write them. An error is about the first field
--- that is none.
+-- that is no text.
 pub record ItemsDecide (int : IntType) : Type 0 where
   pub whole : (separator : ℕ) (input : List ℕ) (numbers : List ℤ) → items_of int separator input ≡ map Ok numbers
       → AllZip (TextWrites int true) (fields_of separator input) numbers
@@ -108,8 +108,8 @@ pub record HaveRead (items : List (Result ℤ Flaw)) (numbers : List ℤ) (left 
   pub parts : items ≡ map Ok numbers ++ left
   pub count : length items ≡ length numbers + length left
 
--- How `HaveRead` is kept: at the start, after one value (`more`) or several (`more_values`). With
--- none left all items are numbers; nothing follows an error.
+-- How `HaveRead` is kept: at the start, after one value (`more`) or several (`more_values`). When
+-- no item is left, all are numbers; nothing follows an error.
 pub record ItemsInTurn : Type 0 where
   pub start : (items : List (Result ℤ Flaw)) → HaveRead items [] items
   pub more : (items left after : List (Result ℤ Flaw)) (numbers : List ℤ) (number : ℤ) → HaveRead items numbers left
@@ -124,7 +124,7 @@ pub record ItemsInTurn : Type 0 where
       → HaveRead (items_of int separator input) numbers left → left ≡ Err flaw ∷ after
       → items_of int separator input ≡ map Ok numbers ++ Err flaw ∷ []
 
--- A text writes the number that is its item, or its item is an error about it, and it writes none.
+-- A text writes the number that is its item, or writes no number, and its item is an error about it.
 abbrev pub DecidesText : IntType → List ℕ → Result ℤ BadField → Type 0
 DecidesText int text (Ok number) = TextWrites int true text number
 DecidesText int text (Err bad) = (bad.text ≡ text) × ¬ IsText int text
@@ -158,7 +158,6 @@ StopsAtError (Err flaw ∷ column) (Err bad ∷ fields) =
     (index_of flaw ≡ bad.index) × (bad.place ≤ place_of flaw) × (column ≡ [])
 StopsAtError column fields = ⊥
 
--- `StopsAtError` holds for every input, with any byte as the separator.
 abbrev pub ColumnStopsAtError : IntType → Type 0
 ColumnStopsAtError int = (separator : ℕ) (input : List ℕ) → StopsAtError (items_of int separator input) (field_items int separator input)
 

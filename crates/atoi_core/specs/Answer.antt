@@ -7,7 +7,6 @@ use Rattle.atoi_core.specs.Magnitude.{whole_magnitude, prefix_magnitude}
 use Rattle.atoi_core.specs.IntType.{IntType, class_of, bound_of, limit_of}
 use Rattle.atoi_core.specs.Sign.{sign_of, with_sign}
 
--- Applies `f` to the value of an answer.
 abbrev pub map_answer : {A B : Type 0} → (A → B) → Result A Refusal → Result B Refusal
 map_answer f (Ok value) = Ok (f value)
 map_answer f (Err reason) = Err reason
@@ -43,7 +42,6 @@ text_answer table int skip plus s =
 abbrev pub parse_answer : IntType → (skip plus : Bool) → List ℕ → Result ℤ Refusal
 parse_answer int skip plus s = text_answer decimal_table int skip plus s
 
--- Adds `more` to the count in an answer.
 abbrev pub with_more : ℕ → Result (ℤ × ℕ) Refusal → Result (ℤ × ℕ) Refusal
 with_more more answer = map_answer (λ (found : ℤ × ℕ). (found.0, found.1 + more)) answer
 

@@ -50,7 +50,6 @@ pub record ParseExamples : Type 0 where
       ≡ Err (overflow (codes "1111111111111111"))
   -- With skipping, a narrow prefix has any number of digits.
   pub narrow_prefix_skips : parse_prefix_answer u8_type true false (codes "00000000000000007") ≡ Ok (pos 7, 17)
-  -- Zeros alone spell zero.
   pub zeros_alone : parse_prefix_answer u8_type true false (codes "0000000000000000") ≡ Ok (pos 0, 16)
   -- Zeros are dropped if the block in which they end is full.
   pub overflow_without_zeros : parse_prefix_answer u8_type true false (codes "00000000000000255999") ≡ Err (overflow (codes "255999"))
@@ -65,7 +64,6 @@ pub record ParseExamples : Type 0 where
   pub zeros_skipped : parse_answer u64_type true false (codes "000000000000000000000") ≡ Ok (pos 0)
   -- The largest value of 64 bits is in range.
   pub greatest_u64 : parse_answer u64_type false false (codes "18446744073709551615") ≡ Ok (pos 18446744073709551615)
-  -- The value above it is not.
   pub above_greatest_u64 : parse_answer u64_type false false (codes "18446744073709551616") ≡ Err (overflow (codes "18446744073709551616"))
   -- 20 digits are too many for `i64`, a zero included.
   pub twenty_digits_of_i64 : parse_answer i64_type false false (codes "09223372036854775807") ≡ Err (size 20 (codes "09223372036854775807"))
@@ -75,12 +73,9 @@ pub record ParseExamples : Type 0 where
   -- A negative call's error can hold the magnitude of `T::MIN`.
   pub magnitude_of_least : whole_answer decimal_table i64_type true false (codes "9223372036854775808x")
       ≡ Err (invalid64 9223372036854775808 19 (codes "9223372036854775808x"))
-  -- The smallest value of 64 bits is in range.
   pub least_i64 : whole_answer decimal_table i64_type true false (codes "9223372036854775808") ≡ Ok (negsuc 9223372036854775807)
-  -- The largest value of 128 bits is in range.
   pub greatest_u128 : parse_answer u128_type false false (codes "340282366920938463463374607431768211455")
       ≡ Ok (pos 340282366920938463463374607431768211455)
-  -- The value above it is not.
   pub above_greatest_u128 : parse_answer u128_type false false (codes "340282366920938463463374607431768211456")
       ≡ Err (overflow (codes "340282366920938463463374607431768211456"))
   -- 39 unskipped zeros are few enough for 128 bits.
@@ -90,7 +85,6 @@ pub record ParseExamples : Type 0 where
       ≡ Err (size 40 (codes "00000000000000000000000000000000000000000"))
   -- The count of a prefix includes a plus that is consumed.
   pub plus_counted : parse_prefix_answer i32_type false true (codes "+12a") ≡ Ok (pos 12, 3)
-  -- The count of a prefix also includes a minus.
   pub minus_counted : parse_prefix_answer i32_type false false (codes "-12a") ≡ Ok (negsuc 11, 3)
   -- At most one sign is accepted.
   pub one_sign_alone : parse_answer i8_type false true (codes "+-5") ≡ Err empty

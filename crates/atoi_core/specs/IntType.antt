@@ -32,7 +32,6 @@ pub record IsTypeOf (int : IntType) (bits : ℕ) (signed : Bool) (greatest : ℕ
   pub greatest_is : int.greatest ≡ greatest
   pub sized : IsSized int
 
--- A type's width class: at most 32 bits, 64, or 128.
 abbrev pub class_of : IntType → Class
 class_of int = if nat_le int.bits 32 then narrow else (if int.bits == 64 then wide64 else wide128)
 

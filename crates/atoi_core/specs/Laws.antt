@@ -50,7 +50,6 @@ least_of int = if int.signed then neg_ℤ (pos (int.greatest + 1)) else pos 0
 abbrev pub HasLimitOfWhole : IntType → Bool → Type 0
 HasLimitOfWhole int skip = (skip ≡ true) ⊎ (32 < int.bits)
 
--- `t` is a suffix of `s`.
 abbrev pub IsSuffix : List ℕ → List ℕ → Type 0
 IsSuffix t s = (prefix_bytes : List ℕ) × (s ≡ prefix_bytes ++ t)
 
@@ -164,8 +163,8 @@ PrefixBegins int =
     (form : SignForm) (skip : Bool) (s : List ℕ) (found : ℤ × ℕ)
     → prefix_call int form skip s ≡ Ok found → BeginsWithDigit (sign_in int form s).body
 
--- A prefix's error is `empty` exactly without digits (`none`); any other, with zeros skipped, means
--- that all digits at the start are too large a number (`too_large`, in one way: `one_split`).
+-- A prefix's error is `empty` exactly without digits (`none`). With zeros skipped, any other error
+-- means that all digits at the start are too large a number (`too_large`, in one way: `one_split`).
 pub record NoneOrTooLarge (int : IntType) : Type 0 where
   pub none : (form : SignForm) (skip : Bool) (s : List ℕ) (reason : Refusal) → prefix_call int form skip s ≡ Err reason
       → (reason ≡ empty) ↔ (run_len decimal_table (sign_in int form s).body ≡ 0)

@@ -33,7 +33,7 @@ pub record IsBound (bits limit bound : ℕ) : Type 0 where
   pub fits_64 : bits ≡ 64 → bound < 2 ^ 64
   pub digits : 32 < bits → HasDigits limit bound
 
--- How many leading zeros are skipped: all or none.
+-- How many leading zeros are skipped.
 abbrev pub skipped_zeros : Table → Bool → List ℕ → ℕ
 skipped_zeros table skip body = if skip then zeros table body else 0
 

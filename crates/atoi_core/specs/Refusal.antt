@@ -41,7 +41,7 @@ numbers (invalid64 number index input) = number ∷ index ∷ []
 numbers (invalid128 number index input) = number ∷ index ∷ []
 numbers reason = []
 
--- The slice that a reason holds; `empty` holds none.
+-- The slice that a reason holds.
 abbrev pub input_of : Refusal → List ℕ
 input_of empty = []
 input_of (size length input) = input

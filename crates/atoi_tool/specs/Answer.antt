@@ -58,11 +58,9 @@ abbrev pub item_text : Result ℤ Flaw → List ℕ
 item_text (Ok value) = codes " " ++ signed_decimal value
 item_text (Err flaw) = codes " err " ++ refused_field_text flaw
 
--- The answer to a row about a column.
 abbrev pub column_text : IntType → (separator : ℕ) → List ℕ → List ℕ
 column_text int separator text = codes "col" ++ flat_map item_text (items_of int separator text)
 
--- The answer to a row.
 abbrev pub query_text : Query → List ℕ → List ℕ
 query_text (Number request) text = row_text request text
 query_text (Column integer separator) text = column_text (int_type_of integer) separator text
@@ -71,6 +69,5 @@ query_text (Column integer separator) text = column_text (int_type_of integer) s
 abbrev pub is_good_line : List ℕ → Bool
 is_good_line line = is_some (row_of line)
 
--- The answer to a line.
 abbrev pub line_answer : List ℕ → List ℕ
 line_answer line = option_map_or (λ row. query_text row.0 row.1) (row_of line) (codes "bad row")

@@ -13,13 +13,11 @@ use Rattle.atoi_tool.specs.declared.request.Integer.TheVariants.{U8, I8, U16, I1
 use Rattle.atoi_tool.specs.declared.request.Flags.{Flags}
 use Rattle.atoi_tool.specs.declared.request.Request.{Request}
 
--- The engine that a word names.
 abbrev pub engine_of : List ℕ → Option Engine
 engine_of word =
     if bytes_eq word (codes "w") then Some Words else (if bytes_eq word (codes "l") then Some Lanes
     else None)
 
--- The call that a word names.
 abbrev pub call_of : List ℕ → Option (Sign × Extent)
 call_of word =
     if bytes_eq word (codes "parse") then Some (InText, Whole) else (if bytes_eq word (codes "pos") then Some (Positive, Whole)
@@ -27,7 +25,6 @@ call_of word =
     else (if bytes_eq word (codes "prefix_pos") then Some (Positive, Prefix)
     else (if bytes_eq word (codes "prefix_neg") then Some (Negative, Prefix) else None)))))
 
--- The integer type that a word names.
 abbrev pub integer_of : List ℕ → Option Integer
 integer_of word =
     if bytes_eq word (codes "u8") then Some U8 else (if bytes_eq word (codes "i8") then Some I8

@@ -23,7 +23,7 @@ named_request engine_word call_word integer_word flags_word =
     (λ flags. record { engine = engine; sign = call.0; extent = call.1; integer = integer; flags = flags })
     (flags_of flags_word)) (integer_of integer_word)) (call_of call_word)) (engine_of engine_word)
 
--- What four words ask for, if answered.
+-- What four words ask for, if such a row has an answer.
 abbrev pub request_of : (engine_word call_word integer_word flags_word : List ℕ) → Option Request
 request_of engine_word call_word integer_word flags_word =
     option_and_then (λ request. if is_known request then Some request else None)

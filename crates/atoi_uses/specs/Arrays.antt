@@ -10,7 +10,7 @@ pub data HasTotal : (text : List ℕ) → (total : ℤ) → (rest : List ℕ) �
   more : {text rest : List ℕ} {total others : ℤ} (bytes next : List ℕ) (number : ℤ) → IsJsonInteger i64_type bytes number
       → text ≡ bytes ++ (codes ", " ++ next) → HasTotal next others rest → total ≡ number +ℤ others → HasTotal text total rest
 
--- Such numbers, or none, after `[`.
+-- No number or such numbers, after `[`.
 pub data IsArray : (text : List ℕ) → (total : ℤ) → (rest : List ℕ) → Type 0 where
   empty : {text rest : List ℕ} → text ≡ codes "[]" ++ rest → IsArray text (pos 0) rest
   filled : {text rest : List ℕ} {total : ℤ} (numbers : List ℕ) → text ≡ codes "[" ++ numbers → HasTotal numbers total rest

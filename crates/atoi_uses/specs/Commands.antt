@@ -11,7 +11,6 @@ use Rattle.atoi_uses.specs.declared.commands.CommandError.TheVariants.{UnknownWo
 use Rattle.atoi_uses.specs.declared.commands.Word.{Word}
 use Rattle.atoi_uses.specs.declared.commands.Word.TheVariants.{Set, IncrBy}
 
--- How a word is written.
 abbrev pub word_text : Word → List ℕ
 word_text Set = codes "SET"
 word_text IncrBy = codes "INCRBY"
@@ -33,7 +32,6 @@ IsNoCommand line (BadNumber cause) =
     (word : Word) × ((text : List ℕ)
     × (HasWord line word text × (parse_answer i64_type true true text ≡ Err (refusal_of cause))))
 
--- The text that an error prints.
 abbrev pub error_text : CommandError → List ℕ
 error_text UnknownWord = codes "unknown word"
 error_text (BadNumber cause) = codes "no number after the word: " ++ cause_text (refusal_of cause)

@@ -27,7 +27,6 @@ HasNoTotal separator input (BadField error) =
     IsFirstBad i64_type separator input (index_of (flaw_of error)) (place_of (flaw_of error))
 HasNoTotal separator input (OutOfRange total) = HasTotal separator input total × ¬ FitsSigned w64 total
 
--- The text that an error prints.
 abbrev pub error_text : SignedTotalError → List ℕ
 error_text (BadField error) = flaw_text (flaw_of error)
 error_text (OutOfRange total) = codes "the total " ++ signed_decimal total ++ codes " is out of range"
