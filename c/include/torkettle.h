@@ -2305,8 +2305,8 @@ TK_CONSTEXPR tk_option_u128 tk_append_digit(tk_u128 bound, tk_u128 number, uint8
 }
 
 /*
- * Returns the value of the digits at the start of `s`, and how many there are, unless there is none or their value
- * is above `bound`.
+ * Returns the value of the digits at the start of `s`, and how many there are, unless there is no digit or the
+ * value is above `bound`.
  */
 /* atoi_fast/src/by_digits.rt:46 */
 TK_CONSTEXPR tk_option_pair_u128_size tk_magnitude_by_digits(tk_u128 bound, tk_bytes s)

@@ -2188,7 +2188,7 @@ TK_HINTED tk_window tk_window_not_full(uint32_t len, uint64_t number)
     return tk_new_window(len, 0, number);
 }
 
-/* `value_of` for at most seven digits, or none: it shifts twice, as no shift is by 64 bits. */
+/* `value_of` for zero to seven digits: it shifts twice, as no shift is by 64 bits. */
 /* atoi_fast/src/digits.rt:93 */
 TK_HINTED uint64_t tk_value_below_8(uint64_t word, uint32_t len)
 {
@@ -2212,8 +2212,7 @@ TK_HINTED uint32_t tk_zeroes_of_two(uint64_t first, uint64_t next)
     return zeroes;
 }
 
-/* The window of at least 16 bytes. */
-/* atoi_fast/src/swar.rt:211 */
+/* atoi_fast/src/swar.rt:208 */
 TK_INLINE tk_window tk_long_window(tk_bytes s)
 {
     uint64_t first = tk_load_full(s);
@@ -2246,7 +2245,7 @@ TK_INLINE tk_window tk_window_of_one(tk_bytes s)
     return tk_window_not_full(0, 0);
 }
 
-/* Returns the number that the leading digits of the word spell; there may be none. */
+/* Returns the number that the `len` leading digits of the word spell, 0 if `len` is 0. */
 /* atoi_fast/src/digits.rt:70 */
 TK_HINTED uint64_t tk_value_in_word(uint64_t word, uint32_t len)
 {
@@ -2257,10 +2256,10 @@ TK_HINTED uint64_t tk_value_in_word(uint64_t word, uint32_t len)
 }
 
 /*
- * The window of at most 8 bytes. Fills a slice to eight bytes with zeros before it. Only one byte, the
- * most frequent length, or none has a branch.
+ * The window of at most 8 bytes. Fills a slice to eight bytes with zeros before it. Only the lengths 0
+ * and 1, which is the most frequent, have a branch.
  */
-/* atoi_fast/src/swar.rt:241 */
+/* atoi_fast/src/swar.rt:238 */
 TK_INLINE tk_window tk_window_up_to_8(tk_bytes s)
 {
     if (s.len <= 1) {
@@ -2275,7 +2274,7 @@ TK_INLINE tk_window tk_window_up_to_8(tk_bytes s)
 }
 
 /* The window of 9 to 15 bytes. The last eight overlap the first eight. */
-/* atoi_fast/src/swar.rt:268 */
+/* atoi_fast/src/swar.rt:265 */
 TK_INLINE tk_window tk_window_9_to_15(tk_bytes s)
 {
     uint64_t first = tk_load_full(s);
@@ -2308,7 +2307,7 @@ TK_NOINLINE tk_window tk_swar_window(tk_bytes s)
 
 /*
  * Skips zeros window by window, from a first window that reported `zeroes`. Returns the first
- * window that reports none, and its offset.
+ * window that reports no zeros, and its offset.
  */
 /* atoi_core/src/after_zeros.rt:14 */
 TK_INLINE tk_pair_size_window tk_window_after_zeros_swar(uint32_t zeroes, tk_bytes s)
@@ -2389,7 +2388,7 @@ TK_HINTED uint32_t tk_limit_64(bool is_signed)
     return 20;
 }
 
-/* atoi_fast/src/swar.rt:123 */
+/* atoi_fast/src/swar.rt:122 */
 TK_NOINLINE tk_window tk_swar_without_parsers_window(tk_bytes s)
 {
     return tk_swar_window(s);
@@ -2455,7 +2454,7 @@ TK_INLINE tk_result_pair_u64_size tk_answer_64(uint64_t bound, uint32_t limit, s
 }
 
 /* `prefix_64` with `skip`, after a first window that reported zeros. */
-/* atoi_fast/src/swar.rt:136 */
+/* atoi_fast/src/swar.rt:135 */
 TK_NOINLINE tk_result_pair_u64_size tk_prefix_64_after_zeros(uint64_t bound, uint32_t limit, uint32_t zeroes,
                                                              tk_bytes s)
 {
@@ -2606,7 +2605,6 @@ TK_INLINE tk_result_pair_u64_size tk_answer_after_16(uint64_t bound, uint32_t li
 /* atoi_fast/src/swar.rt:61 */
 TK_NOINLINE tk_result_pair_u64_size tk_swar_prefix_64(uint64_t bound, uint32_t limit, bool skip, tk_bytes s)
 {
-    /* Long slices first: rustc 1.95 then puts no jump before them. */
     if (s.len >= 16) {
         tk_window first = tk_swar_window(s);
         if (skip && first.zeroes > 0) {
@@ -2694,15 +2692,14 @@ TK_INLINE tk_result_pair_u128_size tk_answer_128(tk_u128 bound, size_t skipped, 
 }
 
 /* The answer of `prefix_128` after `skipped` zeros and 32 digits, which spell `high`. */
-/* atoi_fast/src/swar.rt:189 */
+/* atoi_fast/src/swar.rt:187 */
 TK_NOINLINE tk_result_pair_u128_size tk_answer_after_32(tk_u128 bound, size_t skipped, tk_u128 high, tk_bytes s)
 {
     tk_window third = tk_swar_window_8(tk_bytes_from(s, skipped + 32));
     return tk_answer_128(bound, skipped, high, third.len, third.number, s);
 }
 
-/* `prefix_128` with `skip`, after a first window that reported zeros. */
-/* atoi_fast/src/swar.rt:162 */
+/* atoi_fast/src/swar.rt:160 */
 TK_NOINLINE tk_result_pair_u128_size tk_prefix_128_after_zeros(tk_u128 bound, uint32_t zeroes, tk_bytes s)
 {
     tk_pair_size_window found = tk_window_after_zeros_swar_without_parsers(zeroes, s);
@@ -2719,7 +2716,7 @@ TK_NOINLINE tk_result_pair_u128_size tk_prefix_128_after_zeros(tk_u128 bound, ui
     return tk_answer_after_32(bound, at, number, s);
 }
 
-/* atoi_fast/src/swar.rt:84 */
+/* atoi_fast/src/swar.rt:83 */
 TK_NOINLINE tk_result_pair_u128_size tk_swar_prefix_128(tk_u128 bound, bool skip, tk_bytes s)
 {
     if (s.len < 16) {
@@ -2820,8 +2817,7 @@ TK_INLINE tk_result_i8 tk_atoi_core_parse_text_i8(bool skip, bool skip_plus, tk_
     return tk_whole_with_sign_i8(minus, skip, body);
 }
 
-/* `atoi_core::parse_text`, with the same answer. It may make one load more. */
-/* atoi_fast/src/called.rt:17 */
+/* atoi_fast/src/called.rt:16 */
 TK_INLINE tk_result_i8 tk_called_parse_text_i8(bool skip, bool skip_plus, tk_bytes s)
 {
     if (s.len == 1 && '0' <= s.at[0] && s.at[0] <= '9') {
@@ -2878,7 +2874,7 @@ TK_INLINE tk_result_u8 tk_atoi_core_parse_text_u8(bool skip, bool skip_plus, tk_
     return tk_whole_with_sign_u8(minus, skip, body);
 }
 
-/* atoi_fast/src/called.rt:17 */
+/* atoi_fast/src/called.rt:16 */
 TK_INLINE tk_result_u8 tk_called_parse_text_u8(bool skip, bool skip_plus, tk_bytes s)
 {
     if (s.len == 1 && '0' <= s.at[0] && s.at[0] <= '9') {
@@ -2935,7 +2931,7 @@ TK_INLINE tk_result_i16 tk_atoi_core_parse_text_i16(bool skip, bool skip_plus, t
     return tk_whole_with_sign_i16(minus, skip, body);
 }
 
-/* atoi_fast/src/called.rt:17 */
+/* atoi_fast/src/called.rt:16 */
 TK_INLINE tk_result_i16 tk_called_parse_text_i16(bool skip, bool skip_plus, tk_bytes s)
 {
     if (s.len == 1 && '0' <= s.at[0] && s.at[0] <= '9') {
@@ -2992,7 +2988,7 @@ TK_INLINE tk_result_u16 tk_atoi_core_parse_text_u16(bool skip, bool skip_plus, t
     return tk_whole_with_sign_u16(minus, skip, body);
 }
 
-/* atoi_fast/src/called.rt:17 */
+/* atoi_fast/src/called.rt:16 */
 TK_INLINE tk_result_u16 tk_called_parse_text_u16(bool skip, bool skip_plus, tk_bytes s)
 {
     if (s.len == 1 && '0' <= s.at[0] && s.at[0] <= '9') {
@@ -3049,7 +3045,7 @@ TK_INLINE tk_result_i32 tk_atoi_core_parse_text_i32(bool skip, bool skip_plus, t
     return tk_whole_with_sign_i32(minus, skip, body);
 }
 
-/* atoi_fast/src/called.rt:17 */
+/* atoi_fast/src/called.rt:16 */
 TK_INLINE tk_result_i32 tk_called_parse_text_i32(bool skip, bool skip_plus, tk_bytes s)
 {
     if (s.len == 1 && '0' <= s.at[0] && s.at[0] <= '9') {
@@ -3106,7 +3102,7 @@ TK_INLINE tk_result_u32 tk_atoi_core_parse_text_u32(bool skip, bool skip_plus, t
     return tk_whole_with_sign_u32(minus, skip, body);
 }
 
-/* atoi_fast/src/called.rt:17 */
+/* atoi_fast/src/called.rt:16 */
 TK_INLINE tk_result_u32 tk_called_parse_text_u32(bool skip, bool skip_plus, tk_bytes s)
 {
     if (s.len == 1 && '0' <= s.at[0] && s.at[0] <= '9') {
@@ -3164,7 +3160,7 @@ TK_INLINE tk_result_i64 tk_atoi_core_parse_text_i64(bool skip, bool skip_plus, t
     return tk_whole_with_sign_i64(minus, skip, body);
 }
 
-/* atoi_fast/src/called.rt:17 */
+/* atoi_fast/src/called.rt:16 */
 TK_INLINE tk_result_i64 tk_called_parse_text_i64(bool skip, bool skip_plus, tk_bytes s)
 {
     if (s.len == 1 && '0' <= s.at[0] && s.at[0] <= '9') {
@@ -3222,7 +3218,7 @@ TK_INLINE tk_result_u64 tk_atoi_core_parse_text_u64(bool skip, bool skip_plus, t
     return tk_whole_with_sign_u64(minus, skip, body);
 }
 
-/* atoi_fast/src/called.rt:17 */
+/* atoi_fast/src/called.rt:16 */
 TK_INLINE tk_result_u64 tk_called_parse_text_u64(bool skip, bool skip_plus, tk_bytes s)
 {
     if (s.len == 1 && '0' <= s.at[0] && s.at[0] <= '9') {
@@ -3281,7 +3277,7 @@ TK_INLINE tk_result_i128 tk_atoi_core_parse_text_i128(bool skip, bool skip_plus,
     return tk_whole_with_sign_i128(minus, skip, body);
 }
 
-/* atoi_fast/src/called.rt:17 */
+/* atoi_fast/src/called.rt:16 */
 TK_INLINE tk_result_i128 tk_called_parse_text_i128(bool skip, bool skip_plus, tk_bytes s)
 {
     if (s.len == 1 && '0' <= s.at[0] && s.at[0] <= '9') {
@@ -3340,7 +3336,7 @@ TK_INLINE tk_result_u128 tk_atoi_core_parse_text_u128(bool skip, bool skip_plus,
     return tk_whole_with_sign_u128(minus, skip, body);
 }
 
-/* atoi_fast/src/called.rt:17 */
+/* atoi_fast/src/called.rt:16 */
 TK_INLINE tk_result_u128 tk_called_parse_text_u128(bool skip, bool skip_plus, tk_bytes s)
 {
     if (s.len == 1 && '0' <= s.at[0] && s.at[0] <= '9') {
@@ -3364,7 +3360,7 @@ TK_INLINE tk_result_u128 tk_atoi_simd_parse_u128(tk_bytes s, bool skip, bool ski
 
 /*
  * Returns the number at the start of `s` and its length, if that is below 8, or for signed types below 16.
- * For `i64`, also that of up to 19 digits. Others may be `None`, too.
+ * For `i64`, also a number of up to 19 digits. Others may be `None`, too.
  */
 /* atoi_fast/src/short_prefix.rt:17 */
 TK_INLINE tk_option_pair_i8_size tk_short_prefix_i8(tk_bytes s)
@@ -3478,8 +3474,7 @@ TK_INLINE tk_result_pair_i8_size tk_atoi_core_parse_prefix_text_i8(bool skip, bo
     return tk_ok_pair_i8_size(tk_new_pair_i8_size(number, len + (s.len - body.len)));
 }
 
-/* `atoi_core::parse_prefix_text`, with the same answer. It may make one load more. */
-/* atoi_fast/src/called.rt:42 */
+/* atoi_fast/src/called.rt:40 */
 TK_INLINE tk_result_pair_i8_size tk_called_parse_prefix_text_i8(bool skip, bool skip_plus, tk_bytes s)
 {
     if (s.len >= 16) {
@@ -3557,7 +3552,7 @@ TK_INLINE tk_result_pair_u8_size tk_atoi_core_parse_prefix_text_u8(bool skip, bo
     return tk_ok_pair_u8_size(tk_new_pair_u8_size(number, len + (s.len - body.len)));
 }
 
-/* atoi_fast/src/called.rt:42 */
+/* atoi_fast/src/called.rt:40 */
 TK_INLINE tk_result_pair_u8_size tk_called_parse_prefix_text_u8(bool skip, bool skip_plus, tk_bytes s)
 {
     if (s.len >= 16) {
@@ -3618,7 +3613,7 @@ TK_INLINE tk_result_pair_i16_size tk_atoi_core_parse_prefix_text_i16(bool skip, 
     return tk_ok_pair_i16_size(tk_new_pair_i16_size(number, len + (s.len - body.len)));
 }
 
-/* atoi_fast/src/called.rt:42 */
+/* atoi_fast/src/called.rt:40 */
 TK_INLINE tk_result_pair_i16_size tk_called_parse_prefix_text_i16(bool skip, bool skip_plus, tk_bytes s)
 {
     if (s.len >= 16) {
@@ -3696,7 +3691,7 @@ TK_INLINE tk_result_pair_u16_size tk_atoi_core_parse_prefix_text_u16(bool skip, 
     return tk_ok_pair_u16_size(tk_new_pair_u16_size(number, len + (s.len - body.len)));
 }
 
-/* atoi_fast/src/called.rt:42 */
+/* atoi_fast/src/called.rt:40 */
 TK_INLINE tk_result_pair_u16_size tk_called_parse_prefix_text_u16(bool skip, bool skip_plus, tk_bytes s)
 {
     if (s.len >= 16) {
@@ -3757,7 +3752,7 @@ TK_INLINE tk_result_pair_i32_size tk_atoi_core_parse_prefix_text_i32(bool skip, 
     return tk_ok_pair_i32_size(tk_new_pair_i32_size(number, len + (s.len - body.len)));
 }
 
-/* atoi_fast/src/called.rt:42 */
+/* atoi_fast/src/called.rt:40 */
 TK_INLINE tk_result_pair_i32_size tk_called_parse_prefix_text_i32(bool skip, bool skip_plus, tk_bytes s)
 {
     if (s.len >= 16) {
@@ -3835,7 +3830,7 @@ TK_INLINE tk_result_pair_u32_size tk_atoi_core_parse_prefix_text_u32(bool skip, 
     return tk_ok_pair_u32_size(tk_new_pair_u32_size(number, len + (s.len - body.len)));
 }
 
-/* atoi_fast/src/called.rt:42 */
+/* atoi_fast/src/called.rt:40 */
 TK_INLINE tk_result_pair_u32_size tk_called_parse_prefix_text_u32(bool skip, bool skip_plus, tk_bytes s)
 {
     if (s.len >= 16) {
@@ -3897,7 +3892,7 @@ TK_INLINE tk_result_pair_i64_size tk_atoi_core_parse_prefix_text_i64(bool skip, 
     return tk_ok_pair_i64_size(tk_new_pair_i64_size(number, len + (s.len - body.len)));
 }
 
-/* atoi_fast/src/called.rt:42 */
+/* atoi_fast/src/called.rt:40 */
 TK_INLINE tk_result_pair_i64_size tk_called_parse_prefix_text_i64(bool skip, bool skip_plus, tk_bytes s)
 {
     if (s.len >= 16) {
@@ -3976,7 +3971,7 @@ TK_INLINE tk_result_pair_u64_size tk_atoi_core_parse_prefix_text_u64(bool skip, 
     return tk_ok_pair_u64_size(tk_new_pair_u64_size(number, len + (s.len - body.len)));
 }
 
-/* atoi_fast/src/called.rt:42 */
+/* atoi_fast/src/called.rt:40 */
 TK_INLINE tk_result_pair_u64_size tk_called_parse_prefix_text_u64(bool skip, bool skip_plus, tk_bytes s)
 {
     if (s.len >= 16) {
@@ -4039,7 +4034,7 @@ TK_INLINE tk_result_pair_i128_size tk_atoi_core_parse_prefix_text_i128(bool skip
     return tk_ok_pair_i128_size(tk_new_pair_i128_size(number, len + (s.len - body.len)));
 }
 
-/* atoi_fast/src/called.rt:42 */
+/* atoi_fast/src/called.rt:40 */
 TK_INLINE tk_result_pair_i128_size tk_called_parse_prefix_text_i128(bool skip, bool skip_plus, tk_bytes s)
 {
     if (s.len >= 16) {
@@ -4119,7 +4114,7 @@ TK_INLINE tk_result_pair_u128_size tk_atoi_core_parse_prefix_text_u128(bool skip
     return tk_ok_pair_u128_size(tk_new_pair_u128_size(number, len + (s.len - body.len)));
 }
 
-/* atoi_fast/src/called.rt:42 */
+/* atoi_fast/src/called.rt:40 */
 TK_INLINE tk_result_pair_u128_size tk_called_parse_prefix_text_u128(bool skip, bool skip_plus, tk_bytes s)
 {
     if (s.len >= 16) {
@@ -4157,8 +4152,7 @@ TK_INLINE tk_result_i8 tk_atoi_core_whole_pos_i8(bool skip, tk_bytes s)
     return tk_whole_with_sign_i8(false, skip, s);
 }
 
-/* `atoi_core::whole_pos`, with the same answer. It may make one load more. */
-/* atoi_fast/src/called.rt:71 */
+/* atoi_fast/src/called.rt:68 */
 TK_INLINE tk_result_i8 tk_called_whole_pos_i8(bool skip, tk_bytes s)
 {
     if (s.len >= 2 && '0' <= s.at[0] && s.at[0] <= '9' && s.len < 16) {
@@ -4183,7 +4177,7 @@ TK_INLINE tk_result_u8 tk_atoi_core_whole_pos_u8(bool skip, tk_bytes s)
     return tk_whole_with_sign_u8(false, skip, s);
 }
 
-/* atoi_fast/src/called.rt:71 */
+/* atoi_fast/src/called.rt:68 */
 TK_INLINE tk_result_u8 tk_called_whole_pos_u8(bool skip, tk_bytes s)
 {
     if (s.len >= 2 && '0' <= s.at[0] && s.at[0] <= '9' && s.len < 16) {
@@ -4208,7 +4202,7 @@ TK_INLINE tk_result_i16 tk_atoi_core_whole_pos_i16(bool skip, tk_bytes s)
     return tk_whole_with_sign_i16(false, skip, s);
 }
 
-/* atoi_fast/src/called.rt:71 */
+/* atoi_fast/src/called.rt:68 */
 TK_INLINE tk_result_i16 tk_called_whole_pos_i16(bool skip, tk_bytes s)
 {
     if (s.len >= 2 && '0' <= s.at[0] && s.at[0] <= '9' && s.len < 16) {
@@ -4233,7 +4227,7 @@ TK_INLINE tk_result_u16 tk_atoi_core_whole_pos_u16(bool skip, tk_bytes s)
     return tk_whole_with_sign_u16(false, skip, s);
 }
 
-/* atoi_fast/src/called.rt:71 */
+/* atoi_fast/src/called.rt:68 */
 TK_INLINE tk_result_u16 tk_called_whole_pos_u16(bool skip, tk_bytes s)
 {
     if (s.len >= 2 && '0' <= s.at[0] && s.at[0] <= '9' && s.len < 16) {
@@ -4258,7 +4252,7 @@ TK_INLINE tk_result_i32 tk_atoi_core_whole_pos_i32(bool skip, tk_bytes s)
     return tk_whole_with_sign_i32(false, skip, s);
 }
 
-/* atoi_fast/src/called.rt:71 */
+/* atoi_fast/src/called.rt:68 */
 TK_INLINE tk_result_i32 tk_called_whole_pos_i32(bool skip, tk_bytes s)
 {
     if (s.len >= 2 && '0' <= s.at[0] && s.at[0] <= '9' && s.len < 16) {
@@ -4283,7 +4277,7 @@ TK_INLINE tk_result_u32 tk_atoi_core_whole_pos_u32(bool skip, tk_bytes s)
     return tk_whole_with_sign_u32(false, skip, s);
 }
 
-/* atoi_fast/src/called.rt:71 */
+/* atoi_fast/src/called.rt:68 */
 TK_INLINE tk_result_u32 tk_called_whole_pos_u32(bool skip, tk_bytes s)
 {
     if (s.len >= 2 && '0' <= s.at[0] && s.at[0] <= '9' && s.len < 16) {
@@ -4308,7 +4302,7 @@ TK_INLINE tk_result_i64 tk_atoi_core_whole_pos_i64(bool skip, tk_bytes s)
     return tk_whole_with_sign_i64(false, skip, s);
 }
 
-/* atoi_fast/src/called.rt:71 */
+/* atoi_fast/src/called.rt:68 */
 TK_INLINE tk_result_i64 tk_called_whole_pos_i64(bool skip, tk_bytes s)
 {
     if (s.len >= 2 && '0' <= s.at[0] && s.at[0] <= '9' && s.len < 16) {
@@ -4333,7 +4327,7 @@ TK_INLINE tk_result_u64 tk_atoi_core_whole_pos_u64(bool skip, tk_bytes s)
     return tk_whole_with_sign_u64(false, skip, s);
 }
 
-/* atoi_fast/src/called.rt:71 */
+/* atoi_fast/src/called.rt:68 */
 TK_INLINE tk_result_u64 tk_called_whole_pos_u64(bool skip, tk_bytes s)
 {
     if (s.len >= 2 && '0' <= s.at[0] && s.at[0] <= '9' && s.len < 16) {
@@ -4358,7 +4352,7 @@ TK_INLINE tk_result_i128 tk_atoi_core_whole_pos_i128(bool skip, tk_bytes s)
     return tk_whole_with_sign_i128(false, skip, s);
 }
 
-/* atoi_fast/src/called.rt:71 */
+/* atoi_fast/src/called.rt:68 */
 TK_INLINE tk_result_i128 tk_called_whole_pos_i128(bool skip, tk_bytes s)
 {
     if (s.len >= 2 && '0' <= s.at[0] && s.at[0] <= '9' && s.len < 16) {
@@ -4383,7 +4377,7 @@ TK_INLINE tk_result_u128 tk_atoi_core_whole_pos_u128(bool skip, tk_bytes s)
     return tk_whole_with_sign_u128(false, skip, s);
 }
 
-/* atoi_fast/src/called.rt:71 */
+/* atoi_fast/src/called.rt:68 */
 TK_INLINE tk_result_u128 tk_called_whole_pos_u128(bool skip, tk_bytes s)
 {
     if (s.len >= 2 && '0' <= s.at[0] && s.at[0] <= '9' && s.len < 16) {
@@ -4436,8 +4430,7 @@ TK_INLINE tk_result_pair_i8_size tk_atoi_core_prefix_pos_i8(bool skip, tk_bytes 
     return tk_prefix_with_sign_i8(false, skip, s);
 }
 
-/* `atoi_core::prefix_pos`, with the same answer. It may make one load more. */
-/* atoi_fast/src/called.rt:94 */
+/* atoi_fast/src/called.rt:90 */
 TK_NOINLINE tk_result_pair_i8_size tk_called_prefix_pos_i8(bool skip, tk_bytes s)
 {
     if (s.len >= 1 && '0' <= s.at[0] && s.at[0] <= '9' && s.len >= 16) {
@@ -4468,7 +4461,7 @@ TK_INLINE tk_result_pair_u8_size tk_atoi_core_prefix_pos_u8(bool skip, tk_bytes 
     return tk_prefix_with_sign_u8(false, skip, s);
 }
 
-/* atoi_fast/src/called.rt:94 */
+/* atoi_fast/src/called.rt:90 */
 TK_NOINLINE tk_result_pair_u8_size tk_called_prefix_pos_u8(bool skip, tk_bytes s)
 {
     if (s.len >= 1 && '0' <= s.at[0] && s.at[0] <= '9' && s.len >= 16) {
@@ -4516,7 +4509,7 @@ TK_INLINE tk_result_pair_i16_size tk_atoi_core_prefix_pos_i16(bool skip, tk_byte
     return tk_prefix_with_sign_i16(false, skip, s);
 }
 
-/* atoi_fast/src/called.rt:94 */
+/* atoi_fast/src/called.rt:90 */
 TK_NOINLINE tk_result_pair_i16_size tk_called_prefix_pos_i16(bool skip, tk_bytes s)
 {
     if (s.len >= 1 && '0' <= s.at[0] && s.at[0] <= '9' && s.len >= 16) {
@@ -4547,7 +4540,7 @@ TK_INLINE tk_result_pair_u16_size tk_atoi_core_prefix_pos_u16(bool skip, tk_byte
     return tk_prefix_with_sign_u16(false, skip, s);
 }
 
-/* atoi_fast/src/called.rt:94 */
+/* atoi_fast/src/called.rt:90 */
 TK_NOINLINE tk_result_pair_u16_size tk_called_prefix_pos_u16(bool skip, tk_bytes s)
 {
     if (s.len >= 1 && '0' <= s.at[0] && s.at[0] <= '9' && s.len >= 16) {
@@ -4595,7 +4588,7 @@ TK_INLINE tk_result_pair_i32_size tk_atoi_core_prefix_pos_i32(bool skip, tk_byte
     return tk_prefix_with_sign_i32(false, skip, s);
 }
 
-/* atoi_fast/src/called.rt:94 */
+/* atoi_fast/src/called.rt:90 */
 TK_INLINE tk_result_pair_i32_size tk_called_prefix_pos_i32(bool skip, tk_bytes s)
 {
     if (s.len >= 1 && '0' <= s.at[0] && s.at[0] <= '9' && s.len >= 16) {
@@ -4626,7 +4619,7 @@ TK_INLINE tk_result_pair_u32_size tk_atoi_core_prefix_pos_u32(bool skip, tk_byte
     return tk_prefix_with_sign_u32(false, skip, s);
 }
 
-/* atoi_fast/src/called.rt:94 */
+/* atoi_fast/src/called.rt:90 */
 TK_INLINE tk_result_pair_u32_size tk_called_prefix_pos_u32(bool skip, tk_bytes s)
 {
     if (s.len >= 1 && '0' <= s.at[0] && s.at[0] <= '9' && s.len >= 16) {
@@ -4674,7 +4667,7 @@ TK_INLINE tk_result_pair_i64_size tk_atoi_core_prefix_pos_i64(bool skip, tk_byte
     return tk_prefix_with_sign_i64(false, skip, s);
 }
 
-/* atoi_fast/src/called.rt:94 */
+/* atoi_fast/src/called.rt:90 */
 TK_INLINE tk_result_pair_i64_size tk_called_prefix_pos_i64(bool skip, tk_bytes s)
 {
     if (s.len >= 1 && '0' <= s.at[0] && s.at[0] <= '9' && s.len >= 16) {
@@ -4705,7 +4698,7 @@ TK_INLINE tk_result_pair_u64_size tk_atoi_core_prefix_pos_u64(bool skip, tk_byte
     return tk_prefix_with_sign_u64(false, skip, s);
 }
 
-/* atoi_fast/src/called.rt:94 */
+/* atoi_fast/src/called.rt:90 */
 TK_INLINE tk_result_pair_u64_size tk_called_prefix_pos_u64(bool skip, tk_bytes s)
 {
     if (s.len >= 1 && '0' <= s.at[0] && s.at[0] <= '9' && s.len >= 16) {
@@ -4753,7 +4746,7 @@ TK_INLINE tk_result_pair_i128_size tk_atoi_core_prefix_pos_i128(bool skip, tk_by
     return tk_prefix_with_sign_i128(false, skip, s);
 }
 
-/* atoi_fast/src/called.rt:94 */
+/* atoi_fast/src/called.rt:90 */
 TK_NOINLINE tk_result_pair_i128_size tk_called_prefix_pos_i128(bool skip, tk_bytes s)
 {
     if (s.len >= 1 && '0' <= s.at[0] && s.at[0] <= '9' && s.len >= 16) {
@@ -4784,7 +4777,7 @@ TK_INLINE tk_result_pair_u128_size tk_atoi_core_prefix_pos_u128(bool skip, tk_by
     return tk_prefix_with_sign_u128(false, skip, s);
 }
 
-/* atoi_fast/src/called.rt:94 */
+/* atoi_fast/src/called.rt:90 */
 TK_NOINLINE tk_result_pair_u128_size tk_called_prefix_pos_u128(bool skip, tk_bytes s)
 {
     if (s.len >= 1 && '0' <= s.at[0] && s.at[0] <= '9' && s.len >= 16) {
@@ -4807,7 +4800,7 @@ TK_INLINE tk_result_pair_u128_size tk_atoi_simd_parse_prefix_pos_u128(tk_bytes s
  * Writes `bytes` into `out` from offset `at` on. Each `put_` function returns the offset after what it
  * writes.
  */
-/* atoi_core/src/text.rt:117 */
+/* atoi_core/src/text.rt:115 */
 TK_HINTED size_t tk_put_bytes(tk_bytes bytes, tk_room_u8 out, size_t at)
 {
     size_t end = at + bytes.len;
@@ -4824,7 +4817,7 @@ TK_HINTED size_t tk_put_bytes(tk_bytes bytes, tk_room_u8 out, size_t at)
  * A long division in base 2^32. On most processors, a 128-bit division calls a function that a library
  * without std cannot link.
  */
-/* atoi_core/src/text.rt:147 */
+/* atoi_core/src/text.rt:145 */
 TK_HINTED tk_pair_u128_u8 tk_divide_by_ten(tk_u128 value)
 {
     uint64_t high = tk_u128_low(tk_u128_shift_right(value, 64));
@@ -4836,7 +4829,7 @@ TK_HINTED tk_pair_u128_u8 tk_divide_by_ten(tk_u128 value)
     return tk_new_pair_u128_u8(quotient, TK_CAST(uint8_t, last % 10));
 }
 
-/* atoi_core/src/text.rt:128 */
+/* atoi_core/src/text.rt:126 */
 TK_NOINLINE size_t tk_put_decimal(tk_u128 value, tk_room_u8 out, size_t at)
 {
     tk_pair_u128_u8 found = tk_divide_by_ten(value);
@@ -4853,7 +4846,7 @@ TK_HINTED tk_bytes tk_shown_front(tk_bytes input)
     return tk_bytes_to(input, tk_size_min(TK_SHOWN_BYTES, input.len));
 }
 
-/* atoi_core/src/text.rt:173 */
+/* atoi_core/src/text.rt:171 */
 TK_HINTED uint8_t tk_hex_digit(uint8_t digit)
 {
     if (digit < 10) {
@@ -4862,7 +4855,7 @@ TK_HINTED uint8_t tk_hex_digit(uint8_t digit)
     return TK_CAST(uint8_t, 'A' + TK_CAST(uint8_t, digit - 10));
 }
 
-/* atoi_core/src/text.rt:160 */
+/* atoi_core/src/text.rt:158 */
 TK_HINTED size_t tk_put_hex(uint8_t byte, tk_room_u8 out, size_t at)
 {
     uint8_t last = tk_hex_digit(TK_CAST(uint8_t, byte % 16));
@@ -4876,7 +4869,7 @@ TK_HINTED size_t tk_put_hex(uint8_t byte, tk_room_u8 out, size_t at)
     return tk_put_bytes(tk_bytes_of(bytes_2, 1), out, end);
 }
 
-/* atoi_core/src/text.rt:185 */
+/* atoi_core/src/text.rt:183 */
 TK_HINTED size_t tk_put_hex_list(tk_bytes bytes, tk_room_u8 out, size_t at)
 {
     if (bytes.len < 1) {
@@ -4895,8 +4888,7 @@ TK_HINTED size_t tk_put_hex_list(tk_bytes bytes, tk_room_u8 out, size_t at)
     return end;
 }
 
-/* Writes the shown bytes of `input` in brackets. */
-/* atoi_core/src/text.rt:81 */
+/* atoi_core/src/text.rt:80 */
 TK_HINTED size_t tk_put_input(tk_bytes input, tk_room_u8 out, size_t at)
 {
     size_t end = tk_put_bytes(TK_TEXT("["), out, at);
@@ -4904,8 +4896,7 @@ TK_HINTED size_t tk_put_input(tk_bytes input, tk_room_u8 out, size_t at)
     return tk_put_bytes(TK_TEXT("]"), out, end_2);
 }
 
-/* Writes what the texts of `Invalid64` and `Invalid128` start with. */
-/* atoi_core/src/text.rt:93 */
+/* atoi_core/src/text.rt:91 */
 TK_HINTED size_t tk_put_invalid(tk_u128 number, size_t index, uint8_t *out)
 {
     size_t end = tk_put_bytes(TK_TEXT("atoi_simd invalid at index: "), tk_room_u8_of(out, 400), 0);
@@ -5657,11 +5648,8 @@ TK_HINTED tk_option_pair_u128_bytes tk_json_integer_u128(tk_bytes text)
     return tk_some_pair_u128_bytes(tk_new_pair_u128_bytes(number, rest));
 }
 
-/*
- * The fields of `input`, with a separator between them. One more may follow the last field
- * (see the [guide](crate::guide#read-columns-and-lines)).
- */
-/* atoi_column/src/fields.rt:87 */
+/* The fields of `input`, with a separator between them. One more may follow the last field. */
+/* atoi_column/src/fields.rt:86 */
 TK_HINTED tk_fields tk_fields_new(tk_bytes input, uint8_t separator)
 {
     return tk_new_fields(input, separator, false, 0, input.len);
@@ -5669,9 +5657,9 @@ TK_HINTED tk_fields tk_fields_new(tk_bytes input, uint8_t separator)
 
 /*
  * The lines of `input`, as `str::lines` splits them: a line ends with `\n` or `\r\n`, which are
- * no part of it (see the [guide](crate::guide#read-columns-and-lines)).
+ * no part of it.
  */
-/* atoi_column/src/fields.rt:118 */
+/* atoi_column/src/fields.rt:117 */
 TK_HINTED tk_fields tk_fields_lines(tk_bytes input)
 {
     return tk_new_fields(input, '\n', true, 0, input.len);
@@ -5682,14 +5670,14 @@ TK_HINTED tk_fields tk_fields_lines(tk_bytes input)
  * the number of all fields, and the offset at which the input ends. To look for an item, call
  * `Iterator::position` by this name (see the [guide](crate::guide#read-files)).
  */
-/* atoi_column/src/fields.rt:178 */
+/* atoi_column/src/fields.rt:177 */
 TK_HINTED tk_pair_size_size tk_fields_position(tk_fields self)
 {
     return tk_new_pair_size_size(self.index, self.end - self.rest.len);
 }
 
 /* Returns the number of a first field of one byte, and what follows its separator. */
-/* atoi_column/src/fields.rt:279 */
+/* atoi_column/src/fields.rt:277 */
 TK_INLINE tk_option_pair_i8_bytes tk_one_digit_field_i8(tk_bytes rest, uint8_t separator)
 {
     if (rest.len >= 2 && (rest.at[1] == separator && tk_u8_is_digit(rest.at[0]))) {
@@ -5705,14 +5693,14 @@ TK_INLINE tk_option_pair_i8_bytes tk_one_digit_field_i8(tk_bytes rest, uint8_t s
 }
 
 /* Like [`parse_prefix`], but accepts no sign. */
-/* atoi_simd/src/functions.rt:148 */
+/* atoi_simd/src/functions.rt:147 */
 TK_INLINE tk_result_pair_i8_size tk_parse_prefix_pos_i8(bool skip_zeroes, tk_bytes s)
 {
     return tk_atoi_simd_parse_prefix_pos_i8(s, skip_zeroes);
 }
 
 /* `parse_prefix` without a plus. Unless some numbers `have_minus`, a first digit says that there is no sign. */
-/* atoi_column/src/fields.rt:263 */
+/* atoi_column/src/fields.rt:261 */
 TK_INLINE tk_result_pair_i8_size tk_first_number_i8(tk_bytes rest, bool have_minus)
 {
     if (rest.len >= 1 && '0' <= rest.at[0] && rest.at[0] <= '9' && !have_minus) {
@@ -5722,7 +5710,7 @@ TK_INLINE tk_result_pair_i8_size tk_first_number_i8(tk_bytes rest, bool have_min
 }
 
 /* Returns what follows a field that ends before `tail`, or `None` if no field does. */
-/* atoi_column/src/fields.rt:297 */
+/* atoi_column/src/fields.rt:295 */
 TK_INLINE tk_option_bytes tk_after_field(tk_bytes tail, uint8_t separator, bool is_lines)
 {
     if (tail.len == 0) {
@@ -5743,7 +5731,7 @@ TK_INLINE tk_option_bytes tk_after_field(tk_bytes tail, uint8_t separator, bool 
  * Returns the value of the first field of `rest`, and what follows its separator, if the field is a
  * number without a plus.
  */
-/* atoi_column/src/fields.rt:236 */
+/* atoi_column/src/fields.rt:234 */
 TK_INLINE tk_option_pair_i8_bytes tk_accepted_field_i8(tk_bytes rest, uint8_t separator, bool is_lines, tk_guess guess)
 {
     if (guess.mostly_one_digit) {
@@ -5768,8 +5756,7 @@ TK_INLINE tk_option_pair_i8_bytes tk_accepted_field_i8(tk_bytes rest, uint8_t se
     return tk_some_pair_i8_bytes(tk_new_pair_i8_bytes(value, following));
 }
 
-/* Returns the length of the first field of `rest`. */
-/* atoi_column/src/fields.rt:354 */
+/* atoi_column/src/fields.rt:350 */
 TK_HINTED size_t tk_field_len(tk_bytes rest, uint8_t separator)
 {
     size_t count = 0;
@@ -5786,7 +5773,7 @@ TK_HINTED size_t tk_field_len(tk_bytes rest, uint8_t separator)
 }
 
 /* Returns the text of a field that a separator ends. */
-/* atoi_column/src/fields.rt:361 */
+/* atoi_column/src/fields.rt:357 */
 TK_HINTED tk_bytes tk_text_of(tk_bytes field, bool is_lines)
 {
     if (field.len >= 1 && field.at[field.len - 1] == '\r' && is_lines) {
@@ -5796,8 +5783,7 @@ TK_HINTED tk_bytes tk_text_of(tk_bytes field, bool is_lines)
     return field;
 }
 
-/* Returns the text of the first field of `rest`, and what follows its separator. */
-/* atoi_column/src/fields.rt:342 */
+/* atoi_column/src/fields.rt:339 */
 TK_HINTED tk_pair_bytes_bytes tk_first_field(tk_bytes rest, uint8_t separator, bool is_lines)
 {
     size_t at = tk_field_len(rest, separator);
@@ -5814,7 +5800,7 @@ TK_HINTED tk_pair_bytes_bytes tk_first_field(tk_bytes rest, uint8_t separator, b
  * Returns the item of the first field of `rest`, which may begin with a plus, and what follows its
  * separator.
  */
-/* atoi_column/src/fields.rt:313 */
+/* atoi_column/src/fields.rt:311 */
 TK_COLD tk_pair_result_i8_field_error_bytes tk_read_field_i8(tk_bytes rest, uint8_t separator, bool is_lines,
                                                              size_t index, size_t place)
 {
@@ -5831,7 +5817,7 @@ TK_COLD tk_pair_result_i8_field_error_bytes tk_read_field_i8(tk_bytes rest, uint
     return tk_new_pair_result_i8_field_error_bytes(tk_err_i8_field_error(error), following);
 }
 
-/* atoi_column/src/fields.rt:193 */
+/* atoi_column/src/fields.rt:192 */
 TK_INLINE tk_option_result_i8_field_error tk_fields_next_i8(tk_fields *self)
 {
     tk_bytes rest = self->rest;
@@ -5855,7 +5841,7 @@ TK_INLINE tk_option_result_i8_field_error tk_fields_next_i8(tk_fields *self)
     return tk_some_result_i8_field_error(item);
 }
 
-/* atoi_column/src/fields.rt:279 */
+/* atoi_column/src/fields.rt:277 */
 TK_INLINE tk_option_pair_u8_bytes tk_one_digit_field_u8(tk_bytes rest, uint8_t separator)
 {
     if (rest.len >= 2 && (rest.at[1] == separator && tk_u8_is_digit(rest.at[0]))) {
@@ -5870,20 +5856,20 @@ TK_INLINE tk_option_pair_u8_bytes tk_one_digit_field_u8(tk_bytes rest, uint8_t s
     return tk_none_pair_u8_bytes();
 }
 
-/* atoi_simd/src/functions.rt:148 */
+/* atoi_simd/src/functions.rt:147 */
 TK_INLINE tk_result_pair_u8_size tk_parse_prefix_pos_u8(bool skip_zeroes, tk_bytes s)
 {
     return tk_atoi_simd_parse_prefix_pos_u8(s, skip_zeroes);
 }
 
-/* atoi_column/src/fields.rt:263 */
+/* atoi_column/src/fields.rt:261 */
 TK_INLINE tk_result_pair_u8_size tk_first_number_u8(tk_bytes rest, bool have_minus)
 {
     (void)have_minus;
     return tk_parse_prefix_pos_u8(true, rest);
 }
 
-/* atoi_column/src/fields.rt:236 */
+/* atoi_column/src/fields.rt:234 */
 TK_INLINE tk_option_pair_u8_bytes tk_accepted_field_u8(tk_bytes rest, uint8_t separator, bool is_lines, tk_guess guess)
 {
     if (guess.mostly_one_digit) {
@@ -5908,7 +5894,7 @@ TK_INLINE tk_option_pair_u8_bytes tk_accepted_field_u8(tk_bytes rest, uint8_t se
     return tk_some_pair_u8_bytes(tk_new_pair_u8_bytes(value, following));
 }
 
-/* atoi_column/src/fields.rt:313 */
+/* atoi_column/src/fields.rt:311 */
 TK_COLD tk_pair_result_u8_field_error_bytes tk_read_field_u8(tk_bytes rest, uint8_t separator, bool is_lines,
                                                              size_t index, size_t place)
 {
@@ -5925,7 +5911,7 @@ TK_COLD tk_pair_result_u8_field_error_bytes tk_read_field_u8(tk_bytes rest, uint
     return tk_new_pair_result_u8_field_error_bytes(tk_err_u8_field_error(error), following);
 }
 
-/* atoi_column/src/fields.rt:193 */
+/* atoi_column/src/fields.rt:192 */
 TK_INLINE tk_option_result_u8_field_error tk_fields_next_u8(tk_fields *self)
 {
     tk_bytes rest = self->rest;
@@ -5949,7 +5935,7 @@ TK_INLINE tk_option_result_u8_field_error tk_fields_next_u8(tk_fields *self)
     return tk_some_result_u8_field_error(item);
 }
 
-/* atoi_column/src/fields.rt:279 */
+/* atoi_column/src/fields.rt:277 */
 TK_INLINE tk_option_pair_i16_bytes tk_one_digit_field_i16(tk_bytes rest, uint8_t separator)
 {
     if (rest.len >= 2 && (rest.at[1] == separator && tk_u8_is_digit(rest.at[0]))) {
@@ -5964,13 +5950,13 @@ TK_INLINE tk_option_pair_i16_bytes tk_one_digit_field_i16(tk_bytes rest, uint8_t
     return tk_none_pair_i16_bytes();
 }
 
-/* atoi_simd/src/functions.rt:148 */
+/* atoi_simd/src/functions.rt:147 */
 TK_INLINE tk_result_pair_i16_size tk_parse_prefix_pos_i16(bool skip_zeroes, tk_bytes s)
 {
     return tk_atoi_simd_parse_prefix_pos_i16(s, skip_zeroes);
 }
 
-/* atoi_column/src/fields.rt:263 */
+/* atoi_column/src/fields.rt:261 */
 TK_INLINE tk_result_pair_i16_size tk_first_number_i16(tk_bytes rest, bool have_minus)
 {
     if (rest.len >= 1 && '0' <= rest.at[0] && rest.at[0] <= '9' && !have_minus) {
@@ -5979,7 +5965,7 @@ TK_INLINE tk_result_pair_i16_size tk_first_number_i16(tk_bytes rest, bool have_m
     return tk_parse_prefix_i16(true, false, rest);
 }
 
-/* atoi_column/src/fields.rt:236 */
+/* atoi_column/src/fields.rt:234 */
 TK_INLINE tk_option_pair_i16_bytes tk_accepted_field_i16(tk_bytes rest, uint8_t separator, bool is_lines,
                                                          tk_guess guess)
 {
@@ -6005,7 +5991,7 @@ TK_INLINE tk_option_pair_i16_bytes tk_accepted_field_i16(tk_bytes rest, uint8_t 
     return tk_some_pair_i16_bytes(tk_new_pair_i16_bytes(value, following));
 }
 
-/* atoi_column/src/fields.rt:313 */
+/* atoi_column/src/fields.rt:311 */
 TK_COLD tk_pair_result_i16_field_error_bytes tk_read_field_i16(tk_bytes rest, uint8_t separator, bool is_lines,
                                                                size_t index, size_t place)
 {
@@ -6022,7 +6008,7 @@ TK_COLD tk_pair_result_i16_field_error_bytes tk_read_field_i16(tk_bytes rest, ui
     return tk_new_pair_result_i16_field_error_bytes(tk_err_i16_field_error(error), following);
 }
 
-/* atoi_column/src/fields.rt:193 */
+/* atoi_column/src/fields.rt:192 */
 TK_INLINE tk_option_result_i16_field_error tk_fields_next_i16(tk_fields *self)
 {
     tk_bytes rest = self->rest;
@@ -6047,7 +6033,7 @@ TK_INLINE tk_option_result_i16_field_error tk_fields_next_i16(tk_fields *self)
     return tk_some_result_i16_field_error(item);
 }
 
-/* atoi_column/src/fields.rt:279 */
+/* atoi_column/src/fields.rt:277 */
 TK_INLINE tk_option_pair_u16_bytes tk_one_digit_field_u16(tk_bytes rest, uint8_t separator)
 {
     if (rest.len >= 2 && (rest.at[1] == separator && tk_u8_is_digit(rest.at[0]))) {
@@ -6062,20 +6048,20 @@ TK_INLINE tk_option_pair_u16_bytes tk_one_digit_field_u16(tk_bytes rest, uint8_t
     return tk_none_pair_u16_bytes();
 }
 
-/* atoi_simd/src/functions.rt:148 */
+/* atoi_simd/src/functions.rt:147 */
 TK_INLINE tk_result_pair_u16_size tk_parse_prefix_pos_u16(bool skip_zeroes, tk_bytes s)
 {
     return tk_atoi_simd_parse_prefix_pos_u16(s, skip_zeroes);
 }
 
-/* atoi_column/src/fields.rt:263 */
+/* atoi_column/src/fields.rt:261 */
 TK_INLINE tk_result_pair_u16_size tk_first_number_u16(tk_bytes rest, bool have_minus)
 {
     (void)have_minus;
     return tk_parse_prefix_pos_u16(true, rest);
 }
 
-/* atoi_column/src/fields.rt:236 */
+/* atoi_column/src/fields.rt:234 */
 TK_INLINE tk_option_pair_u16_bytes tk_accepted_field_u16(tk_bytes rest, uint8_t separator, bool is_lines,
                                                          tk_guess guess)
 {
@@ -6101,7 +6087,7 @@ TK_INLINE tk_option_pair_u16_bytes tk_accepted_field_u16(tk_bytes rest, uint8_t 
     return tk_some_pair_u16_bytes(tk_new_pair_u16_bytes(value, following));
 }
 
-/* atoi_column/src/fields.rt:313 */
+/* atoi_column/src/fields.rt:311 */
 TK_COLD tk_pair_result_u16_field_error_bytes tk_read_field_u16(tk_bytes rest, uint8_t separator, bool is_lines,
                                                                size_t index, size_t place)
 {
@@ -6118,7 +6104,7 @@ TK_COLD tk_pair_result_u16_field_error_bytes tk_read_field_u16(tk_bytes rest, ui
     return tk_new_pair_result_u16_field_error_bytes(tk_err_u16_field_error(error), following);
 }
 
-/* atoi_column/src/fields.rt:193 */
+/* atoi_column/src/fields.rt:192 */
 TK_INLINE tk_option_result_u16_field_error tk_fields_next_u16(tk_fields *self)
 {
     tk_bytes rest = self->rest;
@@ -6143,7 +6129,7 @@ TK_INLINE tk_option_result_u16_field_error tk_fields_next_u16(tk_fields *self)
     return tk_some_result_u16_field_error(item);
 }
 
-/* atoi_column/src/fields.rt:279 */
+/* atoi_column/src/fields.rt:277 */
 TK_INLINE tk_option_pair_i32_bytes tk_one_digit_field_i32(tk_bytes rest, uint8_t separator)
 {
     if (rest.len >= 2 && (rest.at[1] == separator && tk_u8_is_digit(rest.at[0]))) {
@@ -6158,13 +6144,13 @@ TK_INLINE tk_option_pair_i32_bytes tk_one_digit_field_i32(tk_bytes rest, uint8_t
     return tk_none_pair_i32_bytes();
 }
 
-/* atoi_simd/src/functions.rt:148 */
+/* atoi_simd/src/functions.rt:147 */
 TK_INLINE tk_result_pair_i32_size tk_parse_prefix_pos_i32(bool skip_zeroes, tk_bytes s)
 {
     return tk_atoi_simd_parse_prefix_pos_i32(s, skip_zeroes);
 }
 
-/* atoi_column/src/fields.rt:263 */
+/* atoi_column/src/fields.rt:261 */
 TK_INLINE tk_result_pair_i32_size tk_first_number_i32(tk_bytes rest, bool have_minus)
 {
     if (rest.len >= 1 && '0' <= rest.at[0] && rest.at[0] <= '9' && !have_minus) {
@@ -6173,7 +6159,7 @@ TK_INLINE tk_result_pair_i32_size tk_first_number_i32(tk_bytes rest, bool have_m
     return tk_parse_prefix_i32(true, false, rest);
 }
 
-/* atoi_column/src/fields.rt:236 */
+/* atoi_column/src/fields.rt:234 */
 TK_INLINE tk_option_pair_i32_bytes tk_accepted_field_i32(tk_bytes rest, uint8_t separator, bool is_lines,
                                                          tk_guess guess)
 {
@@ -6199,7 +6185,7 @@ TK_INLINE tk_option_pair_i32_bytes tk_accepted_field_i32(tk_bytes rest, uint8_t 
     return tk_some_pair_i32_bytes(tk_new_pair_i32_bytes(value, following));
 }
 
-/* atoi_column/src/fields.rt:313 */
+/* atoi_column/src/fields.rt:311 */
 TK_COLD tk_pair_result_i32_field_error_bytes tk_read_field_i32(tk_bytes rest, uint8_t separator, bool is_lines,
                                                                size_t index, size_t place)
 {
@@ -6216,7 +6202,7 @@ TK_COLD tk_pair_result_i32_field_error_bytes tk_read_field_i32(tk_bytes rest, ui
     return tk_new_pair_result_i32_field_error_bytes(tk_err_i32_field_error(error), following);
 }
 
-/* atoi_column/src/fields.rt:193 */
+/* atoi_column/src/fields.rt:192 */
 TK_INLINE tk_option_result_i32_field_error tk_fields_next_i32(tk_fields *self)
 {
     tk_bytes rest = self->rest;
@@ -6241,7 +6227,7 @@ TK_INLINE tk_option_result_i32_field_error tk_fields_next_i32(tk_fields *self)
     return tk_some_result_i32_field_error(item);
 }
 
-/* atoi_column/src/fields.rt:279 */
+/* atoi_column/src/fields.rt:277 */
 TK_INLINE tk_option_pair_u32_bytes tk_one_digit_field_u32(tk_bytes rest, uint8_t separator)
 {
     if (rest.len >= 2 && (rest.at[1] == separator && tk_u8_is_digit(rest.at[0]))) {
@@ -6256,20 +6242,20 @@ TK_INLINE tk_option_pair_u32_bytes tk_one_digit_field_u32(tk_bytes rest, uint8_t
     return tk_none_pair_u32_bytes();
 }
 
-/* atoi_simd/src/functions.rt:148 */
+/* atoi_simd/src/functions.rt:147 */
 TK_INLINE tk_result_pair_u32_size tk_parse_prefix_pos_u32(bool skip_zeroes, tk_bytes s)
 {
     return tk_atoi_simd_parse_prefix_pos_u32(s, skip_zeroes);
 }
 
-/* atoi_column/src/fields.rt:263 */
+/* atoi_column/src/fields.rt:261 */
 TK_INLINE tk_result_pair_u32_size tk_first_number_u32(tk_bytes rest, bool have_minus)
 {
     (void)have_minus;
     return tk_parse_prefix_pos_u32(true, rest);
 }
 
-/* atoi_column/src/fields.rt:236 */
+/* atoi_column/src/fields.rt:234 */
 TK_INLINE tk_option_pair_u32_bytes tk_accepted_field_u32(tk_bytes rest, uint8_t separator, bool is_lines,
                                                          tk_guess guess)
 {
@@ -6295,7 +6281,7 @@ TK_INLINE tk_option_pair_u32_bytes tk_accepted_field_u32(tk_bytes rest, uint8_t 
     return tk_some_pair_u32_bytes(tk_new_pair_u32_bytes(value, following));
 }
 
-/* atoi_column/src/fields.rt:313 */
+/* atoi_column/src/fields.rt:311 */
 TK_COLD tk_pair_result_u32_field_error_bytes tk_read_field_u32(tk_bytes rest, uint8_t separator, bool is_lines,
                                                                size_t index, size_t place)
 {
@@ -6312,7 +6298,7 @@ TK_COLD tk_pair_result_u32_field_error_bytes tk_read_field_u32(tk_bytes rest, ui
     return tk_new_pair_result_u32_field_error_bytes(tk_err_u32_field_error(error), following);
 }
 
-/* atoi_column/src/fields.rt:193 */
+/* atoi_column/src/fields.rt:192 */
 TK_INLINE tk_option_result_u32_field_error tk_fields_next_u32(tk_fields *self)
 {
     tk_bytes rest = self->rest;
@@ -6337,7 +6323,7 @@ TK_INLINE tk_option_result_u32_field_error tk_fields_next_u32(tk_fields *self)
     return tk_some_result_u32_field_error(item);
 }
 
-/* atoi_column/src/fields.rt:279 */
+/* atoi_column/src/fields.rt:277 */
 TK_INLINE tk_option_pair_i64_bytes tk_one_digit_field_i64(tk_bytes rest, uint8_t separator)
 {
     if (rest.len >= 2 && (rest.at[1] == separator && tk_u8_is_digit(rest.at[0]))) {
@@ -6352,13 +6338,13 @@ TK_INLINE tk_option_pair_i64_bytes tk_one_digit_field_i64(tk_bytes rest, uint8_t
     return tk_none_pair_i64_bytes();
 }
 
-/* atoi_simd/src/functions.rt:148 */
+/* atoi_simd/src/functions.rt:147 */
 TK_INLINE tk_result_pair_i64_size tk_parse_prefix_pos_i64(bool skip_zeroes, tk_bytes s)
 {
     return tk_atoi_simd_parse_prefix_pos_i64(s, skip_zeroes);
 }
 
-/* atoi_column/src/fields.rt:263 */
+/* atoi_column/src/fields.rt:261 */
 TK_INLINE tk_result_pair_i64_size tk_first_number_i64(tk_bytes rest, bool have_minus)
 {
     if (rest.len >= 1 && '0' <= rest.at[0] && rest.at[0] <= '9' && !have_minus) {
@@ -6367,7 +6353,7 @@ TK_INLINE tk_result_pair_i64_size tk_first_number_i64(tk_bytes rest, bool have_m
     return tk_parse_prefix_i64(true, false, rest);
 }
 
-/* atoi_column/src/fields.rt:236 */
+/* atoi_column/src/fields.rt:234 */
 TK_INLINE tk_option_pair_i64_bytes tk_accepted_field_i64(tk_bytes rest, uint8_t separator, bool is_lines,
                                                          tk_guess guess)
 {
@@ -6393,7 +6379,7 @@ TK_INLINE tk_option_pair_i64_bytes tk_accepted_field_i64(tk_bytes rest, uint8_t 
     return tk_some_pair_i64_bytes(tk_new_pair_i64_bytes(value, following));
 }
 
-/* atoi_column/src/fields.rt:313 */
+/* atoi_column/src/fields.rt:311 */
 TK_COLD tk_pair_result_i64_field_error_bytes tk_read_field_i64(tk_bytes rest, uint8_t separator, bool is_lines,
                                                                size_t index, size_t place)
 {
@@ -6410,7 +6396,7 @@ TK_COLD tk_pair_result_i64_field_error_bytes tk_read_field_i64(tk_bytes rest, ui
     return tk_new_pair_result_i64_field_error_bytes(tk_err_i64_field_error(error), following);
 }
 
-/* atoi_column/src/fields.rt:193 */
+/* atoi_column/src/fields.rt:192 */
 TK_INLINE tk_option_result_i64_field_error tk_fields_next_i64(tk_fields *self)
 {
     tk_bytes rest = self->rest;
@@ -6435,7 +6421,7 @@ TK_INLINE tk_option_result_i64_field_error tk_fields_next_i64(tk_fields *self)
     return tk_some_result_i64_field_error(item);
 }
 
-/* atoi_column/src/fields.rt:279 */
+/* atoi_column/src/fields.rt:277 */
 TK_INLINE tk_option_pair_u64_bytes tk_one_digit_field_u64(tk_bytes rest, uint8_t separator)
 {
     if (rest.len >= 2 && (rest.at[1] == separator && tk_u8_is_digit(rest.at[0]))) {
@@ -6450,20 +6436,20 @@ TK_INLINE tk_option_pair_u64_bytes tk_one_digit_field_u64(tk_bytes rest, uint8_t
     return tk_none_pair_u64_bytes();
 }
 
-/* atoi_simd/src/functions.rt:148 */
+/* atoi_simd/src/functions.rt:147 */
 TK_INLINE tk_result_pair_u64_size tk_parse_prefix_pos_u64(bool skip_zeroes, tk_bytes s)
 {
     return tk_atoi_simd_parse_prefix_pos_u64(s, skip_zeroes);
 }
 
-/* atoi_column/src/fields.rt:263 */
+/* atoi_column/src/fields.rt:261 */
 TK_INLINE tk_result_pair_u64_size tk_first_number_u64(tk_bytes rest, bool have_minus)
 {
     (void)have_minus;
     return tk_parse_prefix_pos_u64(true, rest);
 }
 
-/* atoi_column/src/fields.rt:236 */
+/* atoi_column/src/fields.rt:234 */
 TK_INLINE tk_option_pair_u64_bytes tk_accepted_field_u64(tk_bytes rest, uint8_t separator, bool is_lines,
                                                          tk_guess guess)
 {
@@ -6489,7 +6475,7 @@ TK_INLINE tk_option_pair_u64_bytes tk_accepted_field_u64(tk_bytes rest, uint8_t 
     return tk_some_pair_u64_bytes(tk_new_pair_u64_bytes(value, following));
 }
 
-/* atoi_column/src/fields.rt:313 */
+/* atoi_column/src/fields.rt:311 */
 TK_COLD tk_pair_result_u64_field_error_bytes tk_read_field_u64(tk_bytes rest, uint8_t separator, bool is_lines,
                                                                size_t index, size_t place)
 {
@@ -6506,7 +6492,7 @@ TK_COLD tk_pair_result_u64_field_error_bytes tk_read_field_u64(tk_bytes rest, ui
     return tk_new_pair_result_u64_field_error_bytes(tk_err_u64_field_error(error), following);
 }
 
-/* atoi_column/src/fields.rt:193 */
+/* atoi_column/src/fields.rt:192 */
 TK_INLINE tk_option_result_u64_field_error tk_fields_next_u64(tk_fields *self)
 {
     tk_bytes rest = self->rest;
@@ -6531,7 +6517,7 @@ TK_INLINE tk_option_result_u64_field_error tk_fields_next_u64(tk_fields *self)
     return tk_some_result_u64_field_error(item);
 }
 
-/* atoi_column/src/fields.rt:279 */
+/* atoi_column/src/fields.rt:277 */
 TK_INLINE tk_option_pair_i128_bytes tk_one_digit_field_i128(tk_bytes rest, uint8_t separator)
 {
     if (rest.len >= 2 && (rest.at[1] == separator && tk_u8_is_digit(rest.at[0]))) {
@@ -6546,13 +6532,13 @@ TK_INLINE tk_option_pair_i128_bytes tk_one_digit_field_i128(tk_bytes rest, uint8
     return tk_none_pair_i128_bytes();
 }
 
-/* atoi_simd/src/functions.rt:148 */
+/* atoi_simd/src/functions.rt:147 */
 TK_INLINE tk_result_pair_i128_size tk_parse_prefix_pos_i128(bool skip_zeroes, tk_bytes s)
 {
     return tk_atoi_simd_parse_prefix_pos_i128(s, skip_zeroes);
 }
 
-/* atoi_column/src/fields.rt:263 */
+/* atoi_column/src/fields.rt:261 */
 TK_INLINE tk_result_pair_i128_size tk_first_number_i128(tk_bytes rest, bool have_minus)
 {
     if (rest.len >= 1 && '0' <= rest.at[0] && rest.at[0] <= '9' && !have_minus) {
@@ -6561,7 +6547,7 @@ TK_INLINE tk_result_pair_i128_size tk_first_number_i128(tk_bytes rest, bool have
     return tk_parse_prefix_i128(true, false, rest);
 }
 
-/* atoi_column/src/fields.rt:236 */
+/* atoi_column/src/fields.rt:234 */
 TK_INLINE tk_option_pair_i128_bytes tk_accepted_field_i128(tk_bytes rest, uint8_t separator, bool is_lines,
                                                            tk_guess guess)
 {
@@ -6587,7 +6573,7 @@ TK_INLINE tk_option_pair_i128_bytes tk_accepted_field_i128(tk_bytes rest, uint8_
     return tk_some_pair_i128_bytes(tk_new_pair_i128_bytes(value, following));
 }
 
-/* atoi_column/src/fields.rt:313 */
+/* atoi_column/src/fields.rt:311 */
 TK_COLD tk_pair_result_i128_field_error_bytes tk_read_field_i128(tk_bytes rest, uint8_t separator, bool is_lines,
                                                                  size_t index, size_t place)
 {
@@ -6604,7 +6590,7 @@ TK_COLD tk_pair_result_i128_field_error_bytes tk_read_field_i128(tk_bytes rest, 
     return tk_new_pair_result_i128_field_error_bytes(tk_err_i128_field_error(error), following);
 }
 
-/* atoi_column/src/fields.rt:193 */
+/* atoi_column/src/fields.rt:192 */
 TK_INLINE tk_option_result_i128_field_error tk_fields_next_i128(tk_fields *self)
 {
     tk_bytes rest = self->rest;
@@ -6629,7 +6615,7 @@ TK_INLINE tk_option_result_i128_field_error tk_fields_next_i128(tk_fields *self)
     return tk_some_result_i128_field_error(item);
 }
 
-/* atoi_column/src/fields.rt:279 */
+/* atoi_column/src/fields.rt:277 */
 TK_INLINE tk_option_pair_u128_bytes tk_one_digit_field_u128(tk_bytes rest, uint8_t separator)
 {
     if (rest.len >= 2 && (rest.at[1] == separator && tk_u8_is_digit(rest.at[0]))) {
@@ -6644,20 +6630,20 @@ TK_INLINE tk_option_pair_u128_bytes tk_one_digit_field_u128(tk_bytes rest, uint8
     return tk_none_pair_u128_bytes();
 }
 
-/* atoi_simd/src/functions.rt:148 */
+/* atoi_simd/src/functions.rt:147 */
 TK_INLINE tk_result_pair_u128_size tk_parse_prefix_pos_u128(bool skip_zeroes, tk_bytes s)
 {
     return tk_atoi_simd_parse_prefix_pos_u128(s, skip_zeroes);
 }
 
-/* atoi_column/src/fields.rt:263 */
+/* atoi_column/src/fields.rt:261 */
 TK_INLINE tk_result_pair_u128_size tk_first_number_u128(tk_bytes rest, bool have_minus)
 {
     (void)have_minus;
     return tk_parse_prefix_pos_u128(true, rest);
 }
 
-/* atoi_column/src/fields.rt:236 */
+/* atoi_column/src/fields.rt:234 */
 TK_INLINE tk_option_pair_u128_bytes tk_accepted_field_u128(tk_bytes rest, uint8_t separator, bool is_lines,
                                                            tk_guess guess)
 {
@@ -6683,7 +6669,7 @@ TK_INLINE tk_option_pair_u128_bytes tk_accepted_field_u128(tk_bytes rest, uint8_
     return tk_some_pair_u128_bytes(tk_new_pair_u128_bytes(value, following));
 }
 
-/* atoi_column/src/fields.rt:313 */
+/* atoi_column/src/fields.rt:311 */
 TK_COLD tk_pair_result_u128_field_error_bytes tk_read_field_u128(tk_bytes rest, uint8_t separator, bool is_lines,
                                                                  size_t index, size_t place)
 {
@@ -6700,7 +6686,7 @@ TK_COLD tk_pair_result_u128_field_error_bytes tk_read_field_u128(tk_bytes rest, 
     return tk_new_pair_result_u128_field_error_bytes(tk_err_u128_field_error(error), following);
 }
 
-/* atoi_column/src/fields.rt:193 */
+/* atoi_column/src/fields.rt:192 */
 TK_INLINE tk_option_result_u128_field_error tk_fields_next_u128(tk_fields *self)
 {
     tk_bytes rest = self->rest;
@@ -6753,7 +6739,7 @@ TK_INLINE size_t tk_sign_len(bool is_signed, tk_bytes rest)
 }
 
 /* The word of the first eight bytes. */
-/* atoi_column/src/words.rt:70 */
+/* atoi_column/src/words.rt:71 */
 TK_HINTED tk_option_u64 tk_first_word(tk_bytes s)
 {
     if (s.len < 8) {
@@ -6766,7 +6752,7 @@ TK_HINTED tk_option_u64 tk_first_word(tk_bytes s)
  * The number that eight digits spell, each a byte below 16, if `digits` is shifted left by `shift`. The
  * product shifts it, too.
  */
-/* atoi_column/src/words.rt:80 */
+/* atoi_column/src/words.rt:81 */
 TK_HINTED uint64_t tk_sum_of_shifted(uint64_t digits, uint32_t shift)
 {
     uint64_t tens = ((digits * (UINT64_C(2561) << shift)) >> 8) & UINT64_C(0x00FF00FF00FF00FF);
@@ -6774,8 +6760,11 @@ TK_HINTED uint64_t tk_sum_of_shifted(uint64_t digits, uint32_t shift)
     return ((hundreds >> 16) & 0xFFFF) * 10000 + (hundreds >> 48);
 }
 
-/* `number_of_width` for at most eight bytes, if the `end_len` bytes after the number are those of `end_word`. */
-/* atoi_column/src/words.rt:33 */
+/*
+ * `number_of_width` for at most eight bytes, if the first `end_len` bytes of `end_word` follow the
+ * number.
+ */
+/* atoi_column/src/words.rt:34 */
 TK_INLINE tk_option_u64 tk_number_before(tk_bytes s, size_t width, uint64_t end_word, size_t end_len)
 {
     tk_option_u64 word_found = tk_first_word(s);
@@ -6807,7 +6796,7 @@ TK_INLINE tk_option_i8 tk_signed_i8(bool minus, uint64_t magnitude)
     return tk_some_i8(tk_from_parts_i8(minus, tk_u128_of(magnitude)));
 }
 
-/* `number_of_digits`, if the `end_len` bytes after the number are those of `end_word`. */
+/* `number_of_digits`, if the first `end_len` bytes of `end_word` follow the number. */
 /* atoi_column/src/guesses.rt:87 */
 TK_INLINE tk_option_pair_i8_size tk_number_with_end_i8(tk_bytes rest, size_t width, uint64_t end_word, size_t end_len)
 {
@@ -6894,7 +6883,7 @@ TK_INLINE tk_option_pair_i8_size tk_number_of_digits_i8(tk_bytes rest, size_t wi
 }
 
 /* Whether `s` has two bytes or more, and begins with the `count` bytes of the word `bytes`. */
-/* atoi_column/src/words.rt:57 */
+/* atoi_column/src/words.rt:58 */
 TK_INLINE bool tk_starts_with(tk_bytes s, uint64_t bytes, size_t count)
 {
     if (s.len >= 2) {
@@ -7054,8 +7043,8 @@ TK_NOINLINE tk_guess tk_guess_after_i8(tk_slice_i8 numbers, size_t used, tk_byte
 }
 
 /*
- * If fields are guessed to have equally many digits, reads numbers of so many to `values[from..]`: none
- * waits for the end of the one before.
+ * If fields are guessed to have equally many digits, reads numbers of so many to `values[from..]`: no
+ * read waits for the end of the number before.
  */
 /* atoi_column/src/fields/read.rt:116 */
 TK_NOINLINE size_t tk_fields_read_guessed_i8(tk_fields *self, tk_room_i8 values, size_t from, tk_guess guess)

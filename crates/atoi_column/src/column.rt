@@ -76,8 +76,7 @@ impl<'a, T: Parse> Model for Column<'a, T> {
 
 impl<'a, T: Parse> Column<'a, T> {
     /// Makes a column of the fields of `input`. One more separator may follow the last field. Between
-    /// two separators in a row, there is an empty field, which is refused
-    /// (see the [guide](crate::guide#read-columns-and-lines)).
+    /// two separators in a row, there is an empty field, which is refused.
     ///
     /// ```
     /// use torkettle::column::{Column, ColumnError};

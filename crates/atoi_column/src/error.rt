@@ -48,7 +48,7 @@ pub enum ColumnError<'a> {
 impl ColumnError<'_> {
     ghost use Rattle.atoi_column.specs.Items.{index_of, place_of};
 
-    /// Returns the index of the field, from 0 (see the [guide](crate::guide#read-columns-and-lines)).
+    /// Returns the index of the field, from 0.
     ///
     /// ```
     /// use torkettle::column::Column;
@@ -67,8 +67,7 @@ impl ColumnError<'_> {
         }
     }
 
-    /// Returns the number of the field, from 1. If the fields are lines, this is the line number. See the
-    /// [guide](crate::guide#read-columns-and-lines).
+    /// Returns the number of the field, from 1. If the fields are lines, this is the line number.
     ///
     /// **Proved:** it is one more than the index [as specified](crate::specification#columns).
     ///
@@ -86,7 +85,7 @@ impl ColumnError<'_> {
     }
 
     /// Returns the offset of the field's first byte if no number can be read there, and otherwise the
-    /// offset of the byte after the number (see the [guide](crate::guide#read-columns-and-lines)).
+    /// offset of the byte after the number.
     ///
     /// ```
     /// use torkettle::column::Column;

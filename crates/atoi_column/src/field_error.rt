@@ -37,8 +37,7 @@ pub struct FieldError<'a> {
 }
 
 impl FieldError<'_> {
-    /// Returns the number of the field, from 1. If the fields are lines, this is the line number. See the
-    /// [guide](crate::guide#read-columns-and-lines).
+    /// Returns the number of the field, from 1. If the fields are lines, this is the line number.
     ///
     /// **Proved:** it is one more than the index [as specified](crate::specification#columns).
     ///
@@ -92,7 +91,6 @@ fn clones() {
     clones_are_the_same::<FieldError<'_>>();
 }
 
-// The width, fill and alignment of the caller's format are ignored.
 impl fmt::Display for FieldError<'_> {
     ghost use Rattle.std.specs.Prelude.{Some};
 

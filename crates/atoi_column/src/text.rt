@@ -42,7 +42,6 @@ pub(crate) fn fault(cause: AtoiSimdError<'_>) -> &'static str
     }
 }
 
-// Writes `bytes` into `out` from offset `at` on.
 pub(crate) fn put_bytes(bytes: &[u8], out: &mut [u8], at: usize) -> usize
     requires { at + length bytes.now ≤ length out.old }
     ensures written { take result out.new ≡ take at out.old ++ bytes.now }

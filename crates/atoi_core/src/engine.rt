@@ -60,7 +60,7 @@ pub trait Engine {
         answer_64(bound, limit, at, 16 + second.len, number, s)
     }
 
-    /// Like `prefix_64`, for 128 bits and a limit of 39 digits. The errors are the same.
+    /// Like `prefix_64`, for 128 bits and a limit of 39 digits.
     fn prefix_128<'a>(
         bound: u128,
         skip: bool,

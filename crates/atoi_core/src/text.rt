@@ -76,7 +76,6 @@ fn shown_front(input: &[u8]) -> &[u8]
     &input[..SHOWN_BYTES.min(input.len())]
 }
 
-// Writes the shown bytes of `input` in brackets.
 #[tactic(auto, using(crate::proofs::lemmas::ErrorTexts::input_text_is_ascii))]
 fn put_input(input: &[u8], out: &mut [u8], at: usize) -> usize
     requires { at + 192 ≤ length out.old }
@@ -89,7 +88,6 @@ fn put_input(input: &[u8], out: &mut [u8], at: usize) -> usize
     put_bytes(b"]", out, end)
 }
 
-// Writes what the texts of `Invalid64` and `Invalid128` start with.
 fn put_invalid(number: u128, index: usize, out: &mut [u8; 400]) -> usize
     ensures written { take result out.new ≡ invalid_text number index }
     ensures fits { result ≤ 132 }

@@ -40,8 +40,8 @@ pub fn whole_by_digits<T: Number>(skip: bool, skip_plus: bool, s: &[u8]) -> Opti
     Some(T::from_parts(minus, magnitude))
 }
 
-// Returns the value of the digits at the start of `s`, and how many there are, unless there is none or their value
-// is above `bound`.
+// Returns the value of the digits at the start of `s`, and how many there are, unless there is no digit or the
+// value is above `bound`.
 #[inline(always)]
 fn magnitude_by_digits(bound: u128, s: &[u8]) -> Option<(u128, usize)>
     ensures some { IfSome result (λ found. (0 < found.1) × (found.1 ≡ run_len decimal_table s.now)

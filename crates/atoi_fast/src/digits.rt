@@ -65,7 +65,7 @@ pub(crate) fn zeroes_of_two(first: u64, next: u64) -> u32
     }
 }
 
-/// Returns the number that the leading digits of the word spell; there may be none.
+/// Returns the number that the `len` leading digits of the word spell, 0 if `len` is 0.
 #[tactic(auto, using(atoi_core::proofs::lemmas::LoadedWords::sum_of_none))]
 pub(crate) fn value_in_word(word: u64, len: u32) -> u64
     requires few { len ≤ 8 }
@@ -88,7 +88,7 @@ pub(crate) fn value_of(word: u64, len: u32) -> u64
     sum_of(word.wrapping_sub(ZEROS) << (64 - 8 * len))
 }
 
-// `value_of` for at most seven digits, or none: it shifts twice, as no shift is by 64 bits.
+// `value_of` for zero to seven digits: it shifts twice, as no shift is by 64 bits.
 #[tactic(auto, using(atoi_core::proofs::lemmas::LoweredWords::lowered_value, crate::proofs::lemmas::WordRuns::lowered_sum, atoi_core::proofs::lemmas::LoweredWords::shifted_twice))]
 pub(crate) fn value_below_8(word: u64, len: u32) -> u64
     requires few { len < 8 }

@@ -12,7 +12,7 @@ use atoi_core::powers::power_of_ten;
 use atoi_core::{Number, Steps};
 
 /// Returns the number at the start of `s` and its length, if that is below 8, or for signed types below 16.
-/// For `i64`, also that of up to 19 digits. Others may be `None`, too.
+/// For `i64`, also a number of up to 19 digits. Others may be `None`, too.
 #[inline(always)]
 pub(crate) fn short_prefix<T: Number>(s: &[u8], steps: &mut Steps) -> Option<(T, usize)>
     requires { 16 ≤ length s.now }

@@ -12,8 +12,7 @@ use crate::window_32::{Window32, window_32};
 use atoi_core::wide_answer::{answer_64, answer_128, found_or_empty};
 use atoi_core::{AtoiSimdError, Engine, Steps};
 
-/// Parses like `Engine::prefix_64`, by one load of 32 bytes and, with `skip`, one per 32 zeros. The
-/// errors are the same.
+/// Parses like `Engine::prefix_64`, by one load of 32 bytes and, with `skip`, one per 32 zeros.
 pub fn prefix_64_lanes<'a>(
     bound: u64,
     limit: u32,
@@ -33,8 +32,7 @@ pub fn prefix_64_lanes<'a>(
     answer_64(bound, limit, skipped, window.len - zeroes, window.number, s)
 }
 
-/// Parses like `Engine::prefix_128`, by the loads of `prefix_64_lanes` and one more of 8 bytes. The
-/// errors are the same.
+/// Parses like `Engine::prefix_128`, by the loads of `prefix_64_lanes` and one more of 8 bytes.
 pub fn prefix_128_lanes<'a>(
     bound: u128,
     skip: bool,

@@ -18,7 +18,7 @@ use atoi_core::{Parsed, Signed, Steps};
 /// assert_eq!(below_zero::<i8>(b"129"), None);
 /// ```
 pub trait ParseNeg: Signed {
-    /// The function [`parse_neg`](crate::parse_neg), with its flag as an argument.
+    /// [`parse_neg`](crate::parse_neg) with its flag as an argument.
     ///
     /// # Errors
     ///
@@ -27,7 +27,7 @@ pub trait ParseNeg: Signed {
         ensures answer { typed_answer Self.number result
             ≡ whole_answer decimal_table Self.int_type true skip_zeroes s.now };
 
-    /// The function [`parse_prefix_neg`](crate::parse_prefix_neg), with its flag as an argument.
+    /// [`parse_prefix_neg`](crate::parse_prefix_neg) with its flag as an argument.
     ///
     /// # Errors
     ///

@@ -20,7 +20,7 @@ use atoi_core::{Parsed, Steps};
 /// assert_eq!(u16::atoi_simd_parse(b"+80", skip_zeroes, skip_plus), Err(AtoiSimdError::Empty));
 /// ```
 pub trait Parse: ParsePos {
-    /// The function [`parse`](crate::parse), with its flags as arguments.
+    /// [`parse`](crate::parse) with its flags as arguments.
     ///
     /// # Errors
     ///
@@ -29,7 +29,7 @@ pub trait Parse: ParsePos {
         ensures answer { typed_answer Self.number result
             ≡ parse_answer Self.int_type skip_zeroes skip_plus s.now };
 
-    /// The function [`parse_prefix`](crate::parse_prefix), with its flags as arguments.
+    /// [`parse_prefix`](crate::parse_prefix) with its flags as arguments.
     ///
     /// # Errors
     ///

@@ -1,5 +1,5 @@
-//! Appends the answer to a row about one number. `atoi_simd` and its module `lanes` give the same
-//! results, so no clause names the engine.
+//! The answer to a row about one number. Both engines give the same results, so no clause names
+//! an engine.
 ghost use Rattle.std.specs.Prelude.{◌≡◌, ◌≢◌, ◌+◌, ◌≤◌, ◌++◌, true, length};
 ghost use Rattle.atoi_tool.specs.Request.{is_known};
 ghost use Rattle.atoi_tool.specs.Answer.{call_text, row_text};

@@ -11,7 +11,6 @@ use crate::block::{Block, ERROR, LONGEST, NUMBER, ROOM};
 use atoi_column::ColumnError;
 use atoi_core::{AtoiSimdError, Number};
 
-// Appends `value` in decimal.
 fn push_number<T: Number>(value: T, out: &mut Block)
     requires { length out.old + NUMBER ≤ ROOM }
     ensures text { out.new ≡ out.old ++ signed_decimal (T.number value) }

@@ -12,7 +12,7 @@ pub const ROOM: usize = 8192;
 
 const DIGITS: usize = 39;
 
-/// The length of the longest number: a minus and 39 digits.
+/// The longest number: a minus and 39 digits.
 pub const NUMBER: usize = 1 + DIGITS;
 
 /// The length of the longest text of an error.

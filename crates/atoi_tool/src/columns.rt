@@ -1,4 +1,4 @@
-//! Appends the answer to a row about a column item by item, since it can have any length.
+//! The answer to a row about a column, appended item by item, since it can have any length.
 ghost use Rattle.std.specs.Prelude.{◌≡◌, ◌+◌, ◌++◌, true};
 ghost use Rattle.std.specs.List.{flat_map};
 ghost use Rattle.atoi_column.specs.Fields.{is_separator};

@@ -6,8 +6,8 @@ use std::fmt::Display;
 use std::io;
 use std::io::{ErrorKind, Read, Write};
 
-/// A reader of `rest` that returns at most `part` bytes a call. Call number `failing`, counted from
-/// 1, fails with `error`; 0 is no call.
+/// A reader of `rest` that returns at most `part` bytes per call. Call number `failing`, counted
+/// from 1, fails with `error`; 0 is no call.
 #[derive(Drop)]
 pub(crate) struct FailingReader<'a> {
     pub(crate) rest: &'a [u8],
@@ -18,7 +18,6 @@ pub(crate) struct FailingReader<'a> {
 }
 
 impl<'a> FailingReader<'a> {
-    /// Returns a reader that never fails.
     pub(crate) fn new(rest: &'a [u8], part: usize) -> FailingReader<'a> {
         FailingReader {
             rest,
@@ -53,8 +52,8 @@ pub(crate) enum Full {
     TakesNone,
 }
 
-/// A writer that accepts at most `part` bytes a call, and `room` bytes until it is full. A call on a
-/// full writer accepts nothing, and then there is room for `room_then` more bytes.
+/// A writer that accepts at most `part` bytes per call, and `room` bytes until it is full. A call on
+/// a full writer accepts nothing, and then there is room for `room_then` more bytes.
 #[derive(Drop)]
 pub(crate) struct LimitedWriter {
     pub(crate) contents: Vec<u8>,
@@ -67,7 +66,7 @@ pub(crate) struct LimitedWriter {
 }
 
 impl LimitedWriter {
-    /// Returns a writer that accepts at most five bytes a call and stays full.
+    /// Returns a writer that accepts at most five bytes per call and stays full.
     pub(crate) fn new(alloc: Global, room: usize, full: Full) -> LimitedWriter {
         LimitedWriter {
             contents: Vec::new(alloc),

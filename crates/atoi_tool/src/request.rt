@@ -168,8 +168,8 @@ pub struct Request {
 }
 
 impl Request {
-    /// Returns whether such a row has an answer. It has none if a plus is allowed where the text has
-    /// no sign, or if the number is negative and the type is unsigned.
+    /// Returns whether such a row has an answer. It has no answer if a plus is allowed where the
+    /// text has no sign, or if the number is negative and the type is unsigned.
     pub fn is_known(&self) -> bool
         ensures { result ≡ is_known self.now }
     {

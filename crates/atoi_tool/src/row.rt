@@ -22,7 +22,6 @@ pub fn cut(separator: u8, bytes: &[u8]) -> Option<(&[u8], &[u8])>
     Some((&bytes[..place], &bytes[place + 1..]))
 }
 
-// Returns what a row about one number asks for, if it has an answer.
 fn request_of(engine: &[u8], call: &[u8], integer: &[u8], flags: &[u8]) -> Option<Request>
     ensures request { result ≡ request_of engine.now call.now integer.now flags.now }
     ensures known { IfSome result (λ request. is_known request ≡ true) }
@@ -55,7 +54,6 @@ fn value_of_hex_digit(byte: u8) -> Option<u8>
     }
 }
 
-// Returns the byte that two hexadecimal digits spell.
 fn byte_of(word: &[u8]) -> Option<u8>
     ensures { result ≡ byte_of word.now }
 {
@@ -83,7 +81,6 @@ fn column_of(engine: &[u8], integer: &[u8], separator: &[u8]) -> Option<Query>
     }
 }
 
-// Returns what the four words of a row ask for.
 fn query_of(engine: &[u8], call: &[u8], integer: &[u8], last: &[u8]) -> Option<Query>
     ensures query { result ≡ query_of engine.now call.now integer.now last.now }
     ensures answered { IfSome result HasAnswer }

@@ -72,7 +72,6 @@ pub fn read_command(line: &[u8]) -> Result<Command, CommandError<'_>>
     }
 }
 
-// Returns the word that `line` begins with, and what follows the space after it.
 fn word_and_text(line: &[u8]) -> Option<(Word, &[u8])>
     ensures some { IfSome result (λ found. HasWord line.now found.0 found.1.now) }
     ensures none { IfNone result ((word : Word) (text : List ℕ) → ¬ HasWord line.now word text) }

@@ -1,4 +1,4 @@
-//! Reads durations such as `1h30m15s`.
+//! Reads durations.
 ghost use Rattle.std.specs.Prelude.{◌≡◌, ◌<◌, ◌^◌, ◌≤◌, ◌++◌, ◌∷◌, ℕ, List, length, min, IfOk, IfErr, IfSome, IfNone, MatchOption};
 ghost use Rattle.std.specs.Str.Parse.{IsNumeral};
 ghost use Rattle.atoi_core.specs.Digit.{decimal_table};

@@ -1,4 +1,4 @@
-//! Reads the version at the start of a text such as `1.22.333-rc.1`.
+//! Reads the version at the start of a text.
 ghost use Rattle.std.specs.Prelude.{ℕ, List, IfSome, IfNone};
 ghost use Rattle.atoi_uses.specs.Releases.{IsRelease};
 ghost use Rattle.atoi_uses.specs.declared.releases.Release.{Release as ReleaseValue};

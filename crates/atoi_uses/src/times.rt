@@ -1,4 +1,4 @@
-//! Reads times of day such as `7:30:15.25`.
+//! Reads times of day.
 ghost use Rattle.std.specs.Prelude.{◌≡◌, ◌≤◌, ◌++◌, ◌∷◌, ℕ, List, length, pos, false, IfSome, IfNone};
 ghost use Rattle.atoi_simd.specs.IntType.{u8_type};
 ghost use Rattle.atoi_simd.specs.Text.{DigitsWrite};
@@ -40,7 +40,6 @@ pub fn parse_time(text: &[u8]) -> Option<Time>
     }
 }
 
-// Returns an hour of one or two digits, and what follows the colon after it.
 fn hour_and_rest(text: &[u8]) -> Option<(u8, &[u8])>
     ensures some { IfSome result (λ found. HasHour text.now found.0 found.1.now) }
     ensures only { IfSome result (λ found. (hour : ℕ) (digits rest : List ℕ)
@@ -59,7 +58,6 @@ fn hour_and_rest(text: &[u8]) -> Option<(u8, &[u8])>
     Some((hour, rest))
 }
 
-// Returns a second of two digits, and the nanoseconds of the fraction after it.
 #[tactic(auto, unfolding(crate::specs::Times::AreSeconds))]
 fn second_and_fraction(text: &[u8]) -> Option<(u8, u32)>
     ensures some { IfSome result (λ found. AreSeconds text.now found.0 found.1) }
@@ -72,7 +70,7 @@ fn second_and_fraction(text: &[u8]) -> Option<(u8, u32)>
     Some((second, nanosecond))
 }
 
-// Returns the nanoseconds of a fraction such as `.25`, and 0 if there is none.
+// Returns the nanoseconds of a fraction such as `.25`, or 0 for an empty text.
 fn fraction(text: &[u8]) -> Option<u32>
     ensures some { IfSome result (λ nanoseconds. IsFraction text.now nanoseconds) }
     ensures none { IfNone result ((any : ℕ) → ¬ IsFraction text.now any) }

@@ -1,4 +1,4 @@
-//! Reads versions such as `1.22.333`.
+//! Reads versions.
 ghost use Rattle.std.specs.Prelude.{IfSome, IfNone};
 ghost use Rattle.atoi_uses.specs.Versions.{IsVersion};
 ghost use Rattle.atoi_uses.specs.declared.versions.Version.{Version as VersionValue};

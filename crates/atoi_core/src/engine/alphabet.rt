@@ -35,7 +35,6 @@ impl<A: Alphabet> Engine for A {
     ghost below_ten = { A.below_ten };
 }
 
-// Returns the window of the first `size` bytes of `s`, at most 16.
 fn front_of<A: Alphabet>(size: usize, s: &[u8]) -> Window
     requires { size ≤ 16 }
     ensures { result ≡ window_of A.table size s.now }

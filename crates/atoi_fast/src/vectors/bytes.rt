@@ -21,7 +21,6 @@ const LANES: usize = 16;
 // The index that selects no lane, which yields 0.
 const NO: u8 = 128;
 
-// Shuffle indices.
 const SHIFTS: [u8; 48] = [
     NO, NO, NO, NO, NO, NO, NO, NO, NO, NO, NO, NO, NO, NO, NO, NO, 0, 1, 2, 3, 4, 5, 6, 7, 8, 9,
     10, 11, 12, 13, 14, 15, NO, NO, NO, NO, NO, NO, NO, NO, NO, NO, NO, NO, NO, NO, NO, NO,

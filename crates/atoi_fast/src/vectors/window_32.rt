@@ -65,7 +65,7 @@ pub(crate) fn load_second(s: &[u8]) -> u8x16
     shuffle(u8x16::from_slice(&s[s.len() - 16..]), 48 - s.len())
 }
 
-// Returns how many zeros the lanes of both begin with, which is mostly none.
+// Returns how many zeros the lanes of both begin with, mostly 0.
 fn zeroes_of_both(first: u8x16, second: u8x16) -> u32
     ensures { result ≡ (if zeros decimal_table first == 16 then 16 + zeros decimal_table second
         else zeros decimal_table first) }

@@ -9,7 +9,7 @@ use std::alloc::Global;
 use std::io::ErrorKind;
 use std::test::Fail;
 
-// Each read returns at most 4096 bytes, and the last one returns none.
+// Each read returns at most 4096 bytes, and the last one returns 0 bytes.
 #[test]
 fn reads_to_the_end(rt: HostRuntime) -> Result<(), Fail> {
     for (len, part, reads) in [

@@ -20,7 +20,7 @@ fn ended(outcome: Result<bool, ToolError>) -> Ended<(), ()> {
 }
 
 // Asserts that the program ends with the status `number`, and prints `line` to standard error by one
-// call, or by none if `line` is empty.
+// call, or by no call if `line` is empty.
 fn check_end<I, O>(rt: &impl Abort, alloc: Global, ended: Ended<I, O>, number: u8, line: &[u8]) {
     let errors = Errors::new(alloc, 1);
     let status = ended.report(&errors);

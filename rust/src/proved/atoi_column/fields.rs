@@ -67,8 +67,7 @@ pub struct Fields<'a, T: Parse> {
 // }
 
 impl<'a, T: Parse> Fields<'a, T> {
-    /// The fields of `input`, with a separator between them. One more may follow the last field
-    /// (see the [guide](crate::guide#read-columns-and-lines)).
+    /// The fields of `input`, with a separator between them. One more may follow the last field.
     ///
     /// ```
     /// use torkettle::column::Fields;
@@ -103,7 +102,7 @@ impl<'a, T: Parse> Fields<'a, T> {
     }
 
     /// The lines of `input`, as `str::lines` splits them: a line ends with `\n` or `\r\n`, which are
-    /// no part of it (see the [guide](crate::guide#read-columns-and-lines)).
+    /// no part of it.
     ///
     /// ```
     /// use torkettle::column::Fields;
@@ -216,7 +215,6 @@ impl<'a, T: Parse> Iterator for Fields<'a, T> {
         }
     }
 
-    // A field has at least one byte, or a separator after it.
     #[inline]
     fn size_hint(&self) -> (usize, Option<usize>)
         // ensures lower { IsWithinCount result.0 (item_count (field_items_left T.int_type) self.now) }
@@ -338,7 +336,6 @@ fn read_field<'a, T: Parse>(
     }
 }
 
-// Returns the text of the first field of `rest`, and what follows its separator.
 #[inline] fn first_field(rest: &[u8], separator: u8, is_lines: bool) -> (&[u8], &[u8])
     // ensures text { result.0.now ≡ first_text (cut_of is_lines) separator rest.now }
     // ensures following { result.1.now ≡ after_first (λ byte. byte == separator) rest.now }
@@ -350,7 +347,6 @@ fn read_field<'a, T: Parse>(
     }
 }
 
-// Returns the length of the first field of `rest`.
 #[inline] fn field_len(rest: &[u8], separator: u8) -> usize
     // ensures { result ≡ position_or_len (λ byte. byte == separator) rest.now }
 {

@@ -82,7 +82,7 @@ pub(crate) fn end_of(separator: u8, is_lines: bool, has_return: bool) -> (u64, u
     }
 }
 
-/// `number_of_digits`, if the `end_len` bytes after the number are those of `end_word`.
+/// `number_of_digits`, if the first `end_len` bytes of `end_word` follow the number.
 #[inline(always)]
 pub(crate) fn number_with_end<T: Parse>(
     rest: &[u8],

@@ -28,7 +28,8 @@ pub(crate) fn number_of_width(s: &[u8], width: usize) -> Option<u64>
     Some(high * 100_000_000 + low)
 }
 
-/// `number_of_width` for at most eight bytes, if the `end_len` bytes after the number are those of `end_word`.
+/// `number_of_width` for at most eight bytes, if the first `end_len` bytes of `end_word` follow the
+/// number.
 #[inline(always)]
 pub(crate) fn number_before(s: &[u8], width: usize, end_word: u64, end_len: usize) -> Option<u64>
     // requires some { 0 < width }

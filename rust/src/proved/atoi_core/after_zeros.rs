@@ -8,7 +8,7 @@ use crate::proved::atoi_core::engine::steps::Steps;
 use crate::proved::atoi_core::engine::window::Window;
 
 /// Skips zeros window by window, from a first window that reported `zeroes`. Returns the first
-/// window that reports none, and its offset.
+/// window that reports no zeros, and its offset.
 #[inline(always)]
 // #[tactic(auto, using(std::proofs::lemmas::List::take_rest))]
 pub fn window_after_zeros<E: Engine>(zeroes: u32, s: &[u8], steps: &mut Steps) -> (usize, Window)

@@ -83,7 +83,7 @@ pub fn whole_pos<'a, E: Engine, T: Number>(
     whole_with_sign::<E, T>(false, skip, s, steps)
 }
 
-/// Like `whole_pos`, but returns minus the value of the digits. The errors are the same.
+/// Like `whole_pos`, but returns minus the value of the digits.
 #[inline(always)]
 pub fn whole_neg<'a, E: Engine, T: Signed>(
     skip: bool,
@@ -113,7 +113,7 @@ pub fn prefix_pos<'a, E: Engine, T: Number>(
     prefix_with_sign::<E, T>(false, skip, s, steps)
 }
 
-/// Like `prefix_pos`, but returns minus the value of the digits. The errors are the same.
+/// Like `prefix_pos`, but returns minus the value of the digits.
 #[inline(always)]
 pub fn prefix_neg<'a, E: Engine, T: Signed>(
     skip: bool,

@@ -75,7 +75,6 @@ impl Engine for Words {
     }
 }
 
-// The word of fewer than 8 bytes.
 // #[tactic(auto, using(crate::proofs::lemmas::LoadedWords::word_from_eight))]
 #[inline] fn load_part(s: &[u8]) -> u64
     // requires { length s.now < 8 }
@@ -92,7 +91,6 @@ impl Engine for Words {
     }
 }
 
-// The word of fewer than 4 bytes.
 #[inline] fn load_few(s: &[u8]) -> u64
     // requires { length s.now < 4 }
     // ensures { result ≡ from_le_bytes w64 s.now }

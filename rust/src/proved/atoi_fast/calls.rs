@@ -47,7 +47,7 @@ pub fn parse_text<'a, E: Engine, T: Number>(
     whole_with_sign::<E, T>(minus, skip, body, steps)
 }
 
-// `parse_text` for a byte that is no digit, or none.
+// `parse_text` for at most one byte, which is no digit.
 #[cold]
 #[inline(never)]
 fn parse_no_digit<'a, E: Engine, T: Number>(
@@ -96,7 +96,6 @@ pub fn parse_prefix_text<'a, E: Engine, T: Number>(
     Ok((number, len + (s.len() - body.len())))
 }
 
-/// `atoi_core::whole_pos`, with the same contract.
 #[inline(always)]
 pub fn whole_pos<'a, E: Engine, T: Number>(
     skip: bool,
@@ -109,7 +108,6 @@ pub fn whole_pos<'a, E: Engine, T: Number>(
     whole_with_sign::<E, T>(false, skip, s, steps)
 }
 
-/// `atoi_core::whole_neg`, with the same contract.
 #[inline(always)]
 pub fn whole_neg<'a, E: Engine, T: Signed>(
     skip: bool,
@@ -122,7 +120,6 @@ pub fn whole_neg<'a, E: Engine, T: Signed>(
     whole_with_sign::<E, T>(true, skip, s, steps)
 }
 
-// Like `whole_neg` if `minus` is set, otherwise like `whole_pos`.
 #[inline(always)]
 // #[tactic(auto, using(atoi_core::proofs::lemmas::Calls::whole_in_bounds))]
 fn whole_with_sign<'a, E: Engine, T: Number>(

@@ -65,7 +65,6 @@ impl Engine for Swar {
         s: &'a [u8],
         steps: &mut Steps,
     ) -> Result<(u64, usize), AtoiSimdError<'a>> {
-        // Long slices first: rustc 1.95 then puts no jump before them.
         if s.len() >= 16 {
             let first = Swar::window(s, steps);
             if skip && first.zeroes > 0 {
@@ -157,7 +156,6 @@ fn prefix_64_after_zeros<'a>(
     answer_64(bound, limit, at, 16 + second.len, number, s)
 }
 
-// `prefix_128` with `skip`, after a first window that reported zeros.
 #[inline(never)]
 fn prefix_128_after_zeros<'a>(
     bound: u128,
@@ -206,7 +204,6 @@ pub(crate) fn answer_after_32<'a>(
     answer_128(bound, skipped, high, third.len, third.number, s)
 }
 
-// The window of at least 16 bytes.
 #[inline(always)]
 fn long_window(s: &[u8]) -> Window
     // requires { 16 ≤ length s.now }
@@ -234,8 +231,8 @@ fn long_window(s: &[u8]) -> Window
     }
 }
 
-// The window of at most 8 bytes. Fills a slice to eight bytes with zeros before it. Only one byte, the
-// most frequent length, or none has a branch.
+// The window of at most 8 bytes. Fills a slice to eight bytes with zeros before it. Only the lengths 0
+// and 1, which is the most frequent, have a branch.
 #[inline(always)]
 // #[tactic(auto, using(crate::proofs::lemmas::WordWindows::filled_digits, crate::proofs::lemmas::WordRuns::flipped_back))]
 fn window_up_to_8(s: &[u8]) -> Window

@@ -1,5 +1,5 @@
-/* Made by .ci/translate from crates/atoi_simd/src/functions.rt. Do not edit. */ //! The ten public functions: each calls a method of its type, or another of the ten. atoi_simd and
-//! atoi_lanes each have this file and the three of the traits (`.ci/texts`).
+/* Made by .ci/translate from crates/atoi_simd/src/functions.rt. Do not edit. */ //! The ten public functions. atoi_simd and atoi_lanes share this file and the three of the traits
+//! (`.ci/texts` compares them).
 // ghost use Rattle.std.specs.Prelude.{◌≡◌, ◌≤◌, ◌↔◌, ℕ, ℤ, true, false, IsTrue, IsOk, IfOk, OnErr, length};
 // ghost use Rattle.atoi_core.specs.Answer.{typed_answer, typed_prefix_answer, whole_answer, prefix_answer, parse_answer, parse_prefix_answer};
 // ghost use Rattle.atoi_core.specs.Digit.{decimal_table};
@@ -20,7 +20,7 @@ use crate::proved::atoi_core::laws::{accepted_texts, prefix_results, whole_resul
 /// ```
 ///
 /// **Proved:** all results are [as specified](crate::specification). A number is what `s` spells. With
-/// `SKIP_ZEROES`, an error means that there is none in range.
+/// `SKIP_ZEROES`, an error means that `s` spells no number in range.
 ///
 /// # Errors
 ///
@@ -52,12 +52,12 @@ pub fn parse<T: Parse, const SKIP_ZEROES: bool, const SKIP_PLUS: bool>(
 /// assert_eq!(parse_pos::<i8, false>(b"-5"), Err(AtoiSimdError::Empty));
 /// ```
 ///
-/// **Proved:** all results are [as specified](crate::specification). A number is what the digits `s`
-/// spell. With `SKIP_ZEROES`, an error means that there is none in range.
+/// **Proved:** the same as for [`parse`], with digits only (see the
+/// [specification](crate::specification)).
 ///
 /// # Errors
 ///
-/// As for [`parse`] (see the [guide](crate::guide#errors)).
+/// As for [`parse`].
 #[inline(always)]
 pub fn parse_pos<T: Parse, const SKIP_ZEROES: bool>(s: &[u8]) -> Result<T, AtoiSimdError<'_>>
     // ensures answer { typed_answer T.number result
@@ -78,12 +78,12 @@ pub fn parse_pos<T: Parse, const SKIP_ZEROES: bool>(s: &[u8]) -> Result<T, AtoiS
 /// assert_eq!(parse_neg::<i8, false>(b"129"), Err(AtoiSimdError::Overflow(b"129")));
 /// ```
 ///
-/// **Proved:** all results are [as specified](crate::specification). A number is what a `-` and the
-/// digits `s` spell. With `SKIP_ZEROES`, an error means that there is none in range.
+/// **Proved:** the same as for [`parse`], with a `-` before `s` (see
+/// the [specification](crate::specification)).
 ///
 /// # Errors
 ///
-/// As for [`parse`] (see the [guide](crate::guide#errors)).
+/// As for [`parse`].
 #[inline(always)]
 pub fn parse_neg<T: ParseNeg, const SKIP_ZEROES: bool>(s: &[u8]) -> Result<T, AtoiSimdError<'_>>
     // ensures answer { typed_answer T.number result
@@ -106,8 +106,8 @@ pub fn parse_neg<T: ParseNeg, const SKIP_ZEROES: bool>(s: &[u8]) -> Result<T, At
 /// ```
 ///
 /// **Proved:** all results are [as specified](crate::specification). A number is what the bytes up to
-/// its length spell, where no digit follows. With `SKIP_ZEROES`, an error means that there is none in
-/// range.
+/// its length spell, where no digit follows. With `SKIP_ZEROES`, an error means that `s` begins with
+/// no number in range.
 ///
 /// # Errors
 ///
@@ -137,13 +137,12 @@ pub fn parse_prefix<T: Parse, const SKIP_ZEROES: bool, const SKIP_PLUS: bool>(
 /// assert_eq!(parse_prefix_pos::<u16, false>(b"+80"), Err(AtoiSimdError::Empty));
 /// ```
 ///
-/// **Proved:** all results are [as specified](crate::specification). A number is what the digits up to
-/// its length spell, where no digit follows. With `SKIP_ZEROES`, an error means that there is none in
-/// range.
+/// **Proved:** the same as for [`parse_prefix`], with digits only
+/// (see the [specification](crate::specification)).
 ///
 /// # Errors
 ///
-/// As for [`parse_prefix`] (see the [guide](crate::guide#errors)).
+/// As for [`parse_prefix`].
 #[inline(always)]
 pub fn parse_prefix_pos<T: Parse, const SKIP_ZEROES: bool>(
     s: &[u8],
@@ -168,13 +167,12 @@ pub fn parse_prefix_pos<T: Parse, const SKIP_ZEROES: bool>(
 /// assert_eq!(parse_prefix_neg::<i32, false>(b"-12a"), Err(AtoiSimdError::Empty));
 /// ```
 ///
-/// **Proved:** all results are [as specified](crate::specification). A number is what a `-` and the
-/// digits up to its length spell, where no digit follows. With `SKIP_ZEROES`, an error means that there
-/// is none in range.
+/// **Proved:** the same as for [`parse_prefix`], with a `-` before `s`
+/// (see the [specification](crate::specification)).
 ///
 /// # Errors
 ///
-/// As for [`parse_prefix`] (see the [guide](crate::guide#errors)).
+/// As for [`parse_prefix`].
 #[inline(always)]
 pub fn parse_prefix_neg<T: ParseNeg, const SKIP_ZEROES: bool>(
     s: &[u8],
@@ -197,12 +195,11 @@ pub fn parse_prefix_neg<T: ParseNeg, const SKIP_ZEROES: bool>(
 /// assert_eq!(torkettle::parse_skipped::<isize>(b"+007"), Ok(7));
 /// ```
 ///
-/// **Proved:** all results are [as specified](crate::specification). A number is what `s` spells. An
-/// error means that there is none in range.
+/// **Proved:** the same as for [`parse`] (see the [specification](crate::specification)).
 ///
 /// # Errors
 ///
-/// As for [`parse`] (see the [guide](crate::guide#errors)).
+/// As for [`parse`].
 #[inline(always)]
 pub fn parse_skipped<T: Parse>(s: &[u8]) -> Result<T, AtoiSimdError<'_>>
     // ensures answer { typed_answer T.number result ≡ parse_answer T.int_type true true s.now }
@@ -219,12 +216,11 @@ pub fn parse_skipped<T: Parse>(s: &[u8]) -> Result<T, AtoiSimdError<'_>>
 /// assert_eq!(torkettle::parse_any::<usize>(b"7 "), Ok((7, 1)));
 /// ```
 ///
-/// **Proved:** all results are [as specified](crate::specification). A number is what the bytes up to
-/// its length spell, where no digit follows.
+/// **Proved:** the same as for [`parse_prefix`] (see the [specification](crate::specification)).
 ///
 /// # Errors
 ///
-/// As for [`parse_prefix`] (see the [guide](crate::guide#errors)).
+/// As for [`parse_prefix`].
 #[inline(always)]
 pub fn parse_any<T: Parse>(s: &[u8]) -> Result<(T, usize), AtoiSimdError<'_>>
     // ensures answer { typed_prefix_answer T.number result
@@ -242,12 +238,11 @@ pub fn parse_any<T: Parse>(s: &[u8]) -> Result<(T, usize), AtoiSimdError<'_>>
 /// assert_eq!(torkettle::parse_any_pos::<u8>(b"255."), Ok((255, 3)));
 /// ```
 ///
-/// **Proved:** all results are [as specified](crate::specification). A number is what the digits up to
-/// its length spell, where no digit follows.
+/// **Proved:** the same as for [`parse_prefix_pos`] (see the [specification](crate::specification)).
 ///
 /// # Errors
 ///
-/// As for [`parse_prefix`] (see the [guide](crate::guide#errors)).
+/// As for [`parse_prefix`].
 #[inline(always)]
 pub fn parse_any_pos<T: Parse>(s: &[u8]) -> Result<(T, usize), AtoiSimdError<'_>>
     // ensures answer { typed_prefix_answer T.number result
@@ -265,12 +260,11 @@ pub fn parse_any_pos<T: Parse>(s: &[u8]) -> Result<(T, usize), AtoiSimdError<'_>
 /// assert_eq!(torkettle::parse_any_neg::<i16>(b"1-"), Ok((-1, 1)));
 /// ```
 ///
-/// **Proved:** all results are [as specified](crate::specification). A number is what a `-` and the
-/// digits up to its length spell, where no digit follows.
+/// **Proved:** the same as for [`parse_prefix_neg`] (see the [specification](crate::specification)).
 ///
 /// # Errors
 ///
-/// As for [`parse_prefix`] (see the [guide](crate::guide#errors)).
+/// As for [`parse_prefix`].
 #[inline(always)]
 pub fn parse_any_neg<T: ParseNeg>(s: &[u8]) -> Result<(T, usize), AtoiSimdError<'_>>
     // ensures answer { typed_prefix_answer T.number result

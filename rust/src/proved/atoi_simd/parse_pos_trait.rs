@@ -8,12 +8,12 @@ use crate::proved::atoi_core::{Number, Parsed, Steps};
 
 /// An integer type that is parsed from digits without a sign. No other crate can name it.
 pub trait ParsePos: Number {
-    /// The function [`parse_pos`](crate::parse_pos), with its flag as an argument.
+    /// [`parse_pos`](crate::parse_pos) with its flag as an argument.
     fn atoi_simd_parse_pos(s: &[u8], skip_zeroes: bool) -> Parsed<'_, Self>
         /* ensures answer { typed_answer Self.number result
             ≡ whole_answer decimal_table Self.int_type false skip_zeroes s.now } */;
 
-    /// The function [`parse_prefix_pos`](crate::parse_prefix_pos), with its flag as an argument.
+    /// [`parse_prefix_pos`](crate::parse_prefix_pos) with its flag as an argument.
     fn atoi_simd_parse_prefix_pos(s: &[u8], skip_zeroes: bool) -> Parsed<'_, (Self, usize)>
         // ensures answer { typed_prefix_answer Self.number result
         //     ≡ prefix_answer decimal_table Self.int_type false skip_zeroes s.now }

@@ -1,4 +1,4 @@
-/* Made by .ci/translate from crates/atoi_column/src/fields/read.rt. Do not edit. */ //! Many numbers a call.
+/* Made by .ci/translate from crates/atoi_column/src/fields/read.rt. Do not edit. */ //! Many numbers per call.
 // ghost use Rattle.std.specs.Prelude.{◌≡◌, ◌+◌, ◌<◌, ◌≤◌, ◌∷◌, ◌++◌, true, Ok, length, take, drop, map, IsFalse, IfSome, IfNone};
 // ghost use Rattle.atoi_column.specs.Fields.{is_separator};
 // ghost use Rattle.atoi_column.specs.FieldItems.{field_items_left, after_first_field};
@@ -110,8 +110,8 @@ impl<'a, T: Parse> Fields<'a, T> {
         }
     }
 
-    // If fields are guessed to have equally many digits, reads numbers of so many to `values[from..]`: none
-    // waits for the end of the one before.
+    // If fields are guessed to have equally many digits, reads numbers of so many to `values[from..]`: no
+    // read waits for the end of the number before.
     #[inline(never)]
     fn read_guessed(&mut self, values: &mut [T], from: usize, guess: Guess) -> usize
         // requires { from ≤ length values.old }

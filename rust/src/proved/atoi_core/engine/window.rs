@@ -10,7 +10,7 @@ pub struct Window {
     pub len: u32,
     /// The number of leading zeros if all 8 or 16 bytes are there and are digits, otherwise 0.
     pub zeroes: u32,
-    /// The value of these digits, 0 if there are none.
+    /// The value of these digits, 0 without digits.
     pub number: u64,
 }
 
