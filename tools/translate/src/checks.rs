@@ -4,7 +4,7 @@ use crate::modules::{CRATES, Package};
 use crate::resolve::{Definition, Scopes};
 use crate::source::{Done, Source, Span};
 use crate::std_names::{self, has, is_capital};
-use crate::tree::{Import, Node};
+use crate::tree::Node;
 use std::collections::BTreeSet;
 
 // Our methods that are called. No type of `std` has a method of such a name.
@@ -79,7 +79,7 @@ struct Names<'a> {
 impl<'a> Names<'a> {
     fn item(&mut self, item: &'a Node) -> Done<()> {
         match item.kind {
-            "use" => return item.imports().iter().try_for_each(|it| self.import(it)),
+            "use" => return item.imports().iter().try_for_each(|path| self.import(item, path)),
             "implementation" | "model" => self.implementation(item)?,
             _ => {}
         }
@@ -147,13 +147,11 @@ impl<'a> Names<'a> {
         Ok(())
     }
 
-    // Refuses an import that hides what is built in, or gives a function another name: its conditions are found
-    // by its own.
-    fn import(&self, import: &Import) -> Done<()> {
-        let last = import.last();
-        match import.renamed {
-            Some(name) if import.path.len() > 1 => self.assert(false, name.span),
-            Some(name) => self.declare(name, false),
+    // Refuses an import that hides what is built in. Only crates get other names.
+    fn import(&self, item: &Node, path: &[&Node]) -> Done<()> {
+        let last = path[path.len() - 1];
+        match item.get("renamed") {
+            Some(renamed) => self.declare(renamed.last(), false),
             None => self.assert(!std_names::is_built_in(&last.text), last.span),
         }
     }

@@ -2,7 +2,7 @@
 //! `src/default_engine.rt`. Here another file stands in its place, which names those that are tuned for
 //! compilers. The clauses are the same, and `.ci/kit` proves the crates with these files, too.
 
-use crate::tree::Node;
+use crate::tree::{Node, texts};
 use std::path::{Path, PathBuf};
 
 /// The folder of the files that stand in place of `default_engine.rt`, one for each crate that has it. They end in
@@ -48,7 +48,7 @@ fn is_of_modules(item: &Node, modules: &[&str]) -> bool {
         |names: &[&str]| matches!(names, ["crate", module, ..] if modules.contains(module));
     match item.kind {
         "declaration" => modules.contains(&item.name()),
-        "use" => item.imports().iter().all(|import| is_import(&import.names())),
+        "use" => item.imports().iter().all(|path| is_import(&texts(path))),
         _ => false,
     }
 }

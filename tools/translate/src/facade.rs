@@ -7,7 +7,7 @@ use crate::parser::parse;
 use crate::resolve::{Definition, Scopes};
 use crate::source::{Done, Fault, Source, Span};
 use crate::std_names::has;
-use crate::tree::Node;
+use crate::tree::{Node, texts};
 
 // The modules that depend on the feature `lanes`.
 const MODULES_OF_LANES: &str = "atoi_lanes lanes simd";
@@ -34,12 +34,12 @@ fn add(source: &Source, item: &Node, exports: &mut Vec<Export>) -> Done<()> {
     if notices.any(|notice| notice.has("lanes")) && !has(MODULES_OF_LANES, item.name()) {
         return refuse("this item for the feature `lanes`");
     }
-    for import in item.imports() {
-        match import.names()[..] {
+    for path in item.imports() {
+        match texts(&path)[..] {
             ["proved", owner, name] | ["crate", "proved", owner, name]
-                if import.renamed.is_none() && CRATES.contains(&owner) =>
+                if CRATES.contains(&owner) =>
             {
-                let (crate_name, span) = (owner.to_string(), import.last().span);
+                let (crate_name, span) = (owner.to_string(), path[path.len() - 1].span);
                 exports.push(Export { crate_name, name: name.into(), span });
             }
             ref names if names.contains(&"proved") => return refuse("this form of export"),

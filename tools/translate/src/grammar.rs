@@ -40,10 +40,11 @@ name.self          = 'self'
 name.own           = 'Self'
 name.writer        = 'W'
 
-use                = visibility 'use' import.first ';'
-import.first       = ( name.crate / name ) import_rest
-import             = name import_rest
-import_rest        ~ ( '::' ( import.all / import / '{' import,* '}' ) / 'as' renamed )?
+use                = visibility 'use' imports ';'
+imports            ~ imported.crate 'as' renamed / imported ( '::' ( import.all / '{' &name import,* '}' ) )?
+imported           = ( name.crate / name ) ( '::' name )*
+imported.crate     = name.crate / name
+import             = name
 import.all         = name.all
 renamed            = name
 
@@ -213,5 +214,5 @@ in_attribute       ~ lanes / '[' in_attribute* ']' / !( ']' / 'path' / 'include'
 lanes              = '"lanes"'
 outer              = 'pub'? 'mod' !'proved' name ( ';' / '{' inner_item* '}' )
 ignored            = 'extern' 'crate' 'std' ';' / 'compile_error' '!' '(' TEXT ')' ';'
-export             = 'pub' 'use' import.first ';'
+export             = 'pub' 'use' imports ';'
 "#;

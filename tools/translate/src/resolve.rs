@@ -4,7 +4,7 @@
 use crate::modules::{CRATES, Module, Package};
 use crate::source::{Done, Fault, Span};
 use crate::std_names;
-use crate::tree::{Import, Node};
+use crate::tree::{Node, texts};
 use std::collections::BTreeMap;
 
 /// An item of a module, or a member of an `impl` or a trait.
@@ -50,7 +50,7 @@ impl<'a> Scopes<'a> {
         for (number, module) in package.modules.iter().enumerate() {
             scopes.check_declaration(number, module)?;
             for item in &module.items {
-                item.imports().iter().try_for_each(|import| scopes.import(number, import))?;
+                item.imports().iter().try_for_each(|path| scopes.import(number, item, path))?;
             }
         }
         Ok(scopes)
@@ -91,20 +91,19 @@ impl<'a> Scopes<'a> {
         }
     }
 
-    // Adds what is imported to the names of a module.
-    fn import(&mut self, module: usize, import: &Import) -> Done<()> {
-        let (names, last) = (import.names(), import.last());
-        let path = names.join("::");
+    // Adds what a path of a `use` imports to the names of a module.
+    fn import(&mut self, module: usize, item: &Node, path: &[&Node]) -> Done<()> {
+        let (names, last) = (texts(path), path[path.len() - 1]);
         let found: Vec<(&str, Definition)> = if let [above @ .., "*"] = &names[..] {
             let all = std_names::names_of(&above.join("::")).iter();
             all.map(|name| (*name, foreign(&[above, &[name]].concat()))).collect()
         } else {
-            let name = &import.renamed.unwrap_or(last).text;
-            self.imported(module, &names).map(|it| (name.as_str(), it)).into_iter().collect()
+            let name = item.get("renamed").map_or(last, Node::last).text.as_str();
+            self.imported(module, &names).map(|it| (name, it)).into_iter().collect()
         };
         if found.is_empty() {
-            let reason = format!("`{path}` is not known here");
-            return Err(self.module(module).source.fault(import.span(), reason));
+            let reason = format!("`{}` is not known here", names.join("::"));
+            return Err(self.module(module).source.fault(last.span, reason));
         }
         found.into_iter().try_for_each(|(name, it)| self.declare(module, name, last.span, it))
     }

@@ -6,7 +6,7 @@ use crate::conditions::Tests;
 use crate::engines;
 use crate::modules::{CRATES, Module};
 use crate::source::{Done, Fault, Span};
-use crate::tree::{Import, Node};
+use crate::tree::{Node, texts};
 
 /// Returns the text of the file that a module becomes.
 pub fn print(module: &Module, tests: &Tests) -> Done<String> {
@@ -103,13 +103,13 @@ impl Printer<'_> {
 
     fn imports(&mut self, item: &Node) {
         let imports = item.imports();
-        let Some(first) = imports.first() else { return };
-        match first.names()[..] {
-            ["std", "simd", ..] => self.replace(first.path[0].span, "crate"),
-            ["std", ..] => self.replace(first.path[0].span, "core"),
-            _ => self.head(first.path[0]),
+        let first = imports[0][0];
+        match texts(&imports[0])[..] {
+            ["std", "simd", ..] => self.replace(first.span, "crate"),
+            ["std", ..] => self.replace(first.span, "core"),
+            _ => self.head(first),
         }
-        for name in imports.iter().map(Import::last).filter(|name| name.text == "Model") {
+        for name in imports.iter().flatten().filter(|name| name.text == "Model") {
             if !self.module.source.text[name.span.end..].starts_with(',') {
                 self.refuse(name.span, "`Model` is known only in `use std::marker::{Model, ..}`");
             }

@@ -100,45 +100,18 @@ impl Node {
         self.has("receiver")
     }
 
-    /// Returns the paths of a `use`, each with all its names, and the name behind `as`.
-    pub fn imports(&self) -> Vec<Import<'_>> {
-        let mut imports = Vec::new();
-        self.all("import").for_each(|import| import.collect(Vec::new(), &mut imports));
-        imports
-    }
-
-    fn collect<'a>(&'a self, before: Vec<&'a Node>, imports: &mut Vec<Import<'a>>) {
-        let path = before.into_iter().chain(self.get("name")).collect::<Vec<_>>();
-        if self.has("import") {
-            self.all("import").for_each(|inner| inner.collect(path.clone(), imports));
-        } else {
-            let renamed = self.get("renamed").and_then(|it| it.get("name"));
-            imports.push(Import { path, renamed });
-        }
+    /// Returns the paths of a `use`, each with all its names, of which the last is imported. It is `*` for all names.
+    pub fn imports(&self) -> Vec<Vec<&Node>> {
+        let Some(imported) = self.get("imported") else { return Vec::new() };
+        let path: Vec<&Node> = imported.parts.iter().collect();
+        let listed = self.all("import").map(|it| [&path[..], &[it.last()]].concat());
+        if self.has("import") { listed.collect() } else { vec![path] }
     }
 }
 
-/// One path of a `use`, of which the last name is imported, maybe by another name. It is `*` for all names.
-pub struct Import<'a> {
-    pub path: Vec<&'a Node>,
-    pub renamed: Option<&'a Node>,
-}
-
-impl<'a> Import<'a> {
-    /// Returns the names of its path.
-    pub fn names(&self) -> Vec<&'a str> {
-        self.path.iter().map(|name| name.text.as_str()).collect()
-    }
-
-    /// Returns the name that is imported.
-    pub fn last(&self) -> &'a Node {
-        self.path[self.path.len() - 1]
-    }
-
-    /// Returns the part of its path.
-    pub fn span(&self) -> Span {
-        self.path[0].span.to(self.last().span)
-    }
+/// Returns the names of a path of a `use`.
+pub fn texts<'a>(path: &[&'a Node]) -> Vec<&'a str> {
+    path.iter().map(|name| name.text.as_str()).collect()
 }
 
 pub fn is_comparison(operator: &str) -> bool {
