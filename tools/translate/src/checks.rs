@@ -1,11 +1,11 @@
 //! Refuses names that stand for something else in Rust, hide another, or are not known in both languages.
 
-use crate::modules::{CRATES, Package};
-use crate::resolve::{Definition, Scopes};
+use crate::modules::{CRATES, Module, Package};
+use crate::resolve::{Definition, Resolved, Scopes};
 use crate::source::{Done, Source, Span};
 use crate::std_names::{self, has, is_capital};
 use crate::tree::Node;
-use std::collections::BTreeSet;
+use std::collections::{BTreeMap, BTreeSet};
 
 // Our methods that are called. No type of `std` has a method of such a name.
 const OWN_METHODS: &str = "index parts put_message text tick guessed_number next_number read_guessed \
@@ -14,26 +14,28 @@ const OWN_METHODS: &str = "index parts put_message text tick guessed_number next
 // Names with which Rust begins paths, and those of what the Rust leaves out or replaces.
 const RESERVED: &str = "std core alloc proved Model Formatter";
 
+// The rules for what has local names of its own, besides `if` and `for`.
+const SCOPES: &str =
+    "function alias struct enum trait implementation model block closure matches arm";
+
 // The rule for a path that is called.
 const CALLEE: &str = "path.callee";
 
 /// Checks all modules.
 pub fn check(package: &Package, scopes: &Scopes) -> Done<()> {
     let members = Members::new(package)?;
-    for (module, found) in package.modules.iter().enumerate() {
-        let (source, members, locals) = (&found.source, &members, Vec::new());
-        let mut names = Names { scopes, module, source, members, locals };
-        found.items.iter().try_for_each(|item| names.item(item))?;
-    }
-    Ok(())
+    package.modules.iter().enumerate().try_for_each(|(module, Module { source, items, .. })| {
+        let mut names = Names { scopes, module, source, members: &members, locals: Vec::new() };
+        names.scope(items)
+    })
 }
 
 // The names of what belongs to types of the package.
 #[derive(Default)]
 struct Members<'a> {
-    // All functions and constants, and which of these are methods.
     all: BTreeSet<&'a str>,
-    methods: BTreeSet<&'a str>,
+    // Which of these are methods, and whether one is of a trait.
+    methods: BTreeMap<&'a str, bool>,
 }
 
 impl<'a> Members<'a> {
@@ -41,29 +43,24 @@ impl<'a> Members<'a> {
     // one a call means depends on the type.
     fn new(package: &'a Package) -> Done<Members<'a>> {
         let mut members = Members::default();
-        for is_trait in [false, true] {
-            for module in &package.modules {
-                let items = module.items.iter().filter(|item| match item.kind {
-                    "trait" => is_trait,
-                    "implementation" => !is_trait && item.of_trait().is_none(),
-                    _ => false,
-                });
-                let mut found = items.flat_map(Node::members);
-                found.try_for_each(|member| members.add(member, is_trait, &module.source))?;
+        for Module { source, items, .. } in &package.modules {
+            for item in items.iter().filter(|item| item.of_trait().is_none()) {
+                let is_of_trait = item.kind == "trait";
+                for member in item.members().iter().filter(|member| member.has("name")) {
+                    let name = member.name();
+                    members.all.insert(name);
+                    if !member.has("receiver") {
+                        continue;
+                    }
+                    let other = members.methods.insert(name, is_of_trait);
+                    if other.is_some_and(|other| other || is_of_trait) {
+                        let reason = format!("a second method by the name `{name}`");
+                        return Err(source.fault(member.span, reason));
+                    }
+                }
             }
         }
         Ok(members)
-    }
-
-    fn add(&mut self, member: &'a Node, is_trait: bool, source: &Source) -> Done<()> {
-        if let ("function" | "constant", Some(name)) = (member.kind, member.get("name")) {
-            self.all.insert(&name.text);
-            if member.is_method() && !self.methods.insert(&name.text) && is_trait {
-                let reason = format!("a second method by the name `{}`", name.text);
-                return Err(source.fault(name.span, reason));
-            }
-        }
-        Ok(())
     }
 }
 
@@ -77,40 +74,31 @@ struct Names<'a> {
 }
 
 impl<'a> Names<'a> {
-    fn item(&mut self, item: &'a Node) -> Done<()> {
-        match item.kind {
-            "use" => return item.imports().iter().try_for_each(|path| self.import(item, path)),
-            "implementation" | "model" => self.implementation(item)?,
-            _ => {}
-        }
-        if let Some(name) = item.get("name") {
-            self.declare(name, !["declaration", "function"].contains(&item.kind))?;
-        }
-        self.scope(&item.parts)
-    }
-
     // Checks the names in something in a scope of its own.
     fn scope(&mut self, nodes: impl IntoIterator<Item = &'a Node>) -> Done<()> {
         self.locals.push(Vec::new());
-        nodes.into_iter().try_for_each(|node| self.node(node))?;
+        self.all(nodes)?;
         self.locals.pop();
         Ok(())
+    }
+
+    fn all(&mut self, nodes: impl IntoIterator<Item = &'a Node>) -> Done<()> {
+        nodes.into_iter().try_for_each(|node| self.node(node))
     }
 
     // Checks the names in something, in the order in which Rust reads them.
     fn node(&mut self, node: &'a Node) -> Done<()> {
         let parts = node.parts.as_slice();
         match (node.kind, parts) {
-            ("function" | "constant" | "alias", _) if node.has("notes") => return self.item(node),
-            ("variant", _) => node.all("name").try_for_each(|name| self.declare(name, true))?,
-            ("path", _) => {
-                parts.iter().try_for_each(|segment| self.node(segment))?;
-                return self.assert(self.is_known(node), node.span);
+            ("use", _) => return node.imports().iter().try_for_each(|it| self.import(node, it)),
+            ("declaration" | "function", _) => self.declare(node, false)?,
+            ("constant" | "alias" | "struct" | "enum" | "variant" | "trait", _) => {
+                self.declare(node, true)?;
             }
-            ("method", [receiver, name, others @ ..]) => {
-                self.node(receiver)?;
+            ("implementation" | "model", _) => self.implementation(node)?,
+            ("path", _) => self.assert(self.is_known(node), node.span)?,
+            ("method", [_, name, ..]) => {
                 self.assert(self.is_known_method(&name.text), name.span)?;
-                return others.iter().try_for_each(|part| self.node(part));
             }
             ("parameter" | "binding" | "generic" | "writer", _) => {
                 node.all("name").try_for_each(|name| self.local(name))?;
@@ -121,7 +109,7 @@ impl<'a> Names<'a> {
                 self.assert(is_place || is_target, place.span)?;
             }
             ("let", [pattern, others @ ..]) => {
-                others.iter().try_for_each(|part| self.node(part))?;
+                self.all(others)?;
                 return self.node(pattern);
             }
             ("for", [pattern, value, body]) => {
@@ -130,12 +118,11 @@ impl<'a> Names<'a> {
             }
             ("if", [condition, then, otherwise @ ..]) => {
                 self.scope([condition, then])?;
-                return otherwise.iter().try_for_each(|part| self.node(part));
+                return self.all(otherwise);
             }
-            ("block" | "closure" | "matches" | "arm", _) => return self.scope(parts),
             _ => {}
         }
-        parts.iter().try_for_each(|part| self.node(part))
+        if has(SCOPES, node.rule) { self.scope(parts) } else { self.all(parts) }
     }
 
     // Declares a local name. It must not hide a type or a constant, or mean something without being declared.
@@ -151,18 +138,19 @@ impl<'a> Names<'a> {
     fn import(&self, item: &Node, path: &[&Node]) -> Done<()> {
         let last = path[path.len() - 1];
         match item.get("renamed") {
-            Some(renamed) => self.declare(renamed.last(), false),
+            Some(renamed) => self.declare(renamed, false),
             None => self.assert(!std_names::is_built_in(&last.text), last.span),
         }
     }
 
-    // Refuses a name that hides another, or looks like one of another kind. Patterns are read by the case of their
-    // names: a small one binds.
-    fn declare(&self, name: &Node, is_large: bool) -> Done<()> {
-        self.assert(is_capital(&name.text) == is_large && !is_reserved(&name.text), name.span)
+    // Refuses what has a name that hides another, or looks like one of another kind. Patterns are read by the case of
+    // their names: a small one binds.
+    fn declare(&self, item: &Node, is_large: bool) -> Done<()> {
+        let Some(Node { text, span, .. }) = item.get("name") else { return Ok(()) };
+        self.assert(is_capital(text) == is_large && !is_reserved(text), *span)
     }
 
-    // Refuses a name that is not as it should be.
+    // Refuses what is not as it should be.
     fn assert(&self, is_right: bool, span: Span) -> Done<()> {
         if is_right {
             return Ok(());
@@ -175,20 +163,15 @@ impl<'a> Names<'a> {
     // Refuses an `impl` for types that users can make, which may have a trait of ours then: each parameter must have
     // a trait of ours itself, which no type of theirs has.
     fn implementation(&self, item: &Node) -> Done<()> {
-        let is_open = |it: &&Node| !it.get("path").is_some_and(|bound| self.is_own_trait(bound));
+        let is_of_std = |bound: &Node| has(std_names::BOUNDS, bound.last().name());
+        let is_open = |it: &&Node| it.get("path").is_none_or(is_of_std);
         let reason = "an `impl` for types that users can make";
         let open = item.generics("generic.type").find(is_open);
         open.map_or(Ok(()), |open| Err(self.source.fault(open.span, reason)))
     }
 
-    fn is_own_trait(&self, path: &Node) -> bool {
-        let found = self.scopes.resolve(self.module, &path.names());
-        let item = found.and_then(|found| self.scopes.item(&found.definition));
-        item.is_some_and(|item| item.kind == "trait")
-    }
-
     fn is_known_method(&self, name: &str) -> bool {
-        let is_own = self.members.methods.contains(name);
+        let is_own = self.members.methods.contains_key(name);
         has(if is_own { OWN_METHODS } else { std_names::METHODS }, name)
     }
 
@@ -214,12 +197,13 @@ impl<'a> Names<'a> {
     }
 
     fn is_resolved(&self, names: &[&str], role: &str) -> bool {
-        let Some(found) = self.scopes.resolve(self.module, names) else { return false };
-        let item = self.scopes.item(&found.definition);
-        match (&names[found.used..], &found.definition) {
+        let Some(Resolved { definition, used }) = self.scopes.resolve(self.module, names) else {
+            return false;
+        };
+        match (&names[used..], &definition) {
             ([], Definition::Foreign(path)) => may_be_foreign(path, role),
-            ([], Definition::Variant(..)) => true,
-            ([], _) => item.is_some_and(|item| may_be(item, role)),
+            ([], Definition::Item(id)) => may_be(self.scopes.item(*id).kind, role),
+            ([], found) => matches!(found, Definition::Variant(..)),
             ([name], Definition::Foreign(_)) => {
                 has(std_names::ASSOCIATED, name) && is_used(name, role)
             }
@@ -239,13 +223,13 @@ fn may_be_foreign(path: &str, role: &str) -> bool {
     }
 }
 
-// Whether an item of ours may have a role. What is called through a value need not meet its conditions.
-fn may_be(item: &Node, role: &str) -> bool {
-    match item.kind {
-        "function" => role == CALLEE,
-        "trait" => matches!(role, "path.bound" | "path.trait"),
-        // An argument of a type may be a constant, and a struct without fields is a value.
-        _ => !matches!(role, "path.bound" | "path.trait" | CALLEE),
+// Whether an item of ours may have a role. What is called through a value need not meet its conditions. An argument of
+// a type may be a constant, and a struct without fields is a value.
+fn may_be(kind: &str, role: &str) -> bool {
+    match role {
+        CALLEE => kind == "function",
+        "path.bound" | "path.trait" => kind == "trait",
+        _ => !["function", "trait"].contains(&kind),
     }
 }
 

@@ -71,13 +71,12 @@ pub fn check(source: &Source, exports: &[Export], scopes: &Scopes) -> Done<()> {
 // A trait is sealed if it has a supertrait of ours that is not exported: no path of a user's names that one.
 fn may_be_exported(definition: &Definition, exported: &[&Definition], scopes: &Scopes) -> bool {
     let Some(id) = definition.item() else { return false };
-    let Some(item) = scopes.item(definition) else { return false };
+    let item = scopes.item(id);
     match (item.kind, item.get("path")) {
         ("function" | "struct" | "enum", _) => true,
         ("trait", Some(bound)) => {
             let found = scopes.resolve(id.module, &bound.names()).map(|found| found.definition);
-            let is_own = |it: &Definition| scopes.item(it).is_some();
-            found.is_some_and(|it| is_own(&it) && !exported.contains(&&it))
+            found.is_some_and(|it| it.item().is_some() && !exported.contains(&&it))
         }
         _ => false,
     }

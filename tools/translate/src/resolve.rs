@@ -144,9 +144,9 @@ impl<'a> Scopes<'a> {
         Some(Resolved { definition, used: names.len() })
     }
 
-    /// Returns the item that a definition is.
-    pub fn item(&self, definition: &Definition) -> Option<&'a Node> {
-        definition.item().map(|id| &self.module(id.module).items[id.item])
+    /// Returns an item, or the one that holds a member.
+    pub fn item(&self, id: Id) -> &'a Node {
+        &self.module(id.module).items[id.item]
     }
 
     /// Returns a module by its number.
@@ -166,7 +166,7 @@ impl<'a> Scopes<'a> {
 
     // Returns a variant, if the item is an `enum` that has it.
     fn variant(&self, id: Id, name: &str) -> Option<Definition> {
-        let mut variants = self.module(id.module).items[id.item].all("variant");
+        let mut variants = self.item(id).all("variant");
         Some(Definition::Variant(id, variants.position(|it| it.name() == name)?))
     }
 }

@@ -95,11 +95,6 @@ impl Node {
         generics.filter(move |it| it.rule == rule)
     }
 
-    /// Says whether a function is called on a value.
-    pub fn is_method(&self) -> bool {
-        self.has("receiver")
-    }
-
     /// Returns the paths of a `use`, each with all its names, of which the last is imported. It is `*` for all names.
     pub fn imports(&self) -> Vec<Vec<&Node>> {
         let Some(imported) = self.get("imported") else { return Vec::new() };

@@ -65,7 +65,7 @@ impl<'a> World<'a> {
 
     /// Returns the item that holds a member, or the item itself.
     pub fn owner(&self, id: Id) -> &'a Node {
-        &self.module(id).items[id.item]
+        self.scopes.item(id)
     }
 
     pub fn item(&self, id: Id) -> &'a Node {
