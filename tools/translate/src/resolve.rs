@@ -35,7 +35,7 @@ pub struct Resolved {
 
 /// The names of all modules.
 pub struct Scopes<'a> {
-    package: &'a Package,
+    pub package: &'a Package,
     modules: Vec<BTreeMap<String, Definition>>,
 }
 

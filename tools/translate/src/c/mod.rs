@@ -14,6 +14,7 @@ use crate::checks;
 use crate::modules::Package;
 use crate::resolve::Scopes;
 use crate::source::{Fault, Source};
+use crate::std_names::has;
 use instances::Instances;
 use ir::{Bindings, Callee, Done, Form, Function, Type};
 use print::{Printer, qualifier};
@@ -25,59 +26,48 @@ use world::World;
 pub const TYPES: [&str; 10] =
     ["i8", "u8", "i16", "u16", "i32", "u32", "i64", "u64", "i128", "u128"];
 
-/// What C calls, for each type of integers: functions by their crate and path, `Self::` for one of a type. What is
-/// `inline` is in `torkettle.h`, and a compiler of C++20 may call what is `constant` and inline, with all that it calls.
-const ROOTS: [(&str, &str, &str); 19] = [
-    ("atoi_fast", "one_digit", "inline"),
-    ("atoi_fast", "quick_slice", ""),
-    ("atoi_fast", "long_slice", ""),
-    ("atoi_fast", "quick_prefix", "inline"),
-    ("atoi_fast", "prefix_by_digits", "inline constant"),
-    ("atoi_fast", "whole_by_digits", "inline constant"),
-    ("atoi_simd", "T::atoi_simd_parse", ""),
-    ("atoi_simd", "T::atoi_simd_parse_prefix", ""),
-    ("atoi_simd", "T::atoi_simd_parse_pos", ""),
-    ("atoi_simd", "T::atoi_simd_parse_prefix_pos", ""),
-    ("atoi_core", "AtoiSimdError::text", ""),
-    ("atoi_formats", "canonical", ""),
-    ("atoi_formats", "json_integer", ""),
-    ("atoi_column", "is_separator", "inline"),
-    ("atoi_column", "Fields::new", ""),
-    ("atoi_column", "Fields::lines", ""),
-    ("atoi_column", "Fields::position", ""),
-    ("atoi_column", "Fields::next", ""),
-    ("atoi_column", "Fields::read", ""),
+/// What C calls, for each type of integers: functions by their paths, `T::` for one of the type. What is `inline` is in
+/// `torkettle.h`, and a compiler of C++20 may call what is `constant` and inline, with all that it calls.
+const ROOTS: [(&str, &str); 19] = [
+    ("atoi_fast::one_digit", "inline"),
+    ("atoi_fast::quick_slice", ""),
+    ("atoi_fast::long_slice", ""),
+    ("atoi_fast::quick_prefix", "inline"),
+    ("atoi_fast::prefix_by_digits", "inline constant"),
+    ("atoi_fast::whole_by_digits", "inline constant"),
+    ("T::atoi_simd_parse", ""),
+    ("T::atoi_simd_parse_prefix", ""),
+    ("T::atoi_simd_parse_pos", ""),
+    ("T::atoi_simd_parse_prefix_pos", ""),
+    ("atoi_core::AtoiSimdError::text", ""),
+    ("atoi_formats::canonical", ""),
+    ("atoi_formats::json_integer", ""),
+    ("atoi_column::is_separator", "inline"),
+    ("atoi_column::Fields::new", ""),
+    ("atoi_column::Fields::lines", ""),
+    ("atoi_column::Fields::position", ""),
+    ("atoi_column::Fields::next", ""),
+    ("atoi_column::Fields::read", ""),
 ];
 
 const HEAD: &str =
     "/* Made by .ci/translate from the proved sources and c/interface. Do not edit. */\n";
 
 /// What C calls where Rust inlines it: long functions that few numbers need. Each type would have a copy.
-const CALLED: [(&str, &str); 9] = [
-    ("atoi_core", "narrow_prefix"),
-    ("atoi_core", "whole_64"),
-    ("atoi_core", "whole_128"),
-    ("atoi_fast", "loaded_slice"),
-    ("atoi_fast", "prefix_64"),
-    ("atoi_fast", "prefix_128"),
-    ("atoi_fast", "prefix_of_three_words"),
-    ("atoi_fast", "window"),
-    ("atoi_simd", "atoi_simd_parse_prefix"),
-];
+const CALLED: &str = "atoi_core::narrow_prefix atoi_core::whole_64 atoi_core::whole_128 atoi_fast::loaded_slice \
+    atoi_fast::prefix_64 atoi_fast::prefix_128 atoi_fast::prefix_of_three_words atoi_fast::window \
+    atoi_simd::atoi_simd_parse_prefix";
 
-/// The types that most numbers have.
-const COMMON: [&str; 4] = ["i32", "u32", "i64", "u64"];
-
-/// What C calls only for the other types.
-const CALLED_BY_OTHERS: [(&str, &str); 2] =
-    [("atoi_column", "read_part"), ("atoi_fast", "prefix_pos")];
+/// The types that most numbers have, and what C calls only for the others.
+const COMMON: &str = "i32 u32 i64 u64";
+const CALLED_BY_OTHERS: &str = "atoi_column::read_part atoi_fast::prefix_pos";
 
 /// Says whether C calls a function that Rust inlines.
 pub fn is_called(world: &World, key: &Callee) -> bool {
-    let name = (world.package.modules[key.id.module].crate_name, world.name(key.id));
-    let is_common = |of: &Type| COMMON.iter().any(|it| world::integer(it).as_ref() == Some(of));
-    let is_of_others = key.bindings.get("T").is_some_and(|of| !is_common(of));
-    CALLED.contains(&name) || is_of_others && CALLED_BY_OTHERS.contains(&name)
+    let name = format!("{}::{}", world.module(key.id).crate_name, world.name(key.id));
+    let is_common = |of: &Type| of.integer().is_some_and(|it| has(COMMON, it.0));
+    let is_for_others = key.bindings.get("T").is_some_and(|of| !is_common(of));
+    has(CALLED, &name) || is_for_others && has(CALLED_BY_OTHERS, &name)
 }
 
 /// What is written by hand of the library: the start of its functions, the header and the source.
@@ -89,7 +79,7 @@ pub fn made(top: &Path, is_checked: bool) -> Done<[(&'static str, String); 2]> {
     let package = Package::read(top, true)?;
     let scopes = Scopes::new(&package)?;
     checks::check(&package, &scopes)?;
-    let world = World::new(&package, &scopes);
+    let world = World::new(&scopes);
     let (inline, rest) = print(&world, &ROOTS, &TYPES, is_checked)?;
     let part = |name: &str| Done::Ok(Source::read(top, &Path::new(INTERFACE).join(name))?.text);
     let inline = format!("{}\n{inline}", part("prelude.h")?);
@@ -112,14 +102,14 @@ pub fn made(top: &Path, is_checked: bool) -> Done<[(&'static str, String); 2]> {
 /// that are never inlined are in the rest, and the inline part declares them.
 pub fn print(
     world: &World,
-    roots: &[(&str, &str, &str)],
+    roots: &[(&str, &str)],
     types: &[&str],
     is_checked: bool,
 ) -> Done<(String, String)> {
     let mut instances = Instances::new(world);
     let mut keys = Vec::new();
-    for (crate_name, path, place) in roots {
-        for callee in callees(world, crate_name, path, types)? {
+    for (path, place) in roots {
+        for callee in callees(world, path, types)? {
             keys.push((instances.add(&callee)?, *place));
         }
     }
@@ -149,27 +139,26 @@ pub fn print(
 }
 
 // Returns what a path names, for each type if it has a parameter.
-fn callees(world: &World, crate_name: &str, path: &str, types: &[&str]) -> Done<Vec<Callee>> {
-    let missing = || {
-        Fault::of_file(Path::new("crates").join(crate_name).as_path(), format!("C: no `{path}`"))
-    };
-    let module = world.package.find(crate_name, &[]).ok_or_else(missing)?;
-    let item = |name: &str| {
-        let found = world.scopes.resolve(module, &[name]);
-        found.and_then(|it| it.definition.item()).ok_or_else(missing)
-    };
-    let mut found: Vec<Callee> = Vec::new();
-    for of in types.iter().filter_map(|it| world::integer(it)) {
-        let mut callee = match path.split_once("::") {
-            None => Callee { id: item(path)?, bindings: Bindings::new() },
-            Some(("T", name)) => world.member(&of, name).ok_or_else(missing)?,
-            Some((owner, name)) => {
-                let id = item(owner)?;
+fn callees(world: &World, path: &str, types: &[&str]) -> Done<Vec<Callee>> {
+    let names: Vec<&str> = path.split("::").collect();
+    let callee = |of: &Type| {
+        if let ["T", name] = names[..] {
+            return world.member(of, name);
+        }
+        let found = world.scopes.resolve(0, &names)?;
+        let id = found.definition.item()?;
+        match names[found.used..] {
+            [member] => {
                 let arguments = vec![of.clone(); world.parameters(id).len()];
-                let own = Type::Of(Form::Item(id), arguments);
-                world.member(&own, name).ok_or_else(missing)?
+                world.member(&Type::Of(Form::Item(id), arguments), member)
             }
-        };
+            _ => Some(Callee { id, bindings: Bindings::new() }),
+        }
+    };
+    let mut found = Vec::new();
+    for of in types.iter().filter_map(|it| world::integer(it)) {
+        let missing = || Fault::of_file(Path::new("C"), format!("no `{path}`"));
+        let mut callee = callee(&of).ok_or_else(missing)?;
         callee.bindings.insert("T".into(), of);
         found.push(callee);
     }

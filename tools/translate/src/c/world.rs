@@ -2,14 +2,13 @@
 
 use super::ir::{Bindings, Callee, Done, Form, Id, Integer, Type};
 use crate::lexer::number;
-use crate::modules::{Module, Package};
+use crate::modules::Module;
 use crate::resolve::{Definition, Resolved, Scopes};
 use crate::source::{Fault, Source, Span};
 use crate::std_names::INTEGERS;
 use crate::tree::Node;
 
 pub struct World<'a> {
-    pub package: &'a Package,
     pub scopes: &'a Scopes<'a>,
     implementations: Vec<Implementation>,
 }
@@ -35,20 +34,20 @@ pub struct Place {
 }
 
 impl<'a> World<'a> {
-    pub fn new(package: &'a Package, scopes: &'a Scopes<'a>) -> World<'a> {
-        let mut world = World { package, scopes, implementations: Vec::new() };
+    pub fn new(scopes: &'a Scopes<'a>) -> World<'a> {
+        let mut world = World { scopes, implementations: Vec::new() };
         // C has words only.
         let of_words = |(_, it): &(usize, &Module)| it.crate_name != "atoi_lanes";
-        for (module, found) in package.modules.iter().enumerate().filter(of_words) {
-            for (item, it) in found.items.iter().enumerate() {
-                if it.kind != "implementation" {
-                    continue;
-                }
+        for (module, found) in scopes.package.modules.iter().enumerate().filter(of_words) {
+            let items = found.items.iter().enumerate();
+            for (item, it) in items.filter(|(_, it)| it.kind == "implementation") {
                 let id = Id { module, item, member: None };
                 // What C has no type for has no functions in C.
-                let Ok(mut place) = world.place(id, &Bindings::new()) else { continue };
-                let Some(target) = place.bindings.remove("Self") else { continue };
+                let Ok(Place { bindings, .. }) = world.place(id, &Bindings::new()) else {
+                    continue;
+                };
                 let of_trait = it.of_trait().and_then(|path| world.trait_of(module, path));
+                let target = bindings["Self"].clone();
                 world.implementations.push(Implementation { id, target, of_trait });
             }
         }
@@ -56,7 +55,7 @@ impl<'a> World<'a> {
     }
 
     pub fn module(&self, id: Id) -> &'a Module {
-        &self.package.modules[id.module]
+        self.scopes.module(id.module)
     }
 
     pub fn source(&self, id: Id) -> &'a Source {
@@ -121,35 +120,31 @@ impl<'a> World<'a> {
             ("list", [_, Node { kind: "integer", text, .. }]) => {
                 Ok(Type::array(part(0)?, number(text).unwrap_or_default()))
             }
-            _ => {
-                let source = &self.package.modules[place.module].source;
-                Err(source.fault(tree.span, "C: this type has no rule"))
-            }
+            _ => Err(self.unknown_type(place, tree)),
         }
+    }
+
+    fn unknown_type(&self, place: &Place, tree: &Node) -> Fault {
+        self.scopes.module(place.module).source.fault(tree.span, "C: this type has no rule")
     }
 
     /// Returns the type that the names of a path, or the first of them, stand for at a place.
     pub fn named_type(&self, place: &Place, path: &[Node]) -> Done<Type> {
-        let source = &self.package.modules[place.module].source;
-        if let [only] = path {
-            if let Some(known) = place.bindings.get(only.name()) {
-                return Ok(known.clone());
-            }
-        }
-        let unknown = || source.fault(path[0].span, "C: this type has no rule");
         let names: Vec<&str> = path.iter().map(Node::name).collect();
+        if let ([_], Some(known)) = (&names[..], place.bindings.get(names[0])) {
+            return Ok(known.clone());
+        }
+        let unknown = || self.unknown_type(place, &path[0]);
         let found = self.scopes.resolve(place.module, &names).ok_or_else(unknown)?;
         let arguments = path[path.len() - 1].last().parts.iter();
-        let arguments = arguments.map(|argument| self.type_in(place, argument));
-        let arguments = arguments.collect::<Done<Vec<Type>>>()?;
-        if let Definition::Foreign(name) = &found.definition {
-            return foreign_type(name, arguments).ok_or_else(unknown);
-        }
-        let is_whole = found.used == path.len();
-        let id = found.definition.item().filter(|_| is_whole).ok_or_else(unknown)?;
-        match self.item(id).kind {
-            "struct" | "enum" => Ok(Type::Of(Form::Item(id), arguments)),
-            "alias" => self.type_in(&self.place_of(id, &arguments)?, self.item(id).last()),
+        let arguments = arguments.map(|it| self.type_in(place, it)).collect::<Done<Vec<Type>>>()?;
+        match found.definition {
+            Definition::Foreign(name) => foreign_type(&name, arguments).ok_or_else(unknown),
+            Definition::Item(id) if found.used == path.len() => match self.item(id).kind {
+                "struct" | "enum" => Ok(Type::Of(Form::Item(id), arguments)),
+                "alias" => self.type_in(&self.place_of(id, &arguments)?, self.item(id).last()),
+                _ => Err(unknown()),
+            },
             _ => Err(unknown()),
         }
     }
@@ -191,12 +186,10 @@ impl<'a> World<'a> {
             Form::Item(id) => {
                 let place = self.place_of(id, parts)?;
                 let item = self.item(id);
+                let variants = item.all("variant").map(|it| self.variant(&place, it.name(), it));
                 match item.kind {
                     "struct" => vec![self.variant(&place, "new", item)?],
-                    _ => {
-                        let made = |it: &Node| self.variant(&place, it.name(), it);
-                        item.all("variant").map(made).collect::<Done<_>>()?
-                    }
+                    _ => variants.collect::<Done<_>>()?,
                 }
             }
         })
@@ -237,16 +230,13 @@ impl<'a> World<'a> {
 
     /// Finds a member of a type by its name: one of its own, or one that a trait of it provides.
     pub fn member(&self, of: &Type, name: &str) -> Option<Callee> {
-        let fitting = || {
-            let all = self.implementations.iter();
-            all.filter_map(|it| Some((it, matched(&it.target, of)?)))
+        let all = self.implementations.iter();
+        let fitting = all.filter_map(|it| Some((it, matched(&it.target, of)?)));
+        let own = |(it, bindings): (&Implementation, Bindings)| {
+            Some(Callee { id: self.position(it.id, name)?, bindings })
         };
-        let own =
-            fitting().find_map(|(it, bindings)| Some((self.position(it.id, name)?, bindings)));
-        if let Some((id, bindings)) = own {
-            return Some(Callee { id, bindings });
-        }
-        fitting().find_map(|(it, _)| self.provided(it.of_trait?, of, name))
+        let provided = |(it, _): (&Implementation, _)| self.provided(it.of_trait?, of, name);
+        fitting.clone().find_map(own).or_else(|| fitting.clone().find_map(provided))
     }
 
     // Finds a member of a trait or of those before it.
