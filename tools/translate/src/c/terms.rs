@@ -8,11 +8,8 @@ use super::types::declared;
 use crate::source::Fault;
 use crate::tree::{is_comparison, is_shift};
 
-/// The functions of the prelude for what C has no operator for, without `tk_`.
-const SMALL: &str = "u8_is_digit u32_min size_min size_max size_saturating_add size_saturating_sub \
-    u128_saturating_sub u128_sum_fits u128_product_fits u32_trailing_zeros u64_trailing_zeros \
-    i8_unsigned_abs i16_unsigned_abs i32_unsigned_abs i64_unsigned_abs i128_unsigned_abs \
-    i128_negate u16_load u32_load u64_load";
+// The functions for what C has no operator for.
+const PRELUDE: &str = include_str!("../../../../c/interface/prelude.h");
 
 /// Prints a term.
 pub fn print(printer: &mut Printer, term: &Term) -> Done<Text> {
@@ -39,17 +36,21 @@ pub fn print(printer: &mut Printer, term: &Term) -> Done<Text> {
         }
         Kind::Small(name) => {
             let own = term.parts[0].of.integer().or(term.of.integer());
-            let name = own.map_or(String::new(), |own| format!("{}_{name}", own.name()));
-            if !SMALL.split(' ').any(|it| it == name) {
+            let name = own.map_or(String::new(), |own| format!("tk_{}_{name}", own.name()));
+            if name.is_empty() || !PRELUDE.contains(&format!(" {name}(")) {
                 return Err(refuse(printer, term, "this operation"));
             }
-            call(format!("tk_{name}"), &texts)
+            call(name, &texts)
         }
         Kind::Binary(operator) => binary(printer, operator, false, term, texts)?,
         Kind::Wrapping(operator) => binary(printer, operator, true, term, texts)?,
         Kind::Not => Text::new(format!("!{}", texts[0].at(UNARY)), UNARY),
         Kind::Cast => cast(printer, &term.parts[0], &texts[0], &term.of)?,
-        Kind::Make(variant) => made(printer, *variant, &texts, &term.of)?,
+        Kind::Make(variant) => {
+            printer.name(&term.of)?;
+            let fields: Vec<String> = texts.into_iter().map(|it| it.text).collect();
+            Text::atom(printer.made(&term.of, *variant, &fields)?)
+        }
         // Of two slices that are there already, one is chosen without a branch.
         Kind::Choice
             if term.of == Type::slice(Type::BYTE, false)
@@ -122,8 +123,8 @@ fn number(value: u128, hexadecimal: usize, of: &Type) -> Option<Text> {
         0 => value.to_string(),
         width => format!("0x{value:0width$X}"),
     };
-    Some(Text::atom(match integer.bits() {
-        128 => {
+    Some(Text::atom(match (integer.bits(), integer.is_signed()) {
+        (128, _) => {
             let (name, high) = (integer.name(), value >> 64);
             let low = number(u128::from(value as u64), 0, &Type::Integer(Integer("u64")))?.text;
             match high {
@@ -132,8 +133,8 @@ fn number(value: u128, hexadecimal: usize, of: &Type) -> Option<Text> {
             }
         }
         _ if value <= 0x7FFF_FFFF => digits,
-        32 if !integer.is_signed() => format!("{digits}u"),
-        64 if !integer.is_signed() => format!("UINT64_C({digits})"),
+        (32, false) => format!("{digits}u"),
+        (64, false) => format!("UINT64_C({digits})"),
         _ => return None,
     }))
 }
@@ -191,26 +192,23 @@ pub fn initializer(printer: &mut Printer, value: &Term) -> Done<String> {
 
 fn cast(printer: &Printer, inner: &Term, text: &Text, of: &Type) -> Done<Text> {
     let to = of.integer().ok_or_else(|| refuse(printer, inner, "a cast to this type"))?;
-    let (name, value) = (to.name(), &text.text);
-    let Some(from) = inner.of.integer() else {
-        return match (&inner.of, to.bits()) {
-            (Type::Boolean, 128) => Ok(Text::atom(format!("tk_{name}_of({value})"))),
-            (Type::Boolean, 64) if name == "u64" => Ok(Text::atom(format!("tk_bit({value})"))),
-            (Type::Boolean, _) => Ok(cast_to(to, text)),
-            _ => Err(refuse(printer, inner, "a cast of this type")),
-        };
+    let (from, is_signed, bits) = match inner.of {
+        Type::Integer(from) => (from.name(), from.is_signed(), from.bits()),
+        Type::Boolean => ("bool", false, 1),
+        _ => return Err(refuse(printer, inner, "a cast of this type")),
     };
-    let from_name = from.name();
-    Ok(match (from.bits(), to.bits()) {
-        _ if from == to => Text::new(value.clone(), text.level),
-        (128, 128) => Text::atom(format!("tk_{from_name}_as_{name}({value})")),
-        (_, 128) if from.is_signed() => {
+    let value = &text.text;
+    Ok(match (bits, to.bits()) {
+        _ if inner.of == *of => Text::new(value, text.level),
+        (1, 64) if to.name() == "u64" => Text::atom(format!("tk_bit({value})")),
+        (128, 128) => Text::atom(format!("tk_{from}_as_{}({value})", to.name())),
+        (_, 128) if is_signed => {
             return Err(refuse(printer, inner, "a signed number of 128 bits"));
         }
-        (_, 128) => Text::atom(format!("tk_{name}_of({value})")),
-        (128, bits) => {
-            let low = Text::atom(format!("tk_{from_name}_low({value})"));
-            if bits == 64 && !to.is_signed() { low } else { cast_to(to, &low) }
+        (_, 128) => Text::atom(format!("tk_{}_of({value})", to.name())),
+        (128, _) => {
+            let low = Text::atom(format!("tk_{from}_low({value})"));
+            if to.name() == "u64" { low } else { cast_to(to, &low) }
         }
         _ => cast_to(to, text),
     })
@@ -218,12 +216,6 @@ fn cast(printer: &Printer, inner: &Term, text: &Text, of: &Type) -> Done<Text> {
 
 fn cast_to(to: Integer, text: &Text) -> Text {
     Text::atom(format!("TK_CAST({}, {})", to.type_name(), text.text))
-}
-
-fn made(printer: &mut Printer, variant: usize, texts: &[Text], of: &Type) -> Done<Text> {
-    printer.name(of)?;
-    let fields: Vec<String> = texts.iter().map(|it| it.text.clone()).collect();
-    printer.made(of, variant, &fields).map(Text::atom)
 }
 
 // Operators, their levels, the names of the functions that stand for them, and what is proved of their operands.
@@ -265,21 +257,18 @@ fn binary(
         Type::Integer(own) if own.bits() == 128 => {
             return Ok(wide(own, operator, is_wrapping, texts));
         }
-        Type::Integer(own) => Some(own).filter(|_| !is_comparison(operator)),
-        Type::Boolean => None,
+        Type::Integer(own) if !is_comparison(operator) => own,
+        Type::Integer(_) | Type::Boolean => return Ok(joined(operator, &texts)),
         _ => return Err(refuse(printer, term, "a comparison of these")),
     };
-    let level = known(operator).0;
-    let Some(own) = own else { return Ok(Text::new(joined(operator, &texts), level)) };
-    if is_wrapping && (own.is_signed() || own.bits() < 32) {
-        return Err(refuse(printer, term, "a wrapping operation on this type"));
-    }
-    // A product or a shift of 16 bits may be more than an `int`.
-    if own.bits() < 32 && matches!(operator, "*" | "<<") {
-        return Err(refuse(printer, term, "this operation on so few bits"));
-    }
-    if is_shift(operator) && own.is_signed() {
-        return Err(refuse(printer, term, "a shift of a signed number"));
+    let refusals = [
+        (is_wrapping && (own.is_signed() || own.bits() < 32), "a wrapping operation on this type"),
+        // A product or a shift of 16 bits may be more than an `int`.
+        (own.bits() < 32 && matches!(operator, "*" | "<<"), "this operation on so few bits"),
+        (own.is_signed() && is_shift(operator), "a shift of a signed number"),
+    ];
+    if let Some((_, what)) = refusals.into_iter().find(|(is_refused, _)| *is_refused) {
+        return Err(refuse(printer, term, what));
     }
     // A literal would be an `int`.
     if let (true, Kind::Number { value, .. }) = (is_shift(operator), &term.parts[0].kind) {
@@ -289,7 +278,7 @@ fn binary(
     let checked = if is_wrapping { None } else { checked(printer, own, operator) };
     Ok(match checked {
         Some(name) => call(name, &texts),
-        None => narrow(own, Text::new(joined(operator, &texts), level)),
+        None => narrow(own, joined(operator, &texts)),
     })
 }
 
@@ -308,7 +297,7 @@ fn wide(own: Integer, operator: &str, is_wrapping: bool, mut texts: Vec<Text>) -
 }
 
 // Joins operands, with parentheses wherever compilers and readers ask for them.
-fn joined(sign: &str, texts: &[Text]) -> String {
+fn joined(sign: &str, texts: &[Text]) -> Text {
     let level = known(sign).0;
     let is_bits = matches!(sign, "<<" | ">>" | "&" | "|" | "^");
     let side = |text: &Text, least: u8, is_left: bool| {
@@ -317,7 +306,8 @@ fn joined(sign: &str, texts: &[Text]) -> String {
             is_bits && text.level < UNARY && !is_same || sign == "||" && text.level == AND;
         if is_unclear { format!("({})", text.text) } else { text.at(least) }
     };
-    format!("{} {sign} {}", side(&texts[0], level, true), side(&texts[1], level + 1, false))
+    let (left, right) = (side(&texts[0], level, true), side(&texts[1], level + 1, false));
+    Text::new(format!("{left} {sign} {right}"), level)
 }
 
 // Adds a function that asserts what is proved of the operands of an operator, if that is wanted, and returns its name.
