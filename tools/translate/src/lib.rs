@@ -62,14 +62,12 @@ pub fn compare(top: &Path) -> Done<(usize, BTreeMap<PathBuf, Option<String>>)> {
     let number = made.len();
     let mut differ = BTreeMap::new();
     if top.join(PROVED).exists() {
-        let present = files_in(top, Path::new(PROVED))?.into_iter();
-        differ.extend(present.filter(|file| !made.contains_key(file)).map(|file| (file, None)));
+        differ.extend(files_in(top, Path::new(PROVED))?.into_iter().map(|file| (file, None)));
     }
-    let is_made = |file: &Path, text: &str| {
-        fs::read(top.join(file)).is_ok_and(|present| present == text.as_bytes())
-    };
-    let missing = made.into_iter().filter(|(file, text)| !is_made(file, text));
-    differ.extend(missing.map(|(file, text)| (file, Some(text))));
+    differ.extend(made.into_iter().map(|(file, text)| (file, Some(text))));
+    let holds =
+        |file: &Path, text: &str| fs::read(top.join(file)).is_ok_and(|it| it == text.as_bytes());
+    differ.retain(|file, text| text.as_ref().is_none_or(|text| !holds(file, text)));
     Ok((number, differ))
 }
 

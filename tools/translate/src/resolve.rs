@@ -48,7 +48,11 @@ impl<'a> Scopes<'a> {
             scopes.declare_items(number, module)?;
         }
         for (number, module) in package.modules.iter().enumerate() {
-            scopes.check_declaration(number, module)?;
+            let mut declared = scopes.modules.iter().flat_map(BTreeMap::values);
+            if !module.path.is_empty() && !declared.any(|it| *it == Definition::Module(number)) {
+                let reason = "no `mod` declares this module";
+                return Err(Fault::of_file(&module.source.path, reason));
+            }
             for item in &module.items {
                 item.imports().iter().try_for_each(|path| scopes.import(number, item, path))?;
             }
@@ -71,16 +75,6 @@ impl<'a> Scopes<'a> {
         Ok(())
     }
 
-    // Refuses a file that no module declares.
-    fn check_declaration(&self, number: usize, module: &Module) -> Done<()> {
-        let Some((name, above)) = module.path.split_last() else { return Ok(()) };
-        let above = self.package.find(module.crate_name, above);
-        match above.and_then(|above| self.get(above, name)) {
-            Some(Definition::Module(found)) if *found == number => Ok(()),
-            _ => Err(Fault::of_file(&module.source.path, "no `mod` declares this module")),
-        }
-    }
-
     fn declare(&mut self, module: usize, name: &str, at: Span, what: Definition) -> Done<()> {
         match self.modules[module].insert(name.into(), what) {
             None => Ok(()),
@@ -94,29 +88,26 @@ impl<'a> Scopes<'a> {
     // Adds what a path of a `use` imports to the names of a module.
     fn import(&mut self, module: usize, item: &Node, path: &[&Node]) -> Done<()> {
         let (names, last) = (texts(path), path[path.len() - 1]);
-        let found: Vec<(&str, Definition)> = if let [above @ .., "*"] = &names[..] {
-            let all = std_names::names_of(&above.join("::")).iter();
-            all.map(|name| (*name, foreign(&[above, &[name]].concat()))).collect()
-        } else {
-            let name = item.get("renamed").map_or(last, Node::last).text.as_str();
-            self.imported(module, &names).map(|it| (name, it)).into_iter().collect()
+        let path = names.join("::");
+        if path == std_names::ALL_VECTORS {
+            let mut vectors = std_names::VECTORS.into_iter();
+            return vectors
+                .try_for_each(|name| self.declare(module, name, last.span, foreign(&[name])));
+        }
+        let found = match names[0] {
+            "std" => std_names::is_known(&path).then(|| foreign(&names)),
+            name if name == "crate" || CRATES.contains(&name) => {
+                let found = self.resolve(module, &names);
+                found.filter(|it| it.used == names.len()).map(|it| it.definition)
+            }
+            _ => None,
         };
-        if found.is_empty() {
-            let reason = format!("`{}` is not known here", names.join("::"));
-            return Err(self.module(module).source.fault(last.span, reason));
-        }
-        found.into_iter().try_for_each(|(name, it)| self.declare(module, name, last.span, it))
-    }
-
-    // Resolves the path of a `use`, which begins with `crate`, `std` or a crate.
-    fn imported(&self, module: usize, names: &[&str]) -> Option<Definition> {
-        match names[0] {
-            "std" => return std_names::is_known(&names.join("::")).then(|| foreign(names)),
-            name if name != "crate" && !CRATES.contains(&name) => return None,
-            _ => {}
-        }
-        let found = self.resolve(module, names)?;
-        (found.used == names.len()).then_some(found.definition)
+        let unknown = || {
+            let reason = format!("`{path}` is not known here");
+            self.module(module).source.fault(last.span, reason)
+        };
+        let name = &item.get("renamed").map_or(last, Node::last).text;
+        self.declare(module, name, last.span, found.ok_or_else(unknown)?)
     }
 
     /// Resolves a path in a module. Its first name must not be `Self`, a parameter or a variable.

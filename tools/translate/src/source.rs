@@ -28,13 +28,6 @@ pub struct Fault {
 /// What may be refused.
 pub type Done<T> = Result<T, Fault>;
 
-impl Span {
-    /// Returns the part from the start of this one to the end of another.
-    pub fn to(self, last: Span) -> Span {
-        Span { start: self.start, end: last.end }
-    }
-}
-
 impl Source {
     pub fn new(path: &Path, text: String) -> Source {
         Source { path: path.into(), text }

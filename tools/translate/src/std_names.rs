@@ -37,8 +37,9 @@ pub const METHODS: &str = "len is_empty as_bytes iter first first_chunk last_chu
     count enumerate filter take_while ok unwrap write_str dot4 simd_eq simd_ge simd_le \
     reduce_sum swizzle_dyn_within to_array to_bitmask";
 
-/// The vectors that `std::simd::prelude::*` imports. `rust/src/simd` stands for `std::simd`.
-const VECTORS: [&str; 3] = ["u8x16", "u16x8", "u64x2"];
+/// The vectors that are imported together. `rust/src/simd` stands for `std::simd`.
+pub const VECTORS: [&str; 3] = ["u8x16", "u16x8", "u64x2"];
+pub const ALL_VECTORS: &str = "std::simd::prelude::*";
 
 /// Says whether a name is built in.
 pub fn is_built_in(name: &str) -> bool {
@@ -48,11 +49,6 @@ pub fn is_built_in(name: &str) -> bool {
 /// Says whether a path of `std` is known.
 pub fn is_known(path: &str) -> bool {
     has(PATHS, path)
-}
-
-/// Returns the names of a module of `std` that may be imported as a whole.
-pub fn names_of(path: &str) -> &'static [&'static str] {
-    if path == "std::simd::prelude" { &VECTORS } else { &[] }
 }
 
 /// Says whether a name is in a list.
