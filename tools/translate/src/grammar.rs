@@ -5,8 +5,8 @@
 //! alternatives, of which the first that fits is taken. `?` is behind what may be missing, `*` behind what may be
 //! there many times, `,*` behind what has commas between it. A sign between quotes is a token; `@` makes a node of it,
 //! and `^` takes it also as the first half of a symbol. `&` and `!` look at what comes next. Behind `<<` stand nodes
-//! that get what was read as their first part, one by one; behind `<?` at most one does, and behind `<!` one. `PLAIN`
-//! reads what has no struct, as a block follows. Other capital letters name kinds of tokens.
+//! that get what was read as their first part, one by one; behind `<!` stands one. `PLAIN` reads what has no struct, as
+//! a block follows. Other capital letters name kinds of tokens.
 
 pub const GRAMMAR: &str = r#"
 module             = item* END
@@ -116,11 +116,11 @@ path.made          = &CAPITAL names
 binding            = mutable? name ( '@' element )?
 binding.name       = name
 
-expression         ~ or <? assign
+expression         ~ or << assign
 assign             = ( @'=' / @'+=' ) expression -- an operator
 or                 ~ and << binary.or
 and                ~ comparison << binary.and
-comparison         ~ bit_or <? binary.comparison
+comparison         ~ bit_or << binary.comparison
 bit_or             ~ bit_xor << binary.bit_or
 bit_xor            ~ bit_and << binary.bit_xor
 bit_and            ~ shift << binary.bit_and
@@ -130,7 +130,8 @@ product            ~ cast_or_less << binary.product
 cast_or_less       ~ unary << cast
 binary.or          = @'||' and -- an operator
 binary.and         = @'&&' comparison -- an operator
-binary.comparison  = ( @'==' / @'!=' / @'<' / @'>' / @'<=' / @'>=' ) bit_or -- an operator
+binary.comparison  = compared bit_or !compared -- an operator
+compared           ~ @'==' / @'!=' / @'<' / @'>' / @'<=' / @'>='
 binary.bit_or      = @'|' bit_xor -- an operator
 binary.bit_xor     = @'^' bit_and -- an operator
 binary.bit_and     = @'&' shift -- an operator
@@ -154,9 +155,8 @@ part.to            = '..' expression ']'
 method             = '.' name arguments.value '(' expression,* ')' -- an operator
 member_of          = '.' ( name / INTEGER ) -- an operator
 
-primary            ~ literal / tuple / in_parentheses / repeat / list / closure / matches / named / block_like / return / break
+primary            ~ literal / in_parentheses / repeat / list / closure / matches / named / block_like / return / break
 named              ~ struct.value / call / path.value
-tuple              = '(' ')'
 in_parentheses     ~ '(' expression <! ( group / tuple.more )
 group              = ')'
 tuple.more         = ',' expression,* ')'
@@ -202,17 +202,17 @@ otherwise          = 'else' block
 done               = ';'
 
 facade             = facade_item* END
-facade_item        ~ notices <! ( proved / facade_other )
-facade_other       ~ outer / ignored / export
+facade_item        ~ notices <! ( proved / outer / ignored / export )
 proved             = 'mod' 'proved' '{' inner_item* '}'
-inner_item         ~ notices <! facade_other
+outer              = 'pub'? 'mod' !'proved' name ( ';' / '{' inner_item* '}' )
+inner_item         ~ notices <! ( inner / export )
+inner              = 'pub'? 'mod' !'proved' name ( ';' / '{' '}' )
 notices            = ( DOC / '#' '!' '[' known ']' / notice )*
 notice             = '#' '[' known ']'
 known              ~ known_name in_attribute*
 known_name         ~ 'allow' / 'cfg' / 'cfg_attr' / 'no_std' / 'rustfmt' / 'warn' -- an attribute that is known
 in_attribute       ~ lanes / '[' in_attribute* ']' / !( ']' / 'path' / 'include' / 'macro_use' / 'proved' ) ANY
 lanes              = '"lanes"'
-outer              = 'pub'? 'mod' !'proved' name ( ';' / '{' inner_item* '}' )
 ignored            = 'extern' 'crate' 'std' ';' / 'compile_error' '!' '(' TEXT ')' ';'
 export             = 'pub' 'use' imports ';'
 "#;

@@ -40,12 +40,11 @@ pub enum Form {
     Next(Box<Form>),
     Not(Box<Form>),
     Plain(Box<Form>),
-    /// What is read before others, which get it as their first part: at least and at most so many.
+    /// What is read before others, which get it as their first part: one, or any number.
     Into {
         first: Box<Form>,
         then: Box<Form>,
-        least: usize,
-        most: usize,
+        is_one: bool,
     },
 }
 
@@ -74,17 +73,17 @@ impl Reader {
     fn sequence(&mut self) -> Form {
         let mut forms = Vec::new();
         while let Some(word) = self.words.next_if(|it| *it != "/" && !it.starts_with(')')) {
-            let (least, most) = match word {
-                "<<" => (0, usize::MAX),
-                "<?" => (0, 1),
-                "<!" => (1, 1),
-                _ => {
-                    forms.push(self.form(word));
-                    continue;
+            let form = match (word, forms.pop()) {
+                ("<<" | "<!", Some(first)) => {
+                    let (first, then) = (Box::new(first), Box::new(self.next()));
+                    Form::Into { first, then, is_one: word == "<!" }
+                }
+                (_, before) => {
+                    forms.extend(before);
+                    self.form(word)
                 }
             };
-            let (first, then) = (forms.pop().map(Box::new), Box::new(self.next()));
-            forms.extend(first.map(|first| Form::Into { first, then, least, most }));
+            forms.push(form);
         }
         if forms.len() == 1 { forms.remove(0) } else { Form::Sequence(forms) }
     }

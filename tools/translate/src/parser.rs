@@ -151,9 +151,9 @@ impl<'a> Parser<'a> {
                 self.is_plain = before;
                 fits
             }
-            Form::Into { first, then, least, most } => {
+            Form::Into { first, then, is_one } => {
                 let start = self.nodes.len();
-                self.form(first) && self.put_into(then, *most, start) >= *least
+                self.form(first) && self.put_into(then, start, *is_one)
             }
         }
     }
@@ -191,16 +191,17 @@ impl<'a> Parser<'a> {
         fits
     }
 
-    // Puts the last node, and what is made of it, into those that follow. Returns their number.
-    fn put_into(&mut self, form: &'static Form, most: usize, start: usize) -> usize {
-        let mut count = 0;
-        while count < most && self.attempt(form) {
+    // Puts the nodes from `start` on into the one that follows, and that into the next one. Returns whether it fits.
+    fn put_into(&mut self, form: &'static Form, start: usize, is_one: bool) -> bool {
+        while self.attempt(form) {
             let node = self.nodes.pop();
             let first = self.nodes.split_off(start);
             self.nodes.extend(node.map(|node| node.begun_with(first)));
-            count += 1;
+            if is_one {
+                return true;
+            }
         }
-        count
+        !is_one
     }
 
     fn sign(&mut self, text: &'static str, makes_node: bool, may_be_half: bool) -> bool {

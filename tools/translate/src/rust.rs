@@ -10,9 +10,16 @@ use crate::tree::{Node, texts};
 
 /// Returns the text of the file that a module becomes.
 pub fn print(module: &Module, tests: &Tests) -> Done<String> {
+    let Module { items, left_out, crate_name, path, source } = module;
     let mut printer = Printer { module, tests, edits: Vec::new(), fault: None };
-    printer.run();
-    let (source, fault) = (module.source.path.display(), printer.fault.take());
+    left_out.iter().for_each(|item| printer.comment(item.span));
+    for item in items {
+        if path.is_empty() && engines::needs_lanes(crate_name, item) {
+            printer.insert(item.span.start, "#[cfg(feature = \"lanes\")] ");
+        }
+        printer.node(item);
+    }
+    let (source, fault) = (source.path.display(), printer.fault.take());
     let rust = printer.finish();
     fault.map_or(Ok(format!("/* Made by .ci/translate from {source}. Do not edit. */ {rust}")), Err)
 }
@@ -26,17 +33,6 @@ struct Printer<'a> {
 }
 
 impl Printer<'_> {
-    fn run(&mut self) {
-        let Module { items, left_out, crate_name, path, .. } = self.module;
-        left_out.iter().for_each(|item| self.comment(item.span));
-        for item in items {
-            if path.is_empty() && engines::needs_lanes(crate_name, item) {
-                self.insert(item.span.start, "#[cfg(feature = \"lanes\")] ");
-            }
-            self.node(item);
-        }
-    }
-
     // The source with what stands in the place of its parts.
     fn finish(mut self) -> String {
         let (mut rust, mut done) = (String::new(), 0);

@@ -306,14 +306,12 @@ fn chosen(world: &World, key: &Callee, is_zero: bool) -> String {
 }
 
 fn plain_name(world: &World, key: &Callee) -> Done<String> {
-    let mut name = text::snake(world.name(key.id));
-    if world.owner(key.id).kind == "implementation" {
-        let place = world.place(key.id, &Bindings::new())?;
-        let own = short(world, &place.bindings["Self"]);
-        name = match place.bindings["Self"] {
-            Type::Of(Form::Item(_), _) => format!("{own}_{name}"),
-            _ => format!("{name}_{own}"),
-        };
-    }
+    let name = text::snake(world.name(key.id));
+    let place = world.place(key.id, &Bindings::new())?;
+    let name = match place.bindings.get("Self") {
+        None | Some(Type::Parameter(_)) => name,
+        Some(own @ Type::Of(Form::Item(_), _)) => format!("{}_{name}", short(world, own)),
+        Some(own) => format!("{name}_{}", short(world, own)),
+    };
     Ok(name + &chosen(world, key, false))
 }
