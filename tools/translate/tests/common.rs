@@ -16,6 +16,21 @@ pub fn repository() -> (Source, Package) {
     (Source::new(Path::new("lib.rs"), facade), Package::read(Path::new(TOP), false).unwrap())
 }
 
+/// Returns what is made of a package in which a module has another text.
+pub fn with_text<T>(
+    package: &mut Package,
+    number: usize,
+    text: String,
+    make: impl FnOnce(&Package) -> Done<T>,
+) -> Done<T> {
+    let Module { crate_name, path, source, .. } = &package.modules[number];
+    let mut module = Module::new(crate_name, path.clone(), Source::new(&source.path, text))?;
+    std::mem::swap(&mut package.modules[number], &mut module);
+    let made = make(package);
+    std::mem::swap(&mut package.modules[number], &mut module);
+    made
+}
+
 /// Returns a package in which one crate is a source, and the others are empty.
 fn package(crate_name: &str, text: &str) -> Done<Package> {
     let modules = CRATES.into_iter().map(|name| {

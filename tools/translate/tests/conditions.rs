@@ -1,26 +1,21 @@
 //! Conditions in each place of the proved sources.
 
-use crate::common::repository;
-use torkettle_translate::modules::Module;
-use torkettle_translate::source::Source;
+use crate::common::{repository, with_text};
+use torkettle_translate::modules::{Module, Package};
 use torkettle_translate::tree::Node;
 use torkettle_translate::{conditions, facade};
 
 // The functions of a module: where a condition of each can stand, and whether users can call it.
 fn functions(module: &Module, exported: &[&str]) -> Vec<(usize, bool)> {
     let is_inner = ["atoi_core", "atoi_fast", "atoi_lanes"].contains(&module.crate_name);
-    let found = |item: &Node, is_free: bool| {
-        let end = item.get("block").map_or(item.span.end - 1, |body| body.span.start);
-        let is_exported = !is_inner || exported.contains(&item.name());
-        let is_callable = !is_free || item.is_public() && is_exported;
-        (item.kind == "function").then_some((end, is_callable))
-    };
-    let items = module.items.iter();
-    let all = items.flat_map(|item| {
-        let members = item.members().iter().map(|member| found(member, false));
-        std::iter::once(found(item, true)).chain(members)
+    let members = module.items.iter().flat_map(Node::members).map(|member| (member, false));
+    let all = module.items.iter().map(|item| (item, true)).chain(members);
+    let found = all.filter(|(it, _)| it.kind == "function").map(|(it, is_free)| {
+        let end = it.get("block").map_or(it.span.end - 1, |body| body.span.start);
+        let is_exported = !is_inner || exported.contains(&it.name());
+        (end, !is_free || it.is_public() && is_exported)
     });
-    all.flatten().collect()
+    found.collect()
 }
 
 // A condition that nothing tests, planted on each function in turn. Of those that users cannot call, the proofs
@@ -32,8 +27,7 @@ fn each_planted_condition_is_refused_where_users_call() {
     let exported: Vec<&str> = exports.iter().map(|export| export.name.as_str()).collect();
     let (mut refused, mut taken) = (0, 0);
     for number in 0..package.modules.len() {
-        let Module { crate_name, path, source, .. } = &package.modules[number];
-        let (crate_name, path, source) = (*crate_name, path.clone(), source.clone());
+        let source = package.modules[number].source.clone();
         let functions = functions(&package.modules[number], &exported);
         let lines = source.text.lines().map(|line| line.trim_start());
         let lines =
@@ -42,16 +36,14 @@ fn each_planted_condition_is_refused_where_users_call() {
         for (end, is_callable) in functions {
             let (head, tail) = source.text.split_at(end);
             let text = format!("{head} requires {{ 0 ≡ 1 }} {tail}");
-            let changed = Source::new(&source.path, text);
-            package.modules[number] = Module::new(crate_name, path.clone(), changed).unwrap();
             let line = 1 + head.matches('\n').count();
-            let fault = conditions::tests(&package, &exported).err();
+            let tests = |package: &Package| conditions::tests(package, &exported);
+            let fault = with_text(&mut package, number, text, tests).err();
             let place = fault.map(|fault| (fault.file, fault.line));
             let expected = is_callable.then(|| (source.path.clone(), Some(line)));
             assert_eq!(place, expected, "line {line} of {}", source.path.display());
             *if is_callable { &mut refused } else { &mut taken } += 1;
         }
-        package.modules[number] = Module::new(crate_name, path, source).unwrap();
     }
     println!("{refused} conditions refused, {taken} of functions that users cannot call");
     assert!(refused > 100 && taken > 50);

@@ -1,6 +1,6 @@
 //! What becomes of each form of `forms.txt`: it is refused for a reason, or taken, with its Rust or its C.
 
-use crate::common::{c, joined, repository, rust};
+use crate::common::{c, joined, repository, rust, with_text};
 use std::path::Path;
 use torkettle_translate::facade::check_other;
 use torkettle_translate::modules::{Module, Package};
@@ -12,12 +12,9 @@ fn shown(text: &str) -> String {
     let signs = [
         ("⏎", "\n"),
         ("<CR>", "\r"),
-        ("<FF>", "\x0C"),
         ("<NBSP>", "\u{A0}"),
         ("<LRM>", "\u{200E}"),
-        ("<RLO>", "\u{202E}"),
         ("<BOM>", "\u{FEFF}"),
-        ("<TAB>", "\t"),
     ];
     signs.iter().fold(text.to_string(), |text, (sign, character)| text.replace(sign, character))
 }
@@ -28,15 +25,11 @@ fn made(
     place: &str,
     form: &str,
 ) -> (Done<String>, usize) {
+    let source = Source::new(Path::new("a.rs"), form.into());
     let made = match place {
-        "C" => c(form, false),
-        "facade" => {
-            let facade = Source::new(Path::new("lib.rs"), form.into());
-            translate(&facade, package).map(|_| String::new())
-        }
-        "other" => {
-            check_other(&Source::new(Path::new("a.rs"), form.into())).map(|()| String::new())
-        }
+        "C" | "checked" => c(form, place == "checked"),
+        "facade" => translate(&source, package).map(|_| String::new()),
+        "other" => check_other(&source).map(|()| String::new()),
         _ if place.contains('/') => return added(facade, package, place, form),
         _ => rust(place, form),
     };
@@ -47,19 +40,14 @@ fn made(
 fn added(facade: &Source, package: &mut Package, place: &str, form: &str) -> (Done<String>, usize) {
     let file = Path::new("crates").join(place.replacen('/', "/src/", 1));
     let number = package.modules.iter().position(|it| it.source.path == file).expect(place);
-    let Module { crate_name, path, source, .. } = &package.modules[number];
+    let Module { source, .. } = &package.modules[number];
     let (text, lines) = match form.split_once('⇒') {
         Some((old, new)) => (source.text.replacen(old, new, 1), 0),
         None => (format!("{}\n{form}\n", source.text), source.text.lines().count() + 1),
     };
     assert_ne!(text, source.text, "{form}");
-    let module = Module::new(crate_name, path.clone(), Source::new(&source.path, text));
-    let rust = module.and_then(|mut module| {
-        std::mem::swap(&mut package.modules[number], &mut module);
-        let made = translate(facade, package);
-        std::mem::swap(&mut package.modules[number], &mut module);
-        Ok(made?[&module.rust_file()].clone())
-    });
+    let made = with_text(package, number, text, |package| translate(facade, package));
+    let rust = made.map(|mut made| made.remove(&package.modules[number].rust_file()).unwrap());
     let lines_of = |rust: String| rust.lines().skip(lines).collect::<Vec<_>>().join("\n");
     (rust.map(lines_of), lines)
 }
@@ -70,7 +58,7 @@ fn is_right(row: &str, made: &Done<String>, before: usize) -> bool {
     match (made, verdict.strip_prefix("= ")) {
         (Ok(_), Some("taken")) => true,
         (Ok(rust), Some("same")) => *rust == form,
-        (Ok(c), Some(parts)) if place == "C" => {
+        (Ok(c), Some(parts)) if ["C", "checked"].contains(&place.as_str()) => {
             let c = joined(c);
             parts.lines().all(|part| c.contains(part))
         }

@@ -1,6 +1,5 @@
 //! Tests of the program. Those of one stage are in one module.
 
-mod c_forms;
 mod common;
 mod conditions;
 mod forms;

@@ -1,9 +1,10 @@
 //! Which files are read, what they export, what is written, and what `--check` compares.
 
+use crate::common::TOP;
 use std::fs;
 use std::path::{Path, PathBuf};
 use torkettle_translate::modules::CRATES;
-use torkettle_translate::{compare, made, write};
+use torkettle_translate::{c, compare, made, write};
 
 /// A folder with the sources of a package, which goes away with it.
 struct Package(PathBuf);
@@ -112,4 +113,26 @@ fn other_files_change_nothing() {
         package.put(&format!("rust/src/{file}"), "pub use crate::proved::a;");
     }
     assert_eq!(differing(&package), (7, vec![]));
+}
+
+// What a compiler has in each file must be small, and functions that types do not change are there once.
+#[test]
+fn the_library_has_an_inline_part_and_the_rest() {
+    let [(_, header), (_, source)] = c::made(Path::new(TOP), false).unwrap();
+    for text in [&header, &source] {
+        assert!(text.is_ascii());
+        assert!(text.lines().all(|line| line.len() <= 120));
+        assert!(!text.contains("/* @"));
+    }
+    for (head, counts) in [
+        ("TK_HINTED uint64_t tk_value_by_product(", (1, 0)),
+        ("TK_INLINE tk_option_pair_i64_size tk_quick_prefix_i64(", (1, 0)),
+        ("TK_HINTED tk_pair_size_size tk_fields_position(", (0, 1)),
+        ("TK_NOINLINE tk_result_u64 tk_whole_64(", (0, 1)),
+        ("TK_FAR tk_option_pair_i64_size tk_prefix_of_three_words_i64(", (1, 1)),
+        ("TK_SYMBOL(tk_prefix_of_three_words_i64);", (1, 0)),
+        ("#undef TK_INLINE", (1, 0)),
+    ] {
+        assert_eq!((header.matches(head).count(), source.matches(head).count()), counts, "{head}");
+    }
 }
