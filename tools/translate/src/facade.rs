@@ -4,13 +4,9 @@
 
 use crate::modules::CRATES;
 use crate::parser::parse;
-use crate::resolve::{Definition, Id, Scopes};
+use crate::resolve::{Id, Scopes};
 use crate::source::{Done, Fault, Source, Span};
-use crate::std_names::has;
 use crate::tree::texts;
-
-// The modules that depend on the feature `lanes`.
-const MODULES_OF_LANES: &str = "atoi_lanes lanes simd";
 
 /// A name that is exported, of a crate.
 pub struct Export {
@@ -26,11 +22,6 @@ pub fn exports(source: &Source) -> Done<Vec<Export>> {
     let items = parse(source, "facade")?;
     let inner = items.iter().flat_map(|item| &item.parts).filter(|part| part.has("notices"));
     for item in items.iter().chain(inner) {
-        let refuse = |form: &str| Err(source.fault(item.span, format!("{form} is not known here")));
-        let needs_lanes = item.parts[0].all("notice").any(|notice| notice.has("lanes"));
-        if needs_lanes && !has(MODULES_OF_LANES, item.name()) {
-            return refuse("this item for the feature `lanes`");
-        }
         for path in item.imports() {
             match texts(&path)[..] {
                 ["proved", owner, name] | ["crate", "proved", owner, name]
@@ -39,7 +30,9 @@ pub fn exports(source: &Source) -> Done<Vec<Export>> {
                     let (crate_name, span) = (owner.to_string(), path[path.len() - 1].span);
                     exports.push(Export { crate_name, name: name.into(), span });
                 }
-                ref names if names.contains(&"proved") => return refuse("this form of export"),
+                ref names if names.contains(&"proved") => {
+                    return Err(source.fault(item.span, "this form of export is not known here"));
+                }
                 _ => {}
             }
         }
@@ -49,7 +42,7 @@ pub fn exports(source: &Source) -> Done<Vec<Export>> {
 
 /// Refuses an export that is no function, struct, `enum` or sealed trait.
 pub fn check(source: &Source, exports: &[Export], scopes: &Scopes) -> Done<()> {
-    let item = |it: &Export| scopes.in_root(&it.crate_name, &it.name).and_then(Definition::item);
+    let item = |it: &Export| scopes.resolve(0, &[&it.crate_name, &it.name])?.definition.item();
     let exported: Vec<Id> = exports.iter().filter_map(item).collect();
     for export @ Export { name, span, .. } in exports {
         if !item(export).is_some_and(|id| may_be_exported(id, &exported, scopes)) {

@@ -207,12 +207,9 @@ proved             = 'mod' 'proved' '{' inner_item* '}'
 outer              = 'pub'? 'mod' !'proved' name ( ';' / '{' inner_item* '}' )
 inner_item         ~ notices <! ( inner / export )
 inner              = 'pub'? 'mod' !'proved' name ( ';' / '{' '}' )
-notices            = ( DOC / '#' '!' '[' known ']' / notice )*
-notice             = '#' '[' known ']'
-known              ~ known_name in_attribute*
+notices            = ( DOC / '#' '!'? '[' known_name in_attribute* ']' )*
 known_name         ~ 'allow' / 'cfg' / 'cfg_attr' / 'no_std' / 'rustfmt' / 'warn' -- an attribute that is known
-in_attribute       ~ lanes / '[' in_attribute* ']' / !( ']' / 'path' / 'include' / 'macro_use' / 'proved' ) ANY
-lanes              = '"lanes"'
+in_attribute       ~ '[' in_attribute* ']' / !( ']' / 'path' / 'include' / 'macro_use' / 'proved' ) ANY
 ignored            = 'extern' 'crate' 'std' ';' / 'compile_error' '!' '(' TEXT ')' ';'
 export             = 'pub' 'use' imports ';'
 "#;

@@ -8,7 +8,6 @@
 pub mod c;
 pub mod checks;
 pub mod conditions;
-pub mod engines;
 pub mod facade;
 pub mod grammar;
 pub mod lexer;

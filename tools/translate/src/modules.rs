@@ -1,8 +1,12 @@
 //! The modules of the package: which files they are in, and their trees.
+//!
+//! Which engine and which calls the ten functions run on is one file per crate, `src/default_engine.rt`. Here another
+//! file stands in its place, which names those that are tuned for compilers. The clauses are the same, and `.ci/kit`
+//! proves the crates with these files, too.
 
 use crate::source::{Done, Fault, Source};
-use crate::tree::Node;
-use crate::{PROVED, engines, parser};
+use crate::tree::{Node, texts};
+use crate::{PROVED, parser};
 use std::collections::BTreeMap;
 use std::fs;
 use std::path::{Path, PathBuf};
@@ -10,6 +14,19 @@ use std::path::{Path, PathBuf};
 /// The crates of the package. Their sources refer to one another by these names.
 pub const CRATES: [&str; 6] =
     ["atoi_core", "atoi_fast", "atoi_lanes", "atoi_simd", "atoi_column", "atoi_formats"];
+
+// The folder of the files that stand in place of `default_engine.rt`, one for each crate that has it. They end in
+// `rs`, as the kit takes `rt` only in the folders of crates.
+const TWINS: &str = "rust/default_engine";
+
+// The modules of `atoi_lanes` that only the engine `Lanes` needs, whose vectors `rust/src/simd` does not have.
+const LEFT_OUT: [&str; 4] = ["kernels", "lanes", "wide_lanes", "window_32"];
+
+// The folder of the file that C has in place of one of these.
+const TWINS_OF_C: &str = "c/default_engine";
+
+// The module of `atoi_fast` that the package has only with the feature `lanes`.
+const WITH_LANES: &str = "vectors";
 
 /// All modules of the package, in the order of their crates and paths.
 pub struct Package {
@@ -36,8 +53,8 @@ impl Package {
             let sources = files.iter().filter_map(|file| Some((module_path(&folder, file)?, file)));
             // The root of the crate comes first.
             for (path, file) in sources.collect::<BTreeMap<_, _>>() {
-                if !engines::is_left_out(crate_name, &path) {
-                    let twin = engines::twin(crate_name, &path, is_for_c);
+                if !is_left_out(crate_name, &path) {
+                    let twin = twin(crate_name, &path, is_for_c);
                     let source = Source::read(top, twin.as_ref().unwrap_or(file))?;
                     modules.push(Module::new(crate_name, path, source)?);
                 }
@@ -64,8 +81,7 @@ impl Module {
 
     /// Reads the tree of a source as the package has it.
     pub fn new(crate_name: &'static str, path: Vec<String>, source: Source) -> Done<Module> {
-        let is_left_out =
-            |item: &Node| path.is_empty() && engines::leaves_out_item(crate_name, item);
+        let is_left_out = |item: &Node| path.is_empty() && leaves_out_item(crate_name, item);
         let (left_out, items) =
             parser::parse(&source, "module")?.into_iter().partition(is_left_out);
         Ok(Module { crate_name, path, source, items, left_out })
@@ -93,4 +109,39 @@ fn module_path(folder: &Path, file: &Path) -> Option<Vec<String>> {
     let path: Vec<String> = file.split('/').map(String::from).collect();
     let is_hidden = path.iter().any(|name| name.starts_with('.'));
     (!is_hidden).then(|| if file == "lib" { Vec::new() } else { path })
+}
+
+// Returns the file that stands in place of a module of a crate, if one does.
+fn twin(crate_name: &str, module: &[String], is_for_c: bool) -> Option<PathBuf> {
+    let is_named = matches!(module, [only] if only == "default_engine");
+    let folder = if is_for_c && crate_name == "atoi_simd" { TWINS_OF_C } else { TWINS };
+    is_named.then(|| Path::new(folder).join(crate_name).with_extension("rs"))
+}
+
+// Says whether the package leaves out this module.
+fn is_left_out(crate_name: &str, module: &[String]) -> bool {
+    crate_name == "atoi_lanes"
+        && module.first().is_some_and(|first| LEFT_OUT.contains(&first.as_str()))
+}
+
+// Says whether the package leaves out an item of the root of a crate: it declares a module that is left out, or imports
+// from one.
+fn leaves_out_item(crate_name: &str, item: &Node) -> bool {
+    crate_name == "atoi_lanes" && is_of_modules(item, &LEFT_OUT)
+}
+
+/// Says whether the package has an item of the root of a crate only with the feature `lanes`.
+pub fn needs_lanes(crate_name: &str, item: &Node) -> bool {
+    crate_name == "atoi_fast" && is_of_modules(item, &[WITH_LANES])
+}
+
+// Whether an item declares one of these modules of its crate, or imports from them alone.
+fn is_of_modules(item: &Node, modules: &[&str]) -> bool {
+    let is_import =
+        |names: &[&str]| matches!(names, ["crate", module, ..] if modules.contains(module));
+    match item.kind {
+        "declaration" => modules.contains(&item.name()),
+        "use" => item.imports().iter().all(|path| is_import(&texts(path))),
+        _ => false,
+    }
 }

@@ -150,11 +150,6 @@ impl<'a> Scopes<'a> {
         self.modules[module].get(name)
     }
 
-    /// Returns what the root of a crate declares or imports by a name.
-    pub fn in_root(&self, crate_name: &str, name: &str) -> Option<&Definition> {
-        self.get(self.package.find(crate_name, &[])?, name)
-    }
-
     // Returns a variant, if the item is an `enum` that has it.
     fn variant(&self, id: Id, name: &str) -> Option<Definition> {
         let mut variants = self.item(id).all("variant");

@@ -3,8 +3,7 @@
 //! of lists, and hints to inline and tests of conditions are put in.
 
 use crate::conditions::Tests;
-use crate::engines;
-use crate::modules::{CRATES, Module};
+use crate::modules::{CRATES, Module, needs_lanes};
 use crate::source::{Done, Fault, Span};
 use crate::tree::{Node, texts};
 
@@ -14,7 +13,7 @@ pub fn print(module: &Module, tests: &Tests) -> Done<String> {
     let mut printer = Printer { module, tests, edits: Vec::new(), fault: None };
     left_out.iter().for_each(|item| printer.comment(item.span));
     for item in items {
-        if path.is_empty() && engines::needs_lanes(crate_name, item) {
+        if path.is_empty() && needs_lanes(crate_name, item) {
             printer.insert(item.span.start, "#[cfg(feature = \"lanes\")] ");
         }
         printer.node(item);

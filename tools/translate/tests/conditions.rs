@@ -1,6 +1,6 @@
 //! Conditions in each place of the proved sources.
 
-use crate::common::{repository, with_text};
+use crate::{repository, with_text};
 use torkettle_translate::modules::{Module, Package};
 use torkettle_translate::tree::Node;
 use torkettle_translate::{conditions, facade};

@@ -1,6 +1,6 @@
 //! What becomes of each form of `forms.txt`: it is refused for a reason, or taken, with its Rust or its C.
 
-use crate::common::{c, joined, repository, rust, with_text};
+use crate::{c, joined, repository, rust, with_text};
 use std::path::Path;
 use torkettle_translate::facade::check_other;
 use torkettle_translate::modules::{Module, Package};

@@ -1,6 +1,6 @@
 //! Which files are read, what they export, what is written, and what `--check` compares.
 
-use crate::common::TOP;
+use crate::TOP;
 use std::fs;
 use std::path::{Path, PathBuf};
 use torkettle_translate::modules::CRATES;
