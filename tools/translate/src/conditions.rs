@@ -83,7 +83,9 @@ impl Finder<'_> {
     fn item(&mut self, item: &Node) -> Done<()> {
         let functions = || item.members().iter().filter(|member| member.kind == "function");
         match item.kind {
-            "function" if self.is_callable(item) => self.test("", item, item.get("block")),
+            "function" if item.is_public() && self.exports(item) => {
+                self.test("", item, item.get("block"))
+            }
             // A test in a provided method would not be in those that replace it.
             "trait" => functions().try_for_each(|method| self.test(item.name(), method, None)),
             "model" => self.model(item),
@@ -104,11 +106,9 @@ impl Finder<'_> {
         Err(self.module.source.fault(span, reason))
     }
 
-    // Whether users may call a function of the module. All public functions of the other crates are to be exported.
-    fn is_callable(&self, item: &Node) -> bool {
-        let is_exported =
-            !has(INNER_CRATES, self.module.crate_name) || self.exported.contains(&item.name());
-        item.is_public() && is_exported
+    // Whether users may name a public function of the module. Those of the other crates are all to be exported.
+    fn exports(&self, item: &Node) -> bool {
+        !has(INNER_CRATES, self.module.crate_name) || self.exported.contains(&item.name())
     }
 
     // Puts what tests the conditions of a function into its body, if it has one. Its owner, a trait or a type of
@@ -157,18 +157,16 @@ impl Finder<'_> {
 
     // Refuses an invariant of what users can write, or change.
     fn model(&self, item: &Node) -> Done<()> {
-        let Module { source, items, .. } = self.module;
-        let found = items.iter().find(|found| found.name() == name_of(item));
+        let found = self.module.items.iter().find(|found| found.name() == name_of(item));
         let mut ghosts = item.members().iter().filter(|member| member.kind == "ghost");
-        let invariant = ghosts.find(|ghost| ghost.parts[0].text == "invariant");
-        match invariant.filter(|_| !found.is_some_and(is_sealed)) {
-            Some(invariant) => {
-                let target = source.at(item.target().span);
+        match ghosts.find(|ghost| ghost.parts[0].text == "invariant") {
+            Some(invariant) if !found.is_some_and(is_sealed) => {
+                let target = self.module.source.at(item.target().span);
                 let reason =
                     format!("an invariant of `{target}`, whose fields are not all private");
                 self.refuse(invariant.span, reason)
             }
-            None => Ok(()),
+            _ => Ok(()),
         }
     }
 }

@@ -6,7 +6,7 @@ use std::path::{Path, PathBuf};
 use torkettle_translate::modules::CRATES;
 use torkettle_translate::{c, compare, made, write};
 
-/// A folder with the sources of a package, which goes away with it.
+/// A folder with the sources of a package.
 struct Package(PathBuf);
 
 impl Package {
@@ -33,12 +33,6 @@ impl Package {
 
     fn fault(&self) -> String {
         made(&self.0).unwrap_err().to_string()
-    }
-}
-
-impl Drop for Package {
-    fn drop(&mut self) {
-        let _ = fs::remove_dir_all(&self.0);
     }
 }
 

@@ -269,17 +269,15 @@ impl<'a> World<'a> {
 // Returns what the parameters of an `impl` stand for if it is for a type. An `impl` for each type with some trait is
 // for none: only engines that read byte by byte have one.
 fn matched(target: &Type, of: &Type) -> Option<Bindings> {
-    match (target, of) {
-        (Type::Of(Form::Item(id), parts), Type::Of(Form::Item(own), known)) if id == own => {
-            let pairs = parts.iter().zip(known).map(|(part, known)| match part {
-                Type::Parameter(name) => Some((name.clone(), known.clone())),
-                _ => None,
-            });
-            pairs.collect()
+    let mut bindings = Bindings::new();
+    if let (Type::Of(_, parts), Type::Of(_, known)) = (target, of) {
+        for (part, known) in parts.iter().zip(known) {
+            if let Type::Parameter(name) = part {
+                bindings.insert(name.clone(), known.clone());
+            }
         }
-        (target, of) if target == of => Some(Bindings::new()),
-        _ => None,
     }
+    (target.with(&bindings) == *of).then_some(bindings)
 }
 
 /// Returns a type of integers by its name.
