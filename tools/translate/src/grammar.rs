@@ -1,24 +1,21 @@
 //! The grammar of Rattle as far as the sources use it, and of the facade. Every other form is refused.
 //!
 //! A line says what a rule reads: behind `=`, it makes a node that is named as the rule up to its point; behind `~`,
-//! what it makes stands where the rule is named. Behind `--` stands what messages call it. `/` is between
-//! alternatives, of which the first that fits is taken. `?` is behind what may be missing, `*` behind what may be
-//! there many times, `,*` behind what has commas between it. A sign between quotes is a token; `@` makes a node of it,
-//! and `^` takes it also as the first half of a symbol. `&` and `!` look at what comes next. Behind `<<` stand nodes
-//! that get what was read as their first part, one by one; behind `<!` stands one. `PLAIN` reads what has no struct, as
-//! a block follows. Other capital letters name kinds of tokens.
+//! what it makes stands where the rule is named. `/` is between alternatives, of which the first that fits is taken.
+//! `?` is behind what may be missing, `*` behind what may be there many times, `,*` behind what has commas between it.
+//! A sign between quotes is a token; `@` makes a node of it, and `^` takes it also as the first half of a symbol. `&`
+//! and `!` look at what comes next. Behind `<<` stand nodes that get what was read as their first part, one by one;
+//! behind `<!` stands one. `PLAIN` reads what has no struct, as a block follows. Other capital letters name kinds of
+//! tokens.
 
 pub const GRAMMAR: &str = r#"
 module             = item* END
 
-item               ~ use / ghost_use / model / hint / notes <! visible -- an item
-visible            ~ visibility <! declared -- an item
-declared           ~ function / constant / constant.static / alias / declaration / type_or_members
-type_or_members    ~ struct / enum / trait / implementation
+item               ~ use / ghost_use / model / hint / notes <! ( visibility <! declared )
+declared           ~ function / constant / alias / declaration / struct / enum / trait / implementation
 visibility         = ( public / 'pub' '(' 'crate' ')' )?
 public             = 'pub' !'('
-notes              = note* COMMENTS
-note               ~ COMMENTS ( DOC / attribute ) -- an attribute or documentation
+notes              = ( COMMENTS ( DOC / attribute ) )* COMMENTS
 attribute          ~ inline / always / never / cold / hidden / derive / tactic
 inline             = '#' '[' 'inline' ']'
 always             = '#' '[' 'inline' '(' 'always' ')' ']'
@@ -26,12 +23,11 @@ never              = '#' '[' 'inline' '(' 'never' ')' ']'
 cold               = '#' '[' 'cold' ']'
 hidden             = '#' '[' 'doc' '(' 'hidden' ')' ']'
 derive             = '#' '[' 'derive' '(' derived,* ')' ']'
-derived            ~ derived_trait -- a trait that Rust derives as Rattle does
-derived_trait      ~ @'Clone' / @'Copy' / @'Debug' / @'Drop' / @'Eq' / @'Ord' / @'PartialEq' / @'PartialOrd'
+derived            ~ @'Clone' / @'Copy' / @'Debug' / @'Drop' / @'Eq' / @'Ord' / @'PartialEq' / @'PartialOrd'
 tactic             = '#' '[' hint_to_prover ']'
 hint               = '#' '!' '[' hint_to_prover ']'
 hint_to_prover     ~ 'tactic' '(' argument_of_hint,* ')'
-argument_of_hint   ~ WORD ( '::' argument_of_hint )? ( '(' argument_of_hint,* ')' )? -- a hint to the prover
+argument_of_hint   ~ WORD ( '::' argument_of_hint )? ( '(' argument_of_hint,* ')' )?
 
 name               ~ NAME
 name.crate         = 'crate'
@@ -56,8 +52,7 @@ model              = 'impl' generics 'Model' 'for' type members.model
 members.model      = '{' ( ghost_use / ghost.defined )* '}'
 
 declaration        = 'mod' name ';'
-constant           = 'const' name ':' type value? ';'
-constant.static    = 'static' name ':' type value? ';'
+constant           = ( 'const' / 'static' ) name ':' type value? ';'
 value              = '=' expression
 alias              = 'type' name generics '=' type ';'
 struct             = 'struct' name generics ( ';' / '{' ( ghost.field / field ( ',' / &'}' ) )* '}' )
@@ -65,11 +60,10 @@ field              = notes visibility name ':' type
 enum               = 'enum' name generics '{' variant,* '}'
 variant            = notes name ( '{' field,* '}' / '(' type,* ')' )?
 trait              = 'trait' name generics ( ':' path.bound )? members.trait
-members.trait      = '{' member_of_trait* '}'
-member_of_trait    ~ ghost_use / ghost.declared / notes <! ( function / constant ) -- an item
+members.trait      = '{' ( ghost.declared / notes <! ( function / constant ) )* '}'
 implementation     = 'impl' generics ( path.trait 'for' )? type members
-members            = '{' member* '}'
-member             ~ ghost_use / ghost.defined / notes <! ( visibility <! ( function / constant / alias ) ) -- an item
+members            = '{' ( ghost_use / ghost.defined / notes <! ( visibility <! member ) )* '}'
+member             ~ function / constant / alias
 function           = 'fn' ( !'fmt' name generics / name writer ) parameters output? clause* ( block / ';' )
 writer             = '<' name.writer ':' 'fmt' '::' 'Write' '>'
 parameters         ~ '(' ( receiver ( ',' / &')' ) )? parameter,* ')'
@@ -86,7 +80,7 @@ generic            ~ LIFETIME / generic.constant / generic.type
 generic.constant   = 'const' name ':' type
 generic.type       = name ( ':' path.bound )?
 
-type               ~ reference.type / tuple.type / list.type / path.type -- a type
+type               ~ reference.type / tuple.type / list.type / path.type
 reference.type     = ^'&' LIFETIME? mutable? type
 tuple.type         = '(' ( type ',' &type type,* )? ')'
 list.type          = '[' type ( ';' length )? ']'
@@ -97,11 +91,11 @@ path.trait         = names_of_type
 names_of_type      ~ segment.type ( '::' segment.type )?
 segment.type       = ( name / name.own ) arguments
 arguments          = ( '<' argument,* ^'>' )?
-argument           ~ LIFETIME / literal / type -- a type or a literal
+argument           ~ LIFETIME / literal / type
 
 pattern            ~ single << either
 either             = '|' single
-single             ~ wildcard / tuple.pattern / list.pattern / range / literal / variant_or_path / binding -- a pattern
+single             ~ wildcard / tuple.pattern / list.pattern / range / literal / variant_or_path / binding
 variant_or_path    ~ call.pattern / struct.pattern / path.pattern
 wildcard           = '_'
 tuple.pattern      = '(' element,* ')'
@@ -117,7 +111,7 @@ binding            = mutable? name ( '@' element )?
 binding.name       = name
 
 expression         ~ or << assign
-assign             = ( @'=' / @'+=' ) expression -- an operator
+assign             = ( @'=' / @'+=' ) expression
 or                 ~ and << binary.or
 and                ~ comparison << binary.and
 comparison         ~ bit_or << binary.comparison
@@ -128,32 +122,30 @@ shift              ~ sum << binary.shift
 sum                ~ product << binary.sum
 product            ~ cast_or_less << binary.product
 cast_or_less       ~ unary << cast
-binary.or          = @'||' and -- an operator
-binary.and         = @'&&' comparison -- an operator
-binary.comparison  = compared bit_or !compared -- an operator
+binary.or          = @'||' and
+binary.and         = @'&&' comparison
+binary.comparison  = compared bit_or !compared
 compared           ~ @'==' / @'!=' / @'<' / @'>' / @'<=' / @'>='
-binary.bit_or      = @'|' bit_xor -- an operator
-binary.bit_xor     = @'^' bit_and -- an operator
-binary.bit_and     = @'&' shift -- an operator
-binary.shift       = ( @'<<' / @'>>' ) sum -- an operator
-binary.sum         = ( @'+' / @'-' ) product -- an operator
-binary.product     = ( @'*' / @'/' / @'%' ) cast_or_less -- an operator
-cast               = 'as' integer_type -- an operator
-integer_type       ~ signed / unsigned -- a type of integers
+binary.bit_or      = @'|' bit_xor
+binary.bit_xor     = @'^' bit_and
+binary.bit_and     = @'&' shift
+binary.shift       = ( @'<<' / @'>>' ) sum
+binary.sum         = ( @'+' / @'-' ) product
+binary.product     = ( @'*' / @'/' / @'%' ) cast_or_less
+cast               = 'as' ( signed / unsigned )
 signed             ~ @'i8' / @'i16' / @'i32' / @'i64' / @'i128' / @'isize'
 unsigned           ~ @'u8' / @'u16' / @'u32' / @'u64' / @'u128' / @'usize'
-unary              ~ reference.value / negation / primary << behind_primary -- an expression
-behind_primary     ~ try / in_brackets / method / member_of
+unary              ~ reference.value / negation / primary << ( try / in_brackets / method / member_of )
 reference.value    = ^'&' mutable? unary
 negation           = ( @'!' / @'-' / @'*' ) unary
-try                = '?' -- an operator
-in_brackets        ~ '[' ( part.to / expression <! ( index / part.from / part.between ) ) -- an operator
+try                = '?'
+in_brackets        ~ '[' ( part.to / expression <! ( index / part.from / part.between ) )
 index              = ']'
 part.from          = '..' ']'
 part.between       = '..' expression ']'
 part.to            = '..' expression ']'
-method             = '.' name arguments.value '(' expression,* ')' -- an operator
-member_of          = '.' ( name / INTEGER ) -- an operator
+method             = '.' name arguments.value '(' expression,* ')'
+member_of          = '.' ( name / INTEGER )
 
 primary            ~ literal / in_parentheses / repeat / list / closure / matches / named / block_like / return / break
 named              ~ struct.value / call / path.value
@@ -164,9 +156,8 @@ list               = '[' expression,* ']'
 repeat             = '[' ( literal / path.value ) ';' length ']'
 closure            = '|' binding.name '|' expression
 matches            = 'matches' '!' '(' expression ',' pattern ')'
-struct.value       = STRUCTS path.made '{' given,* ( '..' base )? '}'
+struct.value       = STRUCTS path.made '{' given,* ( '..' ( negation.self / path.given &'}' ) )? '}'
 given              = name ':' expression / path.given
-base               ~ negation.self / path.given &'}'
 negation.self      = @'*' path.self
 call               = path.callee '(' expression,* ')'
 path.value         = names
@@ -178,12 +169,11 @@ segment            = ( name / name.self / name.own ) arguments.value
 segment.given      = name
 segment.self       = name.self
 arguments.value    = ( '::' '<' argument,* ^'>' )?
-literal            ~ INTEGER !( '.' INTEGER ) / BYTE / TEXT / boolean -- a literal
+literal            ~ INTEGER !( '.' INTEGER ) / BYTE / TEXT / boolean
 boolean            = 'true' / 'false'
 
 block_like         ~ if / match / while / loop / for / block
-if                 = 'if' condition_of_if block ( 'else' ( if / block ) )?
-condition_of_if    ~ PLAIN ( let.condition / expression )
+if                 = 'if' PLAIN ( let.condition / expression ) block ( 'else' ( if / block ) )?
 let.condition      = 'let' pattern '=' comparison
 match              = 'match' PLAIN expression '{' arm* '}'
 arm                = COMMENTS pattern guard? '=>' ( ended_block ','? / expression ( ',' / &'}' ) )
@@ -194,21 +184,20 @@ for                = 'for' pattern 'in' PLAIN expression block
 return             = 'return' expression?
 break              = 'break'
 block              = '{' statement* COMMENTS '}'
-statement          ~ COMMENTS ( let / ended_block done? / expression ( done / &'}' ) ) -- a statement
+statement          ~ COMMENTS ( let / ended_block done? / expression ( done / &'}' ) )
 ended_block        ~ block_like !'.' !'?'
 let                = 'let' pattern annotation? '=' expression otherwise? ';'
 annotation         = ':' type
 otherwise          = 'else' block
 done               = ';'
 
-facade             = facade_item* END
-facade_item        ~ notices <! ( proved / outer / ignored / export )
+facade             = ( notices <! ( proved / outer / ignored / export ) )* END
 proved             = 'mod' 'proved' '{' inner_item* '}'
 outer              = 'pub'? 'mod' !'proved' name ( ';' / '{' inner_item* '}' )
 inner_item         ~ notices <! ( inner / export )
 inner              = 'pub'? 'mod' !'proved' name ( ';' / '{' '}' )
 notices            = ( DOC / '#' '!'? '[' known_name in_attribute* ']' )*
-known_name         ~ 'allow' / 'cfg' / 'cfg_attr' / 'no_std' / 'rustfmt' / 'warn' -- an attribute that is known
+known_name         ~ 'allow' / 'cfg' / 'cfg_attr' / 'no_std' / 'rustfmt' / 'warn'
 in_attribute       ~ !( ']' / 'path' / 'include' / 'macro_use' / 'proved' ) ANY
 ignored            = 'extern' 'crate' 'std' ';' / 'compile_error' '!' '(' TEXT ')' ';'
 export             = 'pub' 'use' imports ';'

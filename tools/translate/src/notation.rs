@@ -15,8 +15,6 @@ pub static RULES: LazyLock<HashMap<&str, Rule>> = LazyLock::new(|| {
 /// A line of the grammar.
 pub struct Rule {
     pub name: &'static str,
-    /// What it is in messages, or nothing.
-    pub label: &'static str,
     pub makes_node: bool,
     pub form: Form,
 }
@@ -49,11 +47,10 @@ pub enum Form {
 }
 
 fn rule(line: &'static str) -> Rule {
-    let (line, label) = line.split_once(" -- ").unwrap_or((line, ""));
     let mut words = line.split_whitespace();
     let (name, sign) = (words.next().unwrap_or_default(), words.next());
     let form = Reader { words: words.peekable() }.choice();
-    Rule { name, label, makes_node: sign == Some("="), form }
+    Rule { name, makes_node: sign == Some("="), form }
 }
 
 struct Reader {

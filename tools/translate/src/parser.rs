@@ -23,9 +23,7 @@ pub fn parse(source: &Source, rule: &str) -> Done<Vec<Node>> {
         source,
         at: first,
         is_plain: false,
-        is_silent: false,
         furthest: first,
-        expected: Vec::new(),
         nodes: Vec::new(),
         fault: None,
     };
@@ -53,11 +51,8 @@ struct Parser<'a> {
     at: Place<'a>,
     // Whether `NAME {` is a name before a block, and no struct.
     is_plain: bool,
-    // Whether what is read is no part of what is expected.
-    is_silent: bool,
-    // The last place where something was expected, and what.
+    // The last place that was reached.
     furthest: Place<'a>,
-    expected: Vec<&'static str>,
     // The nodes that were made, and are no parts of others yet.
     nodes: Vec<Node>,
     // What is wrong in a clause.
@@ -68,50 +63,29 @@ impl<'a> Parser<'a> {
     // Goes to the end of what was read.
     fn go_to(&mut self, end: usize) {
         self.at = place(self.source, end);
+        if self.at.start > self.furthest.start {
+            self.furthest = self.at;
+        }
     }
 
-    // Says that the last token that was reached is not what was expected.
+    // Says that no rule takes the last token that was reached.
     fn unexpected(&self) -> Fault {
         let Place { start, token, .. } = self.furthest;
         let found = match token.lines().next() {
             None => "the end of the file".into(),
             Some(line) => format!("`{line}`"),
         };
-        let name = |it: &&str| if it.contains(' ') { it.to_string() } else { format!("`{it}`") };
-        let expected: Vec<String> = self.expected.iter().map(name).collect();
-        let reason = format!("{found}, and not {}", expected.join(" or "));
-        self.source.fault(Span { start, end: start }, reason)
-    }
-
-    // Notes what is expected next, and does not fit.
-    fn expect(&mut self, what: &'static str) -> bool {
-        if self.is_silent || self.at.start < self.furthest.start {
-            return false;
-        }
-        if self.at.start > self.furthest.start {
-            self.furthest = self.at;
-            self.expected.clear();
-        }
-        if !self.expected.contains(&what) {
-            self.expected.push(what);
-        }
-        false
+        self.source.fault(Span { start, end: start }, format!("{found} is not known here"))
     }
 
     // Reads by a rule. Returns whether it fits.
     fn rule(&mut self, name: &str) -> bool {
         let rule = &RULES[name];
-        let (start, first) = (self.at, self.nodes.len());
-        let before = if self.furthest.start == start.start { self.expected.len() } else { 0 };
+        let (start, first) = (self.at.start, self.nodes.len());
         let fits = self.form(&rule.form);
-        if !fits && !rule.label.is_empty() && self.furthest.start == start.start {
-            self.expected.truncate(before);
-            self.at = start;
-            self.expect(rule.label);
-        }
         if fits && rule.makes_node {
             let parts = self.nodes.split_off(first);
-            self.push(rule.name, start.start, parts);
+            self.push(rule.name, start, parts);
         }
         fits
     }
@@ -171,11 +145,10 @@ impl<'a> Parser<'a> {
 
     // Says whether something comes next.
     fn looks(&mut self, form: &'static Form) -> bool {
-        let (at, count) = (self.at, self.nodes.len());
-        let before = std::mem::replace(&mut self.is_silent, true);
+        let (at, furthest, count) = (self.at, self.furthest, self.nodes.len());
         let fits = self.form(form);
         self.nodes.truncate(count);
-        (self.at, self.is_silent) = (at, before);
+        (self.at, self.furthest) = (at, furthest);
         fits
     }
 
@@ -206,15 +179,14 @@ impl<'a> Parser<'a> {
 
     fn sign(&mut self, text: &'static str, makes_node: bool, may_be_half: bool) -> bool {
         let Place { start, token, .. } = self.at;
-        if token == text || may_be_half && token == text.repeat(2) {
+        let fits = token == text || may_be_half && token == text.repeat(2);
+        if fits {
             self.go_to(start + text.len());
-        } else {
-            return self.expect(text);
         }
-        if makes_node {
+        if fits && makes_node {
             self.push("sign", start, Vec::new());
         }
-        true
+        fits
     }
 
     // Reads a token by the name of its kind, or what else has such a name.
@@ -225,31 +197,30 @@ impl<'a> Parser<'a> {
         let is_word = text.starts_with(is_letter) && !text.ends_with(['"', '\'']);
         // A quote or `#` is behind a name only in raw texts and names, and in texts of C.
         let is_raw = || self.source.text[start + text.len()..].starts_with(['"', '#']);
-        let (fits, rule, label) = match name {
+        let (fits, rule) = match name {
             "COMMENTS" => return self.comments(),
             "STRUCTS" => return !self.is_plain,
             "CAPITAL" => return is_capital(text),
-            "END" => return text.is_empty() || self.expect("the end of the file"),
+            "END" => return text.is_empty(),
             "CLAUSE" if text == "{" => return self.skip("clause", clause_length),
             "GHOST_PATH" => return self.skip("ghost_path", ghost_length),
-            "ANY" => (!text.is_empty(), "", "a token"),
-            "NAME" => (is_word && !has(KEYWORDS, text) && !is_raw(), "name", "a name"),
-            "WORD" => (is_word, "word", "a word"),
-            "LIFETIME" => (text.starts_with('\'') && text.len() > 1, "", "a lifetime"),
-            "INTEGER" => (number(text).is_some(), "integer", "a number"),
-            "BYTE" => (text.starts_with("b'") && bytes(text).is_some_and(is_one), "byte", "a byte"),
-            "TEXT" => (text.ends_with('"') && bytes(text).is_some(), "text", "a text"),
-            "DOC" => (text.starts_with("///"), "doc", "a line of documentation"),
-            _ => (false, "", "a clause"),
+            "ANY" => (!text.is_empty(), ""),
+            "NAME" => (is_word && !has(KEYWORDS, text) && !is_raw(), "name"),
+            "WORD" => (is_word, "word"),
+            "LIFETIME" => (text.starts_with('\'') && text.len() > 1, ""),
+            "INTEGER" => (number(text).is_some(), "integer"),
+            "BYTE" => (text.starts_with("b'") && bytes(text).is_some_and(is_one), "byte"),
+            "TEXT" => (text.ends_with('"') && bytes(text).is_some(), "text"),
+            "DOC" => (text.starts_with("///"), "doc"),
+            _ => (false, ""),
         };
-        if !fits {
-            return self.expect(label);
+        if fits {
+            self.go_to(start + text.len());
         }
-        self.go_to(start + text.len());
-        if !rule.is_empty() {
+        if fits && !rule.is_empty() {
             self.push(rule, start, Vec::new());
         }
-        true
+        fits
     }
 
     // Makes a node of what is as long as it says itself.

@@ -71,7 +71,7 @@ fn a_refusal_names_the_file_and_the_line() {
     let package = Package::new("refusals");
     let file = "crates/atoi_core/src/text.rt";
     package.put(file, "fn b() {}\nfn c() { é }");
-    assert_eq!(package.fault(), format!("{file}:2: `é`, and not a statement or `}}`"));
+    assert_eq!(package.fault(), format!("{file}:2: `é` is not known here"));
     package.put(file, b"fn size() -> u8 {\n    b'\xFF'\n}\n");
     assert!(package.fault().starts_with(&format!("{file}: ")) && package.fault().contains("UTF-8"));
     package.put(file, "fn b() {}");
