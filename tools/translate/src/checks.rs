@@ -97,8 +97,10 @@ impl<'a> Names<'a> {
             }
             ("implementation" | "model", _) => self.implementation(node)?,
             ("path", _) => self.assert(self.is_known(node), node.span)?,
-            ("method", [_, name, ..]) => {
-                self.assert(self.is_known_method(&name.text), name.span)?;
+            ("method", [_, Node { text: name, span, .. }, ..]) => {
+                let is_own = self.members.methods.contains_key(name.as_str());
+                let known = if is_own { OWN_METHODS } else { std_names::METHODS };
+                self.assert(has(known, name), *span)?;
             }
             ("parameter" | "binding" | "generic" | "writer", _) => {
                 node.all("name").try_for_each(|name| self.local(name))?;
@@ -168,11 +170,6 @@ impl<'a> Names<'a> {
         let reason = "an `impl` for types that users can make";
         let open = item.generics("generic.type").find(is_open);
         open.map_or(Ok(()), |open| Err(self.source.fault(open.span, reason)))
-    }
-
-    fn is_known_method(&self, name: &str) -> bool {
-        let is_own = self.members.methods.contains_key(name);
-        has(if is_own { OWN_METHODS } else { std_names::METHODS }, name)
     }
 
     fn is_local(&self, name: &str) -> bool {

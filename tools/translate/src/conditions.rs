@@ -83,9 +83,7 @@ impl Finder<'_> {
     fn item(&mut self, item: &Node) -> Done<()> {
         let functions = || item.members().iter().filter(|member| member.kind == "function");
         match item.kind {
-            "function" if item.is_public() && self.exports(item) => {
-                self.test("", item, item.get("block"))
-            }
+            "function" if self.is_callable(item) => self.test("", item, item.get("block")),
             // A test in a provided method would not be in those that replace it.
             "trait" => functions().try_for_each(|method| self.test(item.name(), method, None)),
             "model" => self.model(item),
@@ -106,9 +104,10 @@ impl Finder<'_> {
         Err(self.module.source.fault(span, reason))
     }
 
-    // Whether users may name a public function of the module. Those of the other crates are all to be exported.
-    fn exports(&self, item: &Node) -> bool {
-        !has(INNER_CRATES, self.module.crate_name) || self.exported.contains(&item.name())
+    // Whether users may call a function of the module. All public functions of the other crates are to be exported.
+    fn is_callable(&self, item: &Node) -> bool {
+        let is_inner = has(INNER_CRATES, self.module.crate_name);
+        item.is_public() && (!is_inner || self.exported.contains(&item.name()))
     }
 
     // Puts what tests the conditions of a function into its body, if it has one. Its owner, a trait or a type of

@@ -5,6 +5,7 @@
 //! proves the crates with these files, too.
 
 use crate::source::{Done, Fault, Source};
+use crate::std_names::has;
 use crate::tree::{Node, texts};
 use crate::{PROVED, parser};
 use std::collections::BTreeMap;
@@ -20,7 +21,7 @@ pub const CRATES: [&str; 6] =
 const TWINS: &str = "rust/default_engine";
 
 // The modules of `atoi_lanes` that only the engine `Lanes` needs, whose vectors `rust/src/simd` does not have.
-const LEFT_OUT: [&str; 4] = ["kernels", "lanes", "wide_lanes", "window_32"];
+const LEFT_OUT: &str = "kernels lanes wide_lanes window_32";
 
 // The folder of the file that C has in place of one of these.
 const TWINS_OF_C: &str = "c/default_engine";
@@ -120,27 +121,25 @@ fn twin(crate_name: &str, module: &[String], is_for_c: bool) -> Option<PathBuf> 
 
 // Says whether the package leaves out this module.
 fn is_left_out(crate_name: &str, module: &[String]) -> bool {
-    crate_name == "atoi_lanes"
-        && module.first().is_some_and(|first| LEFT_OUT.contains(&first.as_str()))
+    crate_name == "atoi_lanes" && module.first().is_some_and(|first| has(LEFT_OUT, first))
 }
 
 // Says whether the package leaves out an item of the root of a crate: it declares a module that is left out, or imports
 // from one.
 fn leaves_out_item(crate_name: &str, item: &Node) -> bool {
-    crate_name == "atoi_lanes" && is_of_modules(item, &LEFT_OUT)
+    crate_name == "atoi_lanes" && is_of_modules(item, LEFT_OUT)
 }
 
 /// Says whether the package has an item of the root of a crate only with the feature `lanes`.
 pub fn needs_lanes(crate_name: &str, item: &Node) -> bool {
-    crate_name == "atoi_fast" && is_of_modules(item, &[WITH_LANES])
+    crate_name == "atoi_fast" && is_of_modules(item, WITH_LANES)
 }
 
 // Whether an item declares one of these modules of its crate, or imports from them alone.
-fn is_of_modules(item: &Node, modules: &[&str]) -> bool {
-    let is_import =
-        |names: &[&str]| matches!(names, ["crate", module, ..] if modules.contains(module));
+fn is_of_modules(item: &Node, modules: &str) -> bool {
+    let is_import = |names: &[&str]| matches!(names, ["crate", name, ..] if has(modules, name));
     match item.kind {
-        "declaration" => modules.contains(&item.name()),
+        "declaration" => has(modules, item.name()),
         "use" => item.imports().iter().all(|path| is_import(&texts(path))),
         _ => false,
     }

@@ -123,7 +123,11 @@ impl<'a> Scopes<'a> {
         for (before, name) in others.iter().enumerate() {
             let next = match &definition {
                 Definition::Module(module) => Some(self.get(*module, name)?.clone()),
-                Definition::Item(id) => self.variant(*id, name),
+                Definition::Item(id) => {
+                    let mut variants = self.item(*id).all("variant");
+                    let variant = variants.position(|it| it.name() == *name);
+                    variant.map(|variant| Definition::Variant(*id, variant))
+                }
                 Definition::Foreign(path) if std_names::is_known(&format!("{path}::{name}")) => {
                     Some(foreign(&[path, name]))
                 }
@@ -148,12 +152,6 @@ impl<'a> Scopes<'a> {
     /// Returns what a module declares or imports by a name.
     pub fn get(&self, module: usize, name: &str) -> Option<&Definition> {
         self.modules[module].get(name)
-    }
-
-    // Returns a variant, if the item is an `enum` that has it.
-    fn variant(&self, id: Id, name: &str) -> Option<Definition> {
-        let mut variants = self.item(id).all("variant");
-        Some(Definition::Variant(id, variants.position(|it| it.name() == name)?))
     }
 }
 

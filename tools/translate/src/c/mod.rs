@@ -152,7 +152,8 @@ fn callees(world: &World, path: &str, types: &[&str]) -> Done<Vec<Callee>> {
                 let arguments = vec![of.clone(); world.parameters(id).len()];
                 world.member(&Type::Of(Form::Item(id), arguments), member)
             }
-            _ => Some(Callee { id, bindings: Bindings::new() }),
+            [] => Some(Callee { id, bindings: Bindings::new() }),
+            _ => None,
         }
     };
     let mut found = Vec::new();
