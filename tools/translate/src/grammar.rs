@@ -198,7 +198,7 @@ inner_item         ~ notices <! ( inner / export )
 inner              = 'pub'? 'mod' !'proved' name ( ';' / '{' '}' )
 notices            = ( DOC / '#' '!'? '[' known_name in_attribute* ']' )*
 known_name         ~ 'allow' / 'cfg' / 'cfg_attr' / 'no_std' / 'rustfmt' / 'warn'
-in_attribute       ~ !( ']' / 'path' / 'include' / 'macro_use' / 'proved' ) ANY
+in_attribute       ~ !( 'path' / 'include' / 'macro_use' / 'proved' ) WORD / TEXT / '(' / ')' / ',' / '=' / '::' / '!'
 ignored            = 'extern' 'crate' 'std' ';' / 'compile_error' '!' '(' TEXT ')' ';'
 export             = 'pub' 'use' imports ';'
 "#;

@@ -196,7 +196,7 @@ impl<'a> Parser<'a> {
         let is_letter = |it: char| it.is_ascii_alphabetic() || it == '_';
         let is_word = text.starts_with(is_letter) && !text.ends_with(['"', '\'']);
         // A quote or `#` is behind a name only in raw texts and names, and in texts of C.
-        let is_raw = || is_word && self.source.text[start + text.len()..].starts_with(['"', '#']);
+        let is_raw = || self.source.text[start + text.len()..].starts_with(['"', '#']);
         let (fits, rule) = match name {
             "COMMENTS" => return self.comments(),
             "STRUCTS" => return !self.is_plain,
@@ -204,8 +204,6 @@ impl<'a> Parser<'a> {
             "END" => return text.is_empty(),
             "CLAUSE" if text == "{" => return self.skip("clause", clause_length),
             "GHOST_PATH" => return self.skip("ghost_path", ghost_length),
-            // Nothing that could begin or end a text at another place than here.
-            "ANY" => (!text.is_empty() && !text.contains(['\\', '\'']) && !is_raw(), ""),
             "NAME" => (is_word && !has(KEYWORDS, text) && !is_raw(), "name"),
             "WORD" => (is_word, "word"),
             "LIFETIME" => (text.starts_with('\'') && text.len() > 1, ""),
