@@ -208,7 +208,7 @@ impl<'a> Printer<'a> {
 
     // Prints a line with a term.
     fn with_term(&mut self, before: &str, term: &Term, after: &str) -> Done<()> {
-        let text = self.term(term)?.text;
+        let text = terms::print(self, term)?.text;
         self.line(&format!("{before}{text}{after}"));
         Ok(())
     }
@@ -220,7 +220,7 @@ impl<'a> Printer<'a> {
         let text = match value {
             None => String::new(),
             Some(value) if is_array => format!(" = {}", terms::initializer(self, value)?),
-            Some(value) => format!(" = {}", self.term(value)?.text),
+            Some(value) => format!(" = {}", terms::print(self, value)?.text),
         };
         let name = self.name_local(local);
         let declared = match &of {
@@ -234,22 +234,18 @@ impl<'a> Printer<'a> {
     }
 
     fn assign(&mut self, place: &Term, value: &Term) -> Done<()> {
-        let target = self.term(place)?;
+        let target = terms::print(self, place)?;
         let is_short = place.of.integer().is_some_and(|it| (32..=64).contains(&it.bits()));
         let is_sum = value.kind == Kind::Binary("+") && !self.is_checked;
-        let mut text = format!("{} = {}", target.text, self.term(value)?.text);
-        if is_sum && is_short && self.term(&value.parts[0])?.text == target.text {
-            text = match self.term(&value.parts[1])?.text.as_str() {
+        let mut text = format!("{} = {}", target.text, terms::print(self, value)?.text);
+        if is_sum && is_short && terms::print(self, &value.parts[0])?.text == target.text {
+            text = match terms::print(self, &value.parts[1])?.text.as_str() {
                 "1" => format!("{}++", target.at(text::ATOM)),
                 value => format!("{} += {value}", target.text),
             };
         }
         self.line(&format!("{text};"));
         Ok(())
-    }
-
-    fn term(&mut self, term: &Term) -> Done<text::Text> {
-        terms::print(self, term)
     }
 }
 
