@@ -57,7 +57,7 @@ pub fn rust(crate_name: &str, text: &str) -> Done<String> {
 pub fn c(text: &str, is_checked: bool) -> Done<String> {
     let package = package("atoi_core", text)?;
     let scopes = Scopes::new(&package)?;
-    Ok(c::print(&World::new(&scopes), &[("atoi_core::f", "")], &["u32"], is_checked)?.1)
+    Ok(c::print(&World::new(&scopes), "atoi_core::f", "u32", is_checked)?.1)
 }
 
 /// Returns the words of a text, without the places of functions.

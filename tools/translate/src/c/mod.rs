@@ -23,32 +23,20 @@ use std::path::Path;
 use world::World;
 
 /// The types whose calls C has.
-pub const TYPES: [&str; 10] =
-    ["i8", "u8", "i16", "u16", "i32", "u32", "i64", "u64", "i128", "u128"];
+const TYPES: &str = "i8 u8 i16 u16 i32 u32 i64 u64 i128 u128";
 
-/// What C calls, for each type of integers: functions by their paths, `T::` for one of the type. What is `inline` is in
-/// `torkettle.h`, and a compiler of C++20 may call what is `constant` and inline, with all that it calls.
-const ROOTS: [(&str, &str); 19] = [
-    ("atoi_fast::one_digit", "inline"),
-    ("atoi_fast::quick_slice", ""),
-    ("atoi_fast::long_slice", ""),
-    ("atoi_fast::quick_prefix", "inline"),
-    ("atoi_fast::prefix_by_digits", "inline constant"),
-    ("atoi_fast::whole_by_digits", "inline constant"),
-    ("T::atoi_simd_parse", ""),
-    ("T::atoi_simd_parse_prefix", ""),
-    ("T::atoi_simd_parse_pos", ""),
-    ("T::atoi_simd_parse_prefix_pos", ""),
-    ("atoi_core::AtoiSimdError::text", ""),
-    ("atoi_formats::canonical", ""),
-    ("atoi_formats::json_integer", ""),
-    ("atoi_column::is_separator", "inline"),
-    ("atoi_column::Fields::new", ""),
-    ("atoi_column::Fields::lines", ""),
-    ("atoi_column::Fields::position", ""),
-    ("atoi_column::Fields::next", ""),
-    ("atoi_column::Fields::read", ""),
-];
+/// What C calls, for each of these types: functions by their paths, `T::` for one of the type.
+const ROOTS: &str = "atoi_fast::one_digit atoi_fast::quick_slice atoi_fast::long_slice atoi_fast::quick_prefix \
+    atoi_fast::prefix_by_digits atoi_fast::whole_by_digits T::atoi_simd_parse T::atoi_simd_parse_prefix \
+    T::atoi_simd_parse_pos T::atoi_simd_parse_prefix_pos atoi_core::AtoiSimdError::text \
+    atoi_formats::canonical atoi_formats::json_integer atoi_column::is_separator atoi_column::Fields::new \
+    atoi_column::Fields::lines atoi_column::Fields::position atoi_column::Fields::next \
+    atoi_column::Fields::read";
+
+/// What of this is in `torkettle.h`, and what of that a compiler of C++20 may call, with all that it calls.
+const INLINE: &str = "atoi_fast::one_digit atoi_fast::quick_prefix atoi_fast::prefix_by_digits \
+    atoi_fast::whole_by_digits atoi_column::is_separator";
+const CONSTANT: &str = "atoi_fast::prefix_by_digits atoi_fast::whole_by_digits";
 
 const HEAD: &str =
     "/* Made by .ci/translate from the proved sources and c/interface. Do not edit. */\n";
@@ -80,7 +68,7 @@ pub fn made(top: &Path, is_checked: bool) -> Done<[(&'static str, String); 2]> {
     let scopes = Scopes::new(&package)?;
     checks::check(&package, &scopes)?;
     let world = World::new(&scopes);
-    let (inline, rest) = print(&world, &ROOTS, &TYPES, is_checked)?;
+    let (inline, rest) = print(&world, ROOTS, TYPES, is_checked)?;
     let part = |name: &str| Done::Ok(Source::read(top, &Path::new(INTERFACE).join(name))?.text);
     let inline = format!("{}\n{inline}", part("prelude.h")?);
     let names = inline
@@ -100,27 +88,22 @@ pub fn made(top: &Path, is_checked: bool) -> Done<[(&'static str, String); 2]> {
 
 /// Prints functions, and all that they call, as the part that the inline ones need in each file, and the rest. Functions
 /// that are never inlined are in the rest, and the inline part declares them.
-pub fn print(
-    world: &World,
-    roots: &[(&str, &str)],
-    types: &[&str],
-    is_checked: bool,
-) -> Done<(String, String)> {
+pub fn print(world: &World, roots: &str, types: &str, is_checked: bool) -> Done<(String, String)> {
     let mut instances = Instances::new(world);
     let mut keys = Vec::new();
-    for (path, place) in roots {
+    for path in roots.split_whitespace() {
         for callee in callees(world, path, types)? {
-            keys.push((instances.add(&callee)?, *place));
+            keys.push((instances.add(&callee)?, path));
         }
     }
-    let reached = |place: &str, is_end: &dyn Fn(&Function) -> bool| {
-        let keys = keys.iter().filter(|(_, places)| places.contains(place));
+    let reached = |list: &str, is_end: &dyn Fn(&Function) -> bool| {
+        let keys = keys.iter().filter(|(_, path)| has(list, path));
         instances.reached(keys.map(|(key, _)| key), is_end)
     };
     let is_far = |it: &Function| matches!(qualifier(world, it), "TK_NOINLINE" | "TK_COLD");
-    let (functions, _) = reached("", &|_| false);
-    let (_, inline) = reached("inline", &is_far);
-    let (_, constant) = reached("constant", &|_| false);
+    let (functions, _) = reached(roots, &|_| false);
+    let (_, inline) = reached(INLINE, &is_far);
+    let (_, constant) = reached(CONSTANT, &|_| false);
     let qualifier = |it: &Function| match inline.contains(&it.key) && is_far(it) {
         true => "TK_FAR",
         false if constant.contains(&it.key) => "TK_CONSTEXPR",
@@ -139,7 +122,7 @@ pub fn print(
 }
 
 // Returns what a path names, for each type if it has a parameter.
-fn callees(world: &World, path: &str, types: &[&str]) -> Done<Vec<Callee>> {
+fn callees(world: &World, path: &str, types: &str) -> Done<Vec<Callee>> {
     let names: Vec<&str> = path.split("::").collect();
     let callee = |of: &Type| {
         if let ["T", name] = names[..] {
@@ -157,7 +140,7 @@ fn callees(world: &World, path: &str, types: &[&str]) -> Done<Vec<Callee>> {
         }
     };
     let mut found = Vec::new();
-    for of in types.iter().filter_map(|it| world::integer(it)) {
+    for of in types.split_whitespace().filter_map(world::integer) {
         let missing = || Fault::of_file(Path::new("C"), format!("no `{path}`"));
         let mut callee = callee(&of).ok_or_else(missing)?;
         callee.bindings.insert("T".into(), of);
