@@ -6,7 +6,11 @@ use crate::modules::CRATES;
 use crate::parser::parse;
 use crate::resolve::{Id, Scopes};
 use crate::source::{Done, Fault, Source, Span};
+use crate::std_names::has;
 use crate::tree::texts;
+
+// The modules that depend on the feature `lanes`.
+const MODULES_OF_LANES: &str = "atoi_lanes lanes simd";
 
 /// A name that is exported, of a crate.
 pub struct Export {
@@ -22,6 +26,11 @@ pub fn exports(source: &Source) -> Done<Vec<Export>> {
     let items = parse(source, "facade")?;
     let inner = items.iter().flat_map(|item| &item.parts).filter(|part| part.has("notices"));
     for item in items.iter().chain(inner) {
+        let refuse = |form: &str| Err(source.fault(item.span, format!("{form} is not known here")));
+        let needs_lanes = item.parts[0].all("notice").any(|notice| notice.has("lanes"));
+        if needs_lanes && !has(MODULES_OF_LANES, item.name()) {
+            return refuse("this item for the feature `lanes`");
+        }
         for path in item.imports() {
             match texts(&path)[..] {
                 ["proved", owner, name] | ["crate", "proved", owner, name]
@@ -30,9 +39,7 @@ pub fn exports(source: &Source) -> Done<Vec<Export>> {
                     let (crate_name, span) = (owner.to_string(), path[path.len() - 1].span);
                     exports.push(Export { crate_name, name: name.into(), span });
                 }
-                ref names if names.contains(&"proved") => {
-                    return Err(source.fault(item.span, "this form of export is not known here"));
-                }
+                ref names if names.contains(&"proved") => return refuse("this form of export"),
                 _ => {}
             }
         }

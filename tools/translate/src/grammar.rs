@@ -196,9 +196,12 @@ proved             = 'mod' 'proved' '{' inner_item* '}'
 outer              = 'pub'? 'mod' !'proved' name ( ';' / '{' inner_item* '}' )
 inner_item         ~ notices <! ( inner / export )
 inner              = 'pub'? 'mod' !'proved' name ( ';' / '{' '}' )
-notices            = ( DOC / '#' '!'? '[' known_name in_attribute* ']' )*
+notices            = ( DOC / '#' '!' '[' known ']' / notice )*
+notice             = '#' '[' known ']'
+known              ~ known_name in_attribute*
 known_name         ~ 'allow' / 'cfg' / 'cfg_attr' / 'no_std' / 'rustfmt' / 'warn'
-in_attribute       ~ !( 'path' / 'include' / 'macro_use' / 'proved' ) WORD / TEXT / '(' / ')' / ',' / '=' / '::' / '!'
+in_attribute       ~ lanes / !( 'path' / 'include' / 'macro_use' / 'proved' ) WORD / TEXT / '(' / ')' / ',' / '=' / '::' / '!'
+lanes              = '"lanes"'
 ignored            = 'extern' 'crate' 'std' ';' / 'compile_error' '!' '(' TEXT ')' ';'
 export             = 'pub' 'use' imports ';'
 "#;
