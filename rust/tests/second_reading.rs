@@ -1,149 +1,227 @@
-//! Reads the proved sources a second time, without `tools/translate`: every token that must remain of each source is
-//! in the Rust below `rust/src/proved`, in its order and on its line, and no other token but comments, which
-//! are what the source has there. So a change of that Rust by hand is noticed, too.
+//! Makes the Rust below `rust/src/proved` a second time, without `tools/translate`: line by line, as the layout of the
+//! sources tells what a line is, and not by their grammar. Both have to be the same, to the letter. So a change of that
+//! Rust by hand is noticed, too.
 
-mod remaining;
-
-use remaining::{CRATES, Token};
 use std::fs;
-use std::panic::catch_unwind;
 use std::path::{Path, PathBuf};
 
 const TOP: &str = env!("CARGO_MANIFEST_DIR");
 
+// The crates of the package.
+const CRATES: [&str; 6] =
+    ["atoi_core", "atoi_fast", "atoi_lanes", "atoi_simd", "atoi_column", "atoi_formats"];
+
+// The conditions of exported functions, and how their bodies begin in Rust.
+const TESTS: [(&str, &str); 3] = [
+    (
+        "is_separator separator ≡ true",
+        "assert!(crate::column::is_separator(separator), \"a sign or a digit separates fields\");",
+    ),
+    (
+        "IsFalse (is_digit decimal_table byte)",
+        "assert!(!byte.is_ascii_digit(), \"a digit is to follow the number\");",
+    ),
+    (
+        "(index + length self.rest < 2 ^ 64) × (place + length self.rest < 2 ^ 64)",
+        "assert!(self.rest.len() <= usize::MAX - index, \"the fields have too many indices\"); \
+         assert!(self.rest.len() <= usize::MAX - place, \"the fields end above usize::MAX\");",
+    ),
+];
+
+// How what only proofs read begins, apart from implementations of `Model`.
+const FOR_PROOFS: [&str; 6] =
+    ["ghost ", "requires ", "ensures ", "#[tactic", "#![tactic", "#[derive(Drop)]"];
+
+// What Rust has in place of these parts of lines, after the heads of paths to our crates.
+const REPLACED: [(&str, &str); 6] = [
+    ("std::simd", "crate::simd"),
+    ("std::", "core::"),
+    ("{Model, ", "{ "),
+    (", Drop)]", ")]"),
+    ("fmt<W: fmt::Write>", "fmt"),
+    ("Formatter<W>", "Formatter<'_>"),
+];
+
+// The modules of `atoi_lanes` that are left out, with what its root says of them.
+const LEFT_OUT: [&str; 4] = ["kernels", "lanes", "wide_lanes", "window_32"];
+
+// What the root of `atoi_fast` has only with the feature `lanes`.
+const WITH_LANES: [&str; 2] = ["mod vectors;", "pub use crate::vectors::Vectors;"];
+
 #[test]
-fn what_must_remain_remains() {
-    let (mut files, mut clauses) = (0, 0);
+fn a_second_reading_makes_the_same() {
+    let mut made = 0;
     for name in CRATES {
         let folder = Path::new(TOP).join("crates").join(name).join("src");
-        for file in sources(&folder) {
+        for file in files(&folder, ".rt") {
             let module = file.strip_prefix(&folder).unwrap().to_str().unwrap();
-            let read_from = twin(name, module).unwrap_or_else(|| file.clone());
-            let text = fs::read_to_string(&read_from).unwrap();
-            let Some(source) = in_package(name, module, &text) else { continue };
-            let made = Path::new(TOP).join("rust/src/proved").join(name);
-            let made = made.join(module.replace("lib.rt", "mod.rs").replace(".rt", ".rs"));
-            let rust = fs::read_to_string(&made).unwrap();
-            let from = read_from.strip_prefix(TOP).unwrap().display();
+            if name == "atoi_lanes" && LEFT_OUT.contains(&module.split(['/', '.']).next().unwrap())
+            {
+                continue;
+            }
+            // The package has other engines.
+            let twin = format!("rust/default_engine/{name}.rs");
+            let own = format!("crates/{name}/src/{module}");
+            let from = if module == "default_engine.rt" { twin } else { own };
+            let source = fs::read_to_string(Path::new(TOP).join(&from)).unwrap();
+            let rust = Path::new(TOP).join("rust/src/proved").join(name);
+            let rust = rust.join(module.replace("lib.rt", "mod.rs").replace(".rt", ".rs"));
             let head = format!("/* Made by .ci/translate from {from}. Do not edit. */ ");
-            let rust = rust.strip_prefix(&head).unwrap_or_else(|| panic!("{}", made.display()));
-            let kept = remaining::remaining(name, &source);
-            clauses += compare(&kept, &remaining::tokens(rust), &text, &file);
-            files += 1;
+            let expected = head + &rust_of(name, &source);
+            let found = fs::read_to_string(&rust).unwrap();
+            for (number, (found, expected)) in found.lines().zip(expected.lines()).enumerate() {
+                assert_eq!(found, expected, "{}:{}", rust.display(), number + 1);
+            }
+            assert_eq!(found, expected, "the end of {}", rust.display());
+            made += 1;
         }
     }
-    assert_eq!(files, rust_files(&Path::new(TOP).join("rust/src/proved")), "files that are made");
-    assert!(files > 50 && clauses > 300, "{files} sources, {clauses} clauses");
+    assert!(made > 50, "{made} files");
+    assert_eq!(made, files(&Path::new(TOP).join("rust/src/proved"), ".rs").len(), "files");
 }
 
-#[test]
-fn the_last_field_may_have_no_comma() {
-    let read = |source| remaining::remaining("atoi_core", source);
-    for rust in [
-        "pub struct A { b: u8, c: u8 } mod d;",
-        "pub struct A { b: [u8; 4] } mod d;",
-        "pub struct A { b: u8, c: (u8, u8), } mod d;",
-        "pub struct A {} mod d;",
-    ] {
-        assert_eq!(read(rust), remaining::tokens(rust));
+// One line, or the lines of something that only proofs read.
+struct Part<'a> {
+    text: &'a str,
+    is_for_proofs: bool,
+}
+
+fn rust_of(name: &str, source: &str) -> String {
+    let parts = parts(name, source);
+    let (mut rust, mut test, mut is_public, mut is_hinted) = (String::new(), "", false, false);
+    for (at, part) in parts.iter().enumerate() {
+        let text = part.text.trim_start();
+        if part.is_for_proofs {
+            rust += &comment(part.text);
+            if is_public && text.starts_with("requires ") {
+                test = test_of(text);
+            }
+            continue;
+        }
+        let (mut line, indent) = (kept(name, part.text), part.text.len() - text.len());
+        let next_function = || parts[at..].iter().find(|part| part.text.contains("fn "));
+        is_hinted |= text.starts_with("#[inline");
+        if text == "#[inline(always)]\n" && next_function().is_some_and(is_compiled_once) {
+            line.replace_range(indent.., "#[cfg_attr(not(debug_assertions), inline(always))]\n");
+        }
+        if ["fn ", "pub fn ", "pub(crate) fn "].iter().any(|head| text.starts_with(head)) {
+            if !is_hinted && has_body(&parts[at..]) {
+                line.insert_str(indent, "#[inline] ");
+            }
+            (is_public, is_hinted) = (text.starts_with("pub fn "), false);
+        }
+        if text.ends_with("{\n") {
+            line.insert_str(line.len() - 1, std::mem::take(&mut test));
+        }
+        rust += &line;
     }
-    let rust = remaining::tokens("struct A { b: u8, } mod d;");
-    assert_eq!(read("struct A { b: u8, ghost c: { ℕ } } mod d;"), rust);
+    rust
 }
 
-#[test]
-fn what_has_no_end_is_not_read() {
-    for source in [
-        "pub struct A { b: u8",
-        "pub struct A { b: u8,",
-        "pub struct A",
-        "use a::b",
-        "mod a { use b::c }",
-        "fn a()",
-        "#",
-        "ghost use a.{b}",
-        "ghost a:",
-    ] {
-        let read = catch_unwind(|| remaining::remaining("atoi_core", source));
-        assert!(read.is_err(), "{source}: {:?}", read.unwrap());
-    }
-}
-
-// Compares what must remain with what was made, and returns how many clauses stay as comments.
-fn compare(kept: &[Token], made: &[Token], source: &str, file: &Path) -> usize {
-    let lines: Vec<&str> = source.lines().collect();
-    let (mut kept, mut left) = (kept.iter().peekable(), Vec::new());
-    for token in made {
-        match kept.next_if(|next| *next == token) {
-            Some(_) => {}
-            None if remaining::is_comment(&token.1) => left.push(token),
-            None => panic!("{}: {token:?} in place of {:?}", file.display(), kept.peek()),
+// What only proofs read ends where its brackets are closed.
+fn parts<'a>(name: &str, source: &'a str) -> Vec<Part<'a>> {
+    let (mut parts, mut start, mut depth) = (Vec::new(), 0, 0);
+    let mut end = 0;
+    for line in source.split_inclusive('\n') {
+        end += line.len();
+        let text = line.trim_start();
+        let begins = FOR_PROOFS.iter().any(|head| text.starts_with(head))
+            || text.starts_with("impl") && text.contains(" Model for ")
+            || name == "atoi_lanes" && is_of_left_out(text);
+        let is_for_proofs = depth > 0 || begins;
+        if is_for_proofs {
+            depth += line.matches(['(', '[', '{']).count();
+            depth -= line.matches([')', ']', '}']).count();
+        }
+        if depth == 0 {
+            parts.push(Part { text: &source[start..end], is_for_proofs });
+            start = end;
         }
     }
-    assert_eq!(kept.next(), None, "{}", file.display());
-    for (line, text) in &left {
-        let text = text.trim_start_matches("//").trim_start_matches("/*").trim_end_matches("*/");
-        for (at, part) in text.trim().split('\n').enumerate() {
-            let shown = lines[line - 1 + at];
-            assert!(shown.contains(part.trim()), "{}: {part} in {shown}", file.display());
-        }
+    assert_eq!(depth, 0, "a bracket is not closed");
+    parts
+}
+
+fn is_of_left_out(item: &str) -> bool {
+    LEFT_OUT.iter().any(|module| {
+        item.ends_with(&format!("mod {module};\n"))
+            || item.starts_with(&format!("pub use crate::{module}::"))
+    })
+}
+
+// A comment on each line or, before the `;` of a function without a body, between signs.
+fn comment(part: &str) -> String {
+    let indent = part.len() - part.trim_start().len();
+    let (before, text) = part.split_at(indent);
+    let is_clause = text.starts_with("requires ") || text.starts_with("ensures ");
+    if let (true, Some(clause)) = (is_clause, text.strip_suffix(";\n")) {
+        return format!("{before}/* {clause} */;\n");
     }
-    let is_clause = |text: &str| text.starts_with("requires") || text.starts_with("ensures");
-    let stay = left.iter().filter(|(_, text)| is_clause(text[2..].trim_start())).count();
-    assert_eq!(stay, lines.iter().filter(|line| is_clause(line.trim_start())).count(), "{file:?}");
-    stay
-}
-
-// The file that stands in place of a module, where the package has other engines.
-fn twin(name: &str, module: &str) -> Option<PathBuf> {
-    let is_named = module == "default_engine.rt";
-    is_named.then(|| Path::new(TOP).join("rust/default_engine").join(name).with_extension("rs"))
-}
-
-// The text of a module in the package, or nothing if it is left out.
-fn in_package(name: &str, module: &str, source: &str) -> Option<String> {
-    let source = match (name, module) {
-        ("atoi_lanes", "lib.rt") => {
-            let lines = source.split_inclusive('\n').map(|line| match line.trim_end() {
-                "pub mod kernels;" | "mod lanes;" | "mod wide_lanes;" | "mod window_32;" => "\n",
-                "pub use crate::lanes::Lanes;" => "\n",
-                "pub use crate::wide_lanes::{prefix_64_lanes, prefix_128_lanes};" => "\n",
-                _ => line,
-            });
-            lines.collect()
+    let commented = |line: &str| match line.trim_start().len() {
+        0 => line.to_string(),
+        length => {
+            let (before, rest) = line.split_at(indent.min(line.len() - length));
+            format!("{before}// {rest}")
         }
-        ("atoi_fast", "lib.rt") => {
-            let feature = "#[cfg(feature = \"lanes\")] ";
-            let vectors = ["mod vectors;", "pub use crate::vectors::Vectors;"];
-            vectors.iter().fold(source.to_string(), |source, line| {
-                assert_eq!(source.matches(line).count(), 1, "{line}");
-                source.replace(line, &format!("{feature}{line}"))
-            })
-        }
-        _ => source.to_string(),
     };
-    let is_left_out = name == "atoi_lanes"
-        && ["kernels", "lanes", "wide_lanes", "window_32"]
-            .contains(&module.split(['/', '.']).next().unwrap_or_default());
-    (!is_left_out).then_some(source)
+    part.split_inclusive('\n').map(commented).collect()
 }
 
-// The sources in a folder and in the folders in it.
-fn sources(folder: &Path) -> Vec<PathBuf> {
-    files(folder)
-        .into_iter()
-        .filter(|path| path.extension().is_some_and(|end| end == "rt"))
-        .collect()
+fn test_of(condition: &str) -> &'static str {
+    let words: Vec<&str> = condition.split_whitespace().collect();
+    let text = words.join(" ");
+    let is_clause = |clause: &str| text.ends_with(&format!("{{ {clause} }}"));
+    TESTS.iter().find(|(clause, _)| is_clause(clause)).map_or("", |(_, test)| test)
 }
 
-fn rust_files(folder: &Path) -> usize {
-    files(folder).len()
+// A line of what remains. Comments do not change.
+fn kept(name: &str, line: &str) -> String {
+    if line.trim_start().starts_with("//") {
+        return line.to_string();
+    }
+    let feature = if name == "atoi_fast" && WITH_LANES.contains(&line.trim_end()) {
+        "#[cfg(feature = \"lanes\")] "
+    } else {
+        ""
+    };
+    let mut line = line.replace("crate::", &format!("{name}::"));
+    for name in CRATES {
+        for end in ["::", " as "] {
+            line = line.replace(&format!("{name}{end}"), &format!("crate::proved::{name}{end}"));
+        }
+    }
+    for (from, to) in REPLACED {
+        line = line.replace(from, to);
+    }
+    feature.to_string() + &line
 }
 
-fn files(folder: &Path) -> Vec<PathBuf> {
-    let paths = fs::read_dir(folder).unwrap().map(|entry| entry.unwrap().path());
-    let is_hidden = |path: &PathBuf| path.file_name().unwrap().as_encoded_bytes()[0] == b'.';
-    let paths = paths.filter(|path| !is_hidden(path));
-    let (folders, here): (Vec<PathBuf>, Vec<PathBuf>) = paths.partition(|path| path.is_dir());
-    here.into_iter().chain(folders.iter().flat_map(|folder| files(folder))).collect()
+// A debug build inlines no method of the ten functions.
+fn is_compiled_once(function: &Part<'_>) -> bool {
+    function.text.contains("fn atoi_simd_parse")
+}
+
+// Whether the function that begins here has more than a signature.
+fn has_body(parts: &[Part<'_>]) -> bool {
+    for part in parts {
+        let text = part.text.trim_end();
+        if text.ends_with(';') || !part.is_for_proofs && text.ends_with(['{', '}']) {
+            return !text.ends_with(';');
+        }
+    }
+    false
+}
+
+// The files of a folder, and of the folders in it, that end so and are not hidden.
+fn files(folder: &Path, end: &str) -> Vec<PathBuf> {
+    let mut found = Vec::new();
+    for entry in fs::read_dir(folder).unwrap().map(Result::unwrap) {
+        let (name, path) = (entry.file_name().into_string().unwrap(), entry.path());
+        if path.is_dir() && !name.starts_with('.') {
+            found.extend(files(&path, end));
+        } else if name.ends_with(end) && !name.starts_with('.') {
+            found.push(path);
+        }
+    }
+    found
 }
