@@ -18,7 +18,7 @@ macro_rules! intrinsics {
         #[cfg(target_feature = $feature)]
         #[inline(always)]
         #[allow(unsafe_code)]
-        fn $name$(<const $constant: i32>)?($($argument: $type),*) -> $result {
+        pub fn $name$(<const $constant: i32>)?($($argument: $type),*) -> $result {
             // SAFETY: the intrinsic needs nothing but the feature, which the target has.
             unsafe { arch::$name$(::<$constant>)?($($argument),*) }
         }

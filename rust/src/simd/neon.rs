@@ -5,6 +5,11 @@ use core::arch::aarch64::{int64x2_t, uint8x8_t, uint8x16_t, uint16x8_t, uint32x4
 
 pub type Bytes = uint8x16_t;
 
+pub use self::{
+    vaddq_u8 as add_8, vandq_u8 as and, vceqq_u8 as eq_8, vcgeq_u8 as ge_8, vorrq_u8 as or,
+    vqtbl1q_u8 as swizzle, vsubq_u8 as sub_8,
+};
+
 intrinsics! {
     "neon" {
         fn vcreate_u8(bytes: u64) -> uint8x8_t;
@@ -52,36 +57,6 @@ pub fn to_array(v: Bytes) -> [u8; 16] {
 }
 
 #[inline(always)]
-pub fn and(v: Bytes, w: Bytes) -> Bytes {
-    vandq_u8(v, w)
-}
-
-#[inline(always)]
-pub fn or(v: Bytes, w: Bytes) -> Bytes {
-    vorrq_u8(v, w)
-}
-
-#[inline(always)]
-pub fn add_8(v: Bytes, w: Bytes) -> Bytes {
-    vaddq_u8(v, w)
-}
-
-#[inline(always)]
-pub fn sub_8(v: Bytes, w: Bytes) -> Bytes {
-    vsubq_u8(v, w)
-}
-
-#[inline(always)]
-pub fn eq_8(v: Bytes, w: Bytes) -> Bytes {
-    vceqq_u8(v, w)
-}
-
-#[inline(always)]
-pub fn ge_8(v: Bytes, w: Bytes) -> Bytes {
-    vcgeq_u8(v, w)
-}
-
-#[inline(always)]
 pub fn bitmask(v: Bytes) -> u64 {
     // Keeps one bit of each lane, and adds up the bits of eight neighbouring lanes.
     let bits = [1, 2, 4, 8, 16, 32, 64, 128, 1, 2, 4, 8, 16, 32, 64, 128];
@@ -90,11 +65,6 @@ pub fn bitmask(v: Bytes) -> u64 {
     let fours = vpaddq_u8(twos, twos);
     let eights = vpaddq_u8(fours, fours);
     vgetq_lane_u64::<0>(vreinterpretq_u64_u8(eights)) & 0xFFFF
-}
-
-#[inline(always)]
-pub fn swizzle(v: Bytes, indices: Bytes) -> Bytes {
-    vqtbl1q_u8(v, indices)
 }
 
 #[inline(always)]

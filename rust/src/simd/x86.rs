@@ -5,6 +5,14 @@ use core::arch::x86_64::__m128i;
 
 pub type Bytes = __m128i;
 
+pub use self::{
+    _mm_add_epi8 as add_8, _mm_add_epi64 as add_64, _mm_and_si128 as and, _mm_cmpeq_epi8 as eq_8,
+    _mm_mullo_epi16 as mul_16, _mm_or_si128 as or, _mm_sub_epi8 as sub_8,
+};
+
+#[cfg(target_feature = "ssse3")]
+pub use self::_mm_shuffle_epi8 as swizzle;
+
 intrinsics! {
     "sse2" {
         fn _mm_set_epi64x(high: i64, low: i64) -> __m128i;
@@ -49,31 +57,6 @@ pub fn to_array(v: Bytes) -> [u8; 16] {
 }
 
 #[inline(always)]
-pub fn and(v: Bytes, w: Bytes) -> Bytes {
-    _mm_and_si128(v, w)
-}
-
-#[inline(always)]
-pub fn or(v: Bytes, w: Bytes) -> Bytes {
-    _mm_or_si128(v, w)
-}
-
-#[inline(always)]
-pub fn add_8(v: Bytes, w: Bytes) -> Bytes {
-    _mm_add_epi8(v, w)
-}
-
-#[inline(always)]
-pub fn sub_8(v: Bytes, w: Bytes) -> Bytes {
-    _mm_sub_epi8(v, w)
-}
-
-#[inline(always)]
-pub fn eq_8(v: Bytes, w: Bytes) -> Bytes {
-    _mm_cmpeq_epi8(v, w)
-}
-
-#[inline(always)]
 pub fn ge_8(v: Bytes, w: Bytes) -> Bytes {
     _mm_cmpeq_epi8(v, _mm_max_epu8(v, w))
 }
@@ -81,12 +64,6 @@ pub fn ge_8(v: Bytes, w: Bytes) -> Bytes {
 #[inline(always)]
 pub fn bitmask(v: Bytes) -> u64 {
     _mm_movemask_epi8(v) as u64
-}
-
-#[cfg(target_feature = "ssse3")]
-#[inline(always)]
-pub fn swizzle(v: Bytes, indices: Bytes) -> Bytes {
-    _mm_shuffle_epi8(v, indices)
 }
 
 #[cfg(not(target_feature = "ssse3"))]
@@ -114,16 +91,6 @@ pub fn dot4(v: Bytes, weights: Bytes) -> Bytes {
     let odd = |v| _mm_srli_epi16::<8>(v);
     let sums_of_even = _mm_madd_epi16(even(v), even(weights));
     _mm_add_epi32(sums_of_even, _mm_madd_epi16(odd(v), odd(weights)))
-}
-
-#[inline(always)]
-pub fn mul_16(v: Bytes, w: Bytes) -> Bytes {
-    _mm_mullo_epi16(v, w)
-}
-
-#[inline(always)]
-pub fn add_64(v: Bytes, w: Bytes) -> Bytes {
-    _mm_add_epi64(v, w)
 }
 
 #[inline(always)]
