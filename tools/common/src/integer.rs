@@ -77,11 +77,6 @@ integers! {
 }
 
 impl Integer {
-    /// The type of this name.
-    pub fn named(name: &str) -> Option<Integer> {
-        Integer::ALL.into_iter().find(|integer| integer.name() == name)
-    }
-
     /// Whether it has negative numbers.
     pub fn is_signed(self) -> bool {
         self.name().starts_with('i')
@@ -91,20 +86,5 @@ impl Integer {
     /// value. If `minus`, the type must be signed.
     pub fn bound(self, minus: bool) -> u128 {
         self.greatest() + u128::from(minus)
-    }
-}
-
-#[cfg(test)]
-mod tests {
-    use super::Integer;
-
-    #[test]
-    fn ends_of_types() {
-        assert_eq!(Integer::I8.parse(b"-128"), Some((true, 128)));
-        assert_eq!(Integer::I128.parse(i128::MIN.to_string().as_bytes()), Some((true, 1 << 127)));
-        assert_eq!(Integer::U8.parse(b"256"), None);
-        assert_eq!(Integer::Usize.bound(false), usize::MAX as u128);
-        assert_eq!(Integer::I64.bound(true), 1 << 63);
-        assert_eq!(Integer::named("isize").map(Integer::bits), Some(usize::BITS));
     }
 }
