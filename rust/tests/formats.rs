@@ -8,20 +8,11 @@ use torkettle::formats::{
     canonical, canonical_prefix, canonical_then, digits_between, digits_then, fixed_width, number,
     number_then, strip_byte,
 };
+use torkettle_common::texts;
 
 // Parts of texts: every text of up to four of them is tried.
 const PARTS: [&str; 13] =
     ["0", "7", "12", "255", "128", "+", "-", ".", ",", " ", "x", "00", "18446744073709551616"];
-
-fn each_text(mut check: impl FnMut(&str)) {
-    check("");
-    let mut texts = vec![String::new()];
-    for _ in 0..4 {
-        let longer = |text: &String| PARTS.map(|part| format!("{text}{part}"));
-        texts = texts.iter().flat_map(longer).collect();
-        texts.iter().for_each(|text| check(text));
-    }
-}
 
 // What `{}` prints, and nothing else.
 fn printed<T: FromStr + Display>(text: &str) -> Option<T> {
@@ -76,7 +67,7 @@ fn check<T: Parse + FromStr + Display + PartialEq + Debug>(text: &str) {
 
 #[test]
 fn formats_are_those_of_std() {
-    each_text(|text| {
+    texts::each_of_parts(&PARTS, |text| {
         let rest = strip_byte(text.as_bytes(), b'.').map(|rest| place(text.as_bytes(), rest));
         assert_eq!(rest, text.starts_with('.').then_some(1), "strip_byte of {text:?}");
         check::<u8>(text);
@@ -88,15 +79,13 @@ fn formats_are_those_of_std() {
 
 #[test]
 fn no_digit_ends_a_number() {
-    std::panic::set_hook(Box::new(|_| {}));
     for byte in 0..=255_u8 {
         let found = [
             catch_unwind(|| number_then::<u8>(b"1", byte).is_some()),
             catch_unwind(|| digits_then::<u8>(b"1", byte).is_some()),
             catch_unwind(|| canonical_then::<u8>(b"1", byte).is_some()),
         ];
-        let is_refused = |result: &Result<bool, _>| result.is_err();
-        assert_eq!(found.iter().all(is_refused), byte.is_ascii_digit(), "{byte}");
-        assert_eq!(found.iter().any(is_refused), byte.is_ascii_digit(), "{byte}");
+        let are_refused = found.map(|result| result.is_err());
+        assert_eq!(are_refused, [byte.is_ascii_digit(); 3], "{byte}");
     }
 }

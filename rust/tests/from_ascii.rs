@@ -1,4 +1,5 @@
 //! Compares `from_ascii` and `from_ascii_prefix` with `str::parse`: numbers, kinds and offsets of errors, and messages.
+//! Compares the kinds of the errors of `parse`, too, and their offsets with the first byte that is wrong.
 //!
 //! `TORKETTLE_TEXTS` sets how many texts are generated.
 
@@ -7,7 +8,7 @@ use std::fmt::Debug;
 use std::num::IntErrorKind::{self, Empty, InvalidDigit};
 use std::num::ParseIntError;
 use std::str::FromStr;
-use torkettle::{IntError, Parse, from_ascii, from_ascii_prefix};
+use torkettle::{AtoiSimdError, IntError, Parse, from_ascii, from_ascii_prefix, parse};
 use torkettle_common::random::Random;
 use torkettle_common::texts;
 
@@ -59,6 +60,19 @@ where
         kind => expected(kind, end, false),
     });
     assert_eq!(found, of_std, "from_ascii_prefix of {text:?}");
+
+    let (Err(error), Err(of_std)) = (parse::<T, true, true>(bytes), text.parse::<T>()) else {
+        return;
+    };
+    assert_eq!(&error.kind(bytes), of_std.kind(), "the kind of {text:?}");
+    let offset = match error {
+        AtoiSimdError::Empty => None,
+        AtoiSimdError::Size(_, rest) | AtoiSimdError::Overflow(rest) => {
+            Some(text.len() - rest.len())
+        }
+        _ => Some(end),
+    };
+    assert_eq!(error.offset_in(bytes), offset, "the offset in {text:?}");
 }
 
 const CHECKS: [fn(&str, &[u8]); 12] = [
@@ -78,20 +92,14 @@ const CHECKS: [fn(&str, &[u8]); 12] = [
 
 #[test]
 fn short_texts_are_read_as_by_std() {
-    let mut texts = vec![String::new()];
-    for _ in 0..=4 {
-        for text in &texts {
-            CHECKS.iter().for_each(|check| check(text, text.as_bytes()));
-        }
-        let longer = |text: &String| PARTS.map(|part| format!("{text}{part}"));
-        texts = texts.iter().flat_map(longer).collect();
-    }
+    texts::each_of_parts(&PARTS, |text| {
+        CHECKS.iter().for_each(|check| check(text, text.as_bytes()));
+    });
 }
 
 #[test]
 fn generated_texts_are_read_as_by_std() {
-    let texts = std::env::var("TORKETTLE_TEXTS")
-        .map_or(TEXTS, |texts| texts.parse().expect("TORKETTLE_TEXTS is not a number of texts"));
+    let texts = texts::wanted(TEXTS);
     let mut random = Random::new(110);
     let mut bytes = Vec::new();
     for check in CHECKS.iter().cycle().take(texts) {
@@ -102,6 +110,12 @@ fn generated_texts_are_read_as_by_std() {
         check(&text, &bytes);
     }
     println!("{texts} texts are read as by std");
+}
+
+#[test]
+fn an_error_of_another_text_has_no_offset() {
+    assert_eq!(AtoiSimdError::Overflow(b"256").offset_in(b"25"), None);
+    assert_eq!(AtoiSimdError::Invalid64(1, usize::MAX, b"1x").offset_in(b"+1x"), None);
 }
 
 #[test]

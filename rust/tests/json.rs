@@ -129,8 +129,7 @@ fn push_text(random: &mut Random, text: &mut Vec<u8>) {
 
 #[test]
 fn generated_texts_are_read_as_the_grammar_says() {
-    let texts = std::env::var("TORKETTLE_TEXTS")
-        .map_or(TEXTS, |texts| texts.parse().expect("TORKETTLE_TEXTS is not a number of texts"));
+    let texts = texts::wanted(TEXTS);
     let mut random = Random::new(76);
     let mut text = Vec::new();
     let mut accepted = 0;

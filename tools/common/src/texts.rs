@@ -25,6 +25,23 @@ const SUFFIXES: [u8; 28] = [
     0x7F, 0x80, 0xB0, 0xB9, 0xBF, 0xC0, 0xEF, 0xF0, 0xF9, 0xFA, 0xFE, 0xFF,
 ];
 
+/// How many texts a test generates: what TORKETTLE_TEXTS says or, without it, this.
+pub fn wanted(otherwise: usize) -> usize {
+    std::env::var("TORKETTLE_TEXTS")
+        .map_or(otherwise, |texts| texts.parse().expect("TORKETTLE_TEXTS is not a number of texts"))
+}
+
+/// Calls `check` with every text of up to four of these parts.
+pub fn each_of_parts(parts: &[&str], mut check: impl FnMut(&str)) {
+    let mut texts = vec![String::new()];
+    for _ in 0..4 {
+        texts.iter().for_each(|text| check(text));
+        let longer = |text: &String| parts.iter().map(|part| format!("{text}{part}")).collect();
+        texts = texts.iter().flat_map::<Vec<_>, _>(longer).collect();
+    }
+    texts.iter().for_each(|text| check(text));
+}
+
 /// Appends the next text to `text`, and keeps the bytes that `text` already has.
 pub fn push_text(random: &mut Random, text: &mut Vec<u8>) {
     let start = text.len();
