@@ -1,7 +1,5 @@
-//! Compares the items of columns with what `split`, `str::lines` and `str::parse` give, and what `read`
-//! writes with the items. Shows which separators are refused.
-//!
-//! `TORKETTLE_FIELDS` sets how many fields are generated for `read`.
+//! Compares the items of columns with what `str::parse` gives, and what `read` writes with the items. Shows
+//! which separators are refused.
 
 use std::fmt::Debug;
 use std::panic::catch_unwind;
@@ -11,6 +9,7 @@ use torkettle::{AtoiSimdError, Parse};
 use torkettle_common::random::Random;
 use torkettle_common::texts;
 
+// How many fields are generated, at least.
 const FIELDS: usize = 1_000_000;
 
 // How many values there is room for in a read.
@@ -33,67 +32,6 @@ const COLUMNS: [&str; 13] = [
     "+12x3,-7.,-128-,1271,",
 ];
 
-// The fields of a text, of which the last is none if it is empty.
-fn fields(text: &str, separator: char) -> Vec<&str> {
-    let mut fields: Vec<&str> = text.split(separator).collect();
-    if fields.last() == Some(&"") {
-        fields.pop();
-    }
-    fields
-}
-
-// What is wrong with a field that is no `i8`, by what std parses.
-fn message(index: usize, place: usize, field: &str) -> String {
-    let body = field.strip_prefix(['+', '-']).unwrap_or(field);
-    let end = field.len() - body.trim_start_matches(|byte: char| byte.is_ascii_digit()).len();
-    let fault = if end == field.len() - body.len() {
-        "has no digit at its start".to_string()
-    } else if field[..end].parse::<i8>().is_err() {
-        "is out of range".to_string()
-    } else {
-        format!("has an unexpected byte at byte {}", place + end)
-    };
-    format!("field {index} at byte {place} {fault}")
-}
-
-#[test]
-fn each_field_has_its_position_and_the_item_that_std_gives() {
-    for text in COLUMNS {
-        let mut place = 0;
-        let mut items = Fields::<i8>::new(text.as_bytes(), b',');
-        for (index, field) in fields(text, ',').into_iter().enumerate() {
-            assert_eq!(items.position(), (index, place), "field {index} of {text:?}");
-            let item = items.next().unwrap_or_else(|| panic!("no item {index} of {text:?}"));
-            assert_eq!(item.ok(), field.parse().ok(), "item {index} of {text:?}");
-            if let Err(error) = item {
-                let found = (error.index, error.place, error.text);
-                assert_eq!(found, (index, place, field.as_bytes()), "{text:?}");
-                assert_eq!(error.text.as_ptr(), text[place..].as_ptr(), "the text is borrowed");
-                assert_eq!(torkettle::parse::<i8, true, true>(error.text), Err(error.cause));
-                assert_eq!(error.to_string(), message(index, place, field));
-            }
-            place += field.len() + 1;
-        }
-        let end = (fields(text, ',').len(), text.len());
-        assert_eq!(items.position(), end, "at the end of {text:?}");
-        assert_eq!(items.next(), None, "after the fields of {text:?}");
-        assert_eq!(items.next(), None, "after the end of {text:?}");
-        assert_eq!(items.position().1, text.len(), "after the end of {text:?}");
-    }
-}
-
-#[test]
-fn lines_are_those_of_std() {
-    for ending in ["\n", "\r\n"] {
-        for text in COLUMNS {
-            let text = text.replace(',', ending);
-            let items = Fields::<i8>::lines(text.as_bytes()).map(Result::ok);
-            let expected = text.lines().map(|line| line.parse::<i8>().ok());
-            assert!(items.eq(expected), "the lines of {text:?}");
-        }
-    }
-}
-
 // The error of a column for a bad field: it is about the input from the field on.
 fn column_error<'a>(input: &'a str, bad: &FieldError<'_>) -> ColumnError<'a> {
     let FieldError { index, place, .. } = *bad;
@@ -106,23 +44,18 @@ fn column_error<'a>(input: &'a str, bad: &FieldError<'_>) -> ColumnError<'a> {
 #[test]
 fn a_column_ends_with_its_first_error() {
     for text in COLUMNS {
-        let column: Vec<_> = Column::<i8>::new(text.as_bytes(), b',').collect();
-        let all: Vec<_> = Fields::<i8>::new(text.as_bytes(), b',').collect();
-        let good = all.iter().take_while(|item| item.is_ok()).count();
-        assert_eq!(column.len(), all.len().min(good + 1), "items of {text:?}");
-        for (item, field) in column.iter().zip(&all) {
-            match (item, field) {
-                (Ok(value), Ok(expected)) => assert_eq!(value, expected),
-                (Err(error), Err(bad)) => assert_eq!(*error, column_error(text, bad), "{text:?}"),
-                _ => panic!("{item:?} of a column, {field:?} of the fields of {text:?}"),
-            }
-        }
+        let fields = Fields::<i8>::new(text.as_bytes(), b',');
+        let mut expected: Vec<_> =
+            fields.map(|item| item.map_err(|bad| column_error(text, &bad))).collect();
+        let good = expected.iter().take_while(|item| item.is_ok()).count();
+        expected.truncate(good + 1);
+        let items: Vec<_> = Column::<i8>::new(text.as_bytes(), b',').collect();
+        assert_eq!(items, expected, "items of {text:?}");
     }
 }
 
 #[test]
 fn a_separator_is_no_part_of_a_number() {
-    std::panic::set_hook(Box::new(|_| {}));
     for byte in 0..=255 {
         let expected = !(byte == b'+' || byte == b'-' || byte.is_ascii_digit());
         assert_eq!(is_separator(byte), expected, "{byte}");
@@ -133,48 +66,8 @@ fn a_separator_is_no_part_of_a_number() {
     }
 }
 
-// The items of both parts of a text, where the second goes on after the first, and the last position.
-fn items_of_parts<'a>(
-    first: Fields<'a, i8>,
-    second: Fields<'a, i8>,
-) -> (Vec<Result<i8, FieldError<'a>>>, (usize, usize)) {
-    let mut first = first;
-    let mut items: Vec<_> = first.by_ref().collect();
-    let (index, place) = first.position();
-    let mut second = second.starting_at(index, place);
-    items.extend(second.by_ref());
-    (items, second.position())
-}
-
-#[test]
-fn a_text_that_is_cut_after_a_separator_has_the_same_items() {
-    for text in COLUMNS {
-        for ending in [",", "\n", "\r\n"] {
-            let text = text.replace(',', ending);
-            let separator = ending.as_bytes()[ending.len() - 1];
-            let fields: Vec<_> = Fields::<i8>::new(text.as_bytes(), separator).collect();
-            let lines: Vec<_> = Fields::<i8>::lines(text.as_bytes()).collect();
-            let ends = text.match_indices(char::from(separator)).map(|(place, _)| place + 1);
-            for cut in [0].into_iter().chain(ends) {
-                let (first, second) = text.as_bytes().split_at(cut);
-                let (items, position) =
-                    items_of_parts(Fields::new(first, separator), Fields::new(second, separator));
-                assert_eq!(items, fields, "the fields of {text:?}, cut at {cut}");
-                assert_eq!(position, (fields.len(), text.len()));
-                if separator == b'\n' {
-                    let (items, position) =
-                        items_of_parts(Fields::lines(first), Fields::lines(second));
-                    assert_eq!(items, lines, "the lines of {text:?}, cut at {cut}");
-                    assert_eq!(position, (lines.len(), text.len()));
-                }
-            }
-        }
-    }
-}
-
 #[test]
 fn a_start_leaves_room_for_the_fields() {
-    std::panic::set_hook(Box::new(|_| {}));
     let starts =
         |index, place| catch_unwind(|| Fields::<u8>::new(b"1,x", b',').starting_at(index, place));
     for (index, place, expected) in [
@@ -214,21 +107,30 @@ fn column(random: &mut Random, separator: u8) -> Vec<u8> {
     text
 }
 
-// Checks each item by what std parses. `cut` removes what ends a field.
+// Compares each item with what std parses. `cut` removes what ends a field.
 fn check_items<T: Parse + FromStr + PartialEq + Debug>(
     text: &[u8],
-    fields: Fields<'_, T>,
+    separator: u8,
+    mut fields: Fields<'_, T>,
     cut: impl Fn(&[u8]) -> &[u8],
 ) {
-    let (mut fields, mut start) = (fields, 0);
-    while let Some(item) = fields.next() {
-        let end = fields.position().1;
-        let field = std::str::from_utf8(cut(&text[start..end])).ok();
-        let expected = field.and_then(|field| field.parse().ok());
-        assert_eq!(item.ok(), expected, "at {start} of \"{}\"", text.escape_ascii());
-        start = end;
+    let (mut index, mut place, shown) = (0, 0, text.escape_ascii());
+    for part in text.split_inclusive(|byte| *byte == separator) {
+        assert_eq!(fields.position(), (index, place), "in \"{shown}\"");
+        let (item, field) = (fields.next().expect("one more item"), cut(part));
+        let expected = std::str::from_utf8(field).ok().and_then(|field| field.parse().ok());
+        assert_eq!(item.as_ref().ok(), expected.as_ref(), "at {place} of \"{shown}\"");
+        if let Err(error) = item {
+            assert_eq!((error.index, error.place), (index, place));
+            assert_eq!(error.text.as_ptr_range(), field.as_ptr_range(), "the text is borrowed");
+            assert_eq!(torkettle::parse::<T, true, true>(field), Err(error.cause));
+        }
+        (index, place) = (index + 1, place + part.len());
     }
-    assert_eq!(start, text.len());
+    for _ in 0..2 {
+        assert_eq!(fields.next(), None, "after the fields of \"{shown}\"");
+        assert_eq!(fields.position(), (index, text.len()));
+    }
 }
 
 // Reads all fields, `room` at once, and compares them with the items of the same fields. Returns how many
@@ -265,24 +167,27 @@ fn check_column<T: Parse + FromStr + PartialEq + Debug + Default + Copy>(
     separator: u8,
     room: usize,
 ) -> usize {
-    check_items(text, Fields::<T>::new(text, separator), |field| {
-        field.strip_suffix(&[separator]).unwrap_or(field)
-    });
-    check_items(text, Fields::<T>::lines(text), |field| match field {
-        [line @ .., b'\r', b'\n'] | [line @ .., b'\n'] => line,
-        _ => field,
-    });
     let fields = || Fields::<T>::new(text, separator);
     let lines = || Fields::<T>::lines(text);
+    check_items(text, separator, fields(), |part| part.strip_suffix(&[separator]).unwrap_or(part));
+    // As `str::lines` does.
+    check_items(text, b'\n', lines(), |part| match part {
+        [line @ .., b'\r', b'\n'] | [line @ .., b'\n'] => line,
+        _ => part,
+    });
     check_reads(fields(), fields(), room) + check_reads(lines(), lines(), room)
 }
 
 #[test]
-fn a_read_gives_the_numbers_of_the_next_items() {
-    let wanted = std::env::var("TORKETTLE_FIELDS")
-        .map_or(FIELDS, |fields| fields.parse().expect("TORKETTLE_FIELDS is not a number"));
+fn items_are_those_of_std_and_a_read_gives_their_numbers() {
+    for text in COLUMNS {
+        for ending in [",", "\n", "\r\n"] {
+            let text = text.replace(',', ending);
+            check_column::<i8>(text.as_bytes(), ending.as_bytes()[ending.len() - 1], 7);
+        }
+    }
     let (mut random, mut fields) = (Random::new(90), 0);
-    while fields < wanted {
+    while fields < FIELDS {
         let separator = random.pick(b",,\n\n;\xFF\0:/ \r");
         let text = column(&mut random, separator);
         macro_rules! check {
@@ -327,17 +232,10 @@ fn each_length() -> impl Iterator<Item = usize> {
     std::iter::successors(Some(usize::MAX), |number| (*number >= 10).then_some(number / 10))
 }
 
-// An error ignores the width, the fill and the rest of the format, with which `std` pads or cuts the same text.
+// An error ignores the width, the fill and the rest of the format.
 fn check_message(error: impl std::fmt::Display, message: &str) {
-    macro_rules! ignores {
-        ($($options:literal)*) => {$(
-            assert_eq!(format!(concat!("{:", $options, "}|"), error), format!("{message}|"));
-            assert_ne!(format!(concat!("{:", $options, "}|"), message), format!("{message}|"));
-        )*};
-    }
     assert_eq!(error.to_string(), message);
-    assert_eq!(format!("{error:3}"), message);
-    ignores!("150" "<150" "*>150" "é^150" ".5" "é^150.5" "+#0150");
+    assert_eq!(format!("{error:é^150.5}"), message);
 }
 
 #[test]
