@@ -7,10 +7,10 @@ mod sum;
 #[allow(dead_code)]
 mod threads;
 
-use std::collections::VecDeque;
 use std::io::{self, Cursor, ErrorKind, Read};
 use std::panic::{AssertUnwindSafe, catch_unwind};
 use torkettle::column::{Fields, LineError, LineReader};
+use torkettle_common::random::Random;
 
 // Line ends of every kind, lines that are empty, longer than most pieces or no number, and a last line
 // without a line feed.
@@ -31,23 +31,13 @@ const TEXTS: [&[u8]; 14] = [
     b"1\n22\n333\n4444\n55555\n666666\n7777777\n88888888\n999999999\n-1000000000\nx\n",
 ];
 
-// A linear congruential generator.
-struct Drawn(u64);
-
-impl Drawn {
-    fn below(&mut self, limit: usize) -> usize {
-        self.0 = self.0.wrapping_mul(6_364_136_223_846_793_005).wrapping_add(1);
-        (self.0 >> 33) as usize % limit
-    }
-}
-
 fn each_text(mut check: impl FnMut(&[u8])) {
     TEXTS.into_iter().for_each(&mut check);
-    let mut drawn = Drawn(1);
+    let mut random = Random::new(1);
     for _ in 0..80 {
-        let length = drawn.below(120);
+        let length = random.below(120);
         let text: Vec<u8> =
-            (0..length).map(|_| b"0123456789012345\n\n\n\r-+x"[drawn.below(23)]).collect();
+            (0..length).map(|_| random.pick(b"0123456789012345\n\n\n\r-+x")).collect();
         check(&text);
     }
 }
@@ -56,17 +46,17 @@ fn each_text(mut check: impl FnMut(&[u8])) {
 struct Slow<'a> {
     text: &'a [u8],
     most: usize,
-    drawn: Drawn,
+    random: Random,
     errors: &'a [ErrorKind],
 }
 
 impl Read for Slow<'_> {
     fn read(&mut self, room: &mut [u8]) -> io::Result<usize> {
-        let error = self.drawn.below(2 + 2 * self.errors.len());
+        let error = self.random.below(2 + 2 * self.errors.len());
         if let Some(kind) = self.errors.get(error) {
             return Err((*kind).into());
         }
-        let count = (1 + self.drawn.below(self.most)).min(self.text.len()).min(room.len());
+        let count = (1 + self.random.below(self.most)).min(self.text.len()).min(room.len());
         let (given, rest) = self.text.split_at(count);
         room[..count].copy_from_slice(given);
         self.text = rest;
@@ -75,7 +65,7 @@ impl Read for Slow<'_> {
 }
 
 fn slow<'a>(text: &'a [u8], most: usize, errors: &'a [ErrorKind]) -> Slow<'a> {
-    Slow { text, most, drawn: Drawn(most as u64), errors }
+    Slow { text, most, random: Random::new(most as u64), errors }
 }
 
 // Calls again after each error, which must be one that the input may give.
@@ -249,56 +239,16 @@ fn positions_above_the_greatest_panic_with_a_sentence() {
 }
 
 #[test]
-fn long_lines_take_no_more_memory_and_time() {
-    // A line of 100 MB, of which each read gives one page.
-    let line = io::repeat(b'0').take(100 << 20);
-    let input = line.chain(&b"\n7"[..]);
-    let (words, position) = numbers(LineReader::new(io::BufReader::with_capacity(4096, input)));
-    assert_eq!(words, ["0 at 0 is too long", "7"]);
-    assert_eq!(position, (2, (100 << 20) + 2));
-    // The longest line that fits, and one byte more. A `\r` counts only if no line feed follows it.
-    for (length, expected) in [(1 << 20, "0"), ((1 << 20) + 1, "0 at 0 is too long")] {
-        for end in ["", "\n", "\r\n"] {
-            let input = io::repeat(b'0').take(length).chain(end.as_bytes());
-            assert_eq!(numbers(LineReader::new(input)).0, [expected], "{length} and {end:?}");
-        }
-    }
-    let input = io::repeat(b'0').take(1 << 20).chain(&b"\r"[..]);
-    assert_eq!(numbers(LineReader::new(input)).0, ["0 at 0 is too long"]);
-}
-
-#[test]
 fn a_read_that_fails_or_lies_is_reported() {
-    struct Liar;
-    impl Read for Liar {
+    struct Given(fn(&[u8]) -> io::Result<usize>);
+    impl Read for Given {
         fn read(&mut self, room: &mut [u8]) -> io::Result<usize> {
-            Ok(room.len() + 1)
+            self.0(room)
         }
     }
-    let error = LineReader::new(Liar).next_line().unwrap_err();
-    assert_eq!(error.kind(), ErrorKind::InvalidData);
-
-    struct Steps(VecDeque<io::Result<&'static [u8]>>);
-    impl Read for Steps {
-        fn read(&mut self, room: &mut [u8]) -> io::Result<usize> {
-            let given = self.0.pop_front().unwrap_or(Ok(b""))?;
-            room[..given.len()].copy_from_slice(given);
-            Ok(given.len())
-        }
-    }
-    let refused = || Err(ErrorKind::PermissionDenied.into());
-    let steps = [Ok(&b"1\n2"[..]), refused(), Ok(&b"3\n"[..]), refused(), Ok(&b"4"[..])];
-    let mut reader = LineReader::new(Steps(steps.into()));
-    let mut items = Vec::new();
-    for _ in 0..6 {
-        items.push(match reader.next_line() {
-            Ok(line) => line.map(|line| line.map(|line| line.text.to_vec()).expect("it is short")),
-            Err(error) => Some(error.kind().to_string().into_bytes()),
-        });
-    }
-    let line = |text: &[u8]| Some(text.to_vec());
-    let denied = line(b"permission denied");
-    assert_eq!(items, [line(b"1"), denied.clone(), line(b"23"), denied, line(b"4"), None]);
+    let kind = |read| LineReader::new(Given(read)).next_line().unwrap_err().kind();
+    assert_eq!(kind(|_| Err(ErrorKind::PermissionDenied.into())), ErrorKind::PermissionDenied);
+    assert_eq!(kind(|room| Ok(room.len() + 1)), ErrorKind::InvalidData);
 }
 
 fn printed(text: &[u8]) -> String {
