@@ -10,12 +10,6 @@ use atoi_simd::{
 use std::error::Error;
 use std::fmt::Debug;
 
-// Where `slice` starts in `text`, by its address. Returns `None` if it is not the rest of `text`.
-fn place(text: &[u8], slice: &[u8]) -> Option<usize> {
-    let place = slice.as_ptr().addr().checked_sub(text.as_ptr().addr())?;
-    (place + slice.len() == text.len()).then_some(place)
-}
-
 #[test]
 fn each_function_infers_its_type() {
     let port: u16 = parse::<_, false, false>(b"8080").unwrap();
@@ -43,24 +37,9 @@ fn generic_negative<T: ParseNeg>(text: &[u8]) -> Result<T, AtoiSimdError<'_>> {
 }
 
 #[test]
-fn every_type_is_parsed_to_its_ends() {
-    macro_rules! ends {
-        ($($integer:ty)*) => {$(
-            for end in [<$integer>::MIN, <$integer>::MAX] {
-                assert_eq!(generic(end.to_string().as_bytes()), Ok(end));
-            }
-            let text = format!("{}0", <$integer>::MAX);
-            assert!(generic::<$integer>(text.as_bytes()).is_err());
-        )*};
-    }
-    ends!(u8 i8 u16 i16 u32 i32 u64 i64 u128 i128 usize isize);
-    macro_rules! negative_ends {
-        ($($integer:ty)*) => {$(
-            let magnitude = <$integer>::MIN.unsigned_abs().to_string();
-            assert_eq!(generic_negative(magnitude.as_bytes()), Ok(<$integer>::MIN));
-        )*};
-    }
-    negative_ends!(i8 i16 i32 i64 i128 isize);
+fn generic_code_names_the_traits() {
+    assert_eq!(generic(b"255"), Ok(u8::MAX));
+    assert_eq!(generic_negative(b"128"), Ok(i8::MIN));
 }
 
 #[test]
@@ -72,28 +51,6 @@ fn functions_are_values() {
     assert_eq!(prefix(b"-5;"), Ok((-5, 2)));
     let values: Result<Vec<u8>, _> = [&b"1"[..], b"2", b"x"].into_iter().map(whole).collect();
     assert_eq!(values, Err(AtoiSimdError::Empty));
-}
-
-#[test]
-fn errors_borrow_the_callers_slice() {
-    let text = *b"-0000 12x 300 9999999999999999999999999";
-    let (twelve, three_hundred, long) = (&text[6..], &text[10..], &text[14..]);
-    let Err(AtoiSimdError::Invalid64(2, 1, slice)) = parse::<u8, false, false>(&twelve[1..]) else {
-        panic!("2x is read as another thing")
-    };
-    assert_eq!(place(&text, slice), Some(7));
-    let Err(AtoiSimdError::Overflow(slice)) = parse_prefix::<u8, true, false>(three_hundred) else {
-        panic!("300 fits in a u8")
-    };
-    assert_eq!(place(&text, slice), Some(10));
-    let Err(AtoiSimdError::Size(24, slice)) = parse_prefix::<u64, false, false>(long) else {
-        panic!("25 digits are not too many")
-    };
-    assert_eq!(place(&text, slice), Some(14));
-    let Err(AtoiSimdError::Invalid128(0, 4, slice)) = parse::<i128, true, false>(&text) else {
-        panic!("-0000 and a space is a number")
-    };
-    assert_eq!(place(&text, slice), Some(1), "the slice starts after the sign");
 }
 
 fn boxed(text: &'static [u8]) -> Result<u32, Box<dyn Error + Send + Sync>> {
