@@ -1,20 +1,10 @@
 //! Compares the results of generated calls with the rules of `docs/SPECIFICATION.md`, which `tools/common`
-//! states digit by digit, and with `str::parse`. With the feature `lanes`, the calls are those of
-//! `lanes`.
+//! states digit by digit, and with `str::parse`.
 //!
 //! `TORKETTLE_TEXTS` sets how many texts are generated. Every call, type and choice of flags is asked
 //! about each of them.
 
-#[path = "../../tools/compare/exports/ask.rs"]
-mod ask;
-
-mod calls {
-    #[cfg(feature = "lanes")]
-    pub use torkettle::lanes::*;
-    #[cfg(not(feature = "lanes"))]
-    pub use torkettle::*;
-}
-
+use crate::ask::ask;
 use torkettle_common::question::Question;
 use torkettle_common::random::Random;
 use torkettle_common::{rules, standard, texts};
@@ -24,8 +14,7 @@ const TEXTS: usize = 25_000;
 
 #[test]
 fn results_are_those_of_the_rules() {
-    let texts = std::env::var("TORKETTLE_TEXTS")
-        .map_or(TEXTS, |texts| texts.parse().expect("TORKETTLE_TEXTS is not a number of texts"));
+    let texts = texts::wanted(TEXTS);
     let questions = Question::all();
     let mut random = Random::new(55);
     let mut signed = Vec::new();
@@ -43,7 +32,7 @@ fn results_are_those_of_the_rules() {
 
 fn check(question: &Question, signed: &[u8]) {
     let text = &signed[1..];
-    let found = ask::ask(question, text);
+    let found = ask(question, text);
     let shown = text.escape_ascii();
     assert_eq!(found, rules::answer(question, text), "{question} of \"{shown}\"");
     let agrees = standard::agrees(question, &found, text, signed);

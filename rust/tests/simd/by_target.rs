@@ -1,6 +1,9 @@
 //! The vectors as this target computes with them.
 
-use crate::simd::prelude;
+#[path = "../../src/simd/mod.rs"]
+mod simd;
+
+use simd::prelude;
 
 #[path = "checks.rs"]
 mod checks;

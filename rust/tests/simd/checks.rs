@@ -1,7 +1,7 @@
 //! What each operation is to return, for the vectors of `super::prelude`.
 
 use super::prelude::*;
-use crate::inputs::{for_bytes, for_u16s, for_u64s};
+use crate::simd::inputs::{for_bytes, for_u16s, for_u64s};
 use std::array::from_fn;
 
 fn vectors(v: [u8; 16], w: [u8; 16]) -> (u8x16, u8x16) {
