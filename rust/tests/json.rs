@@ -1,16 +1,10 @@
 //! Compares `formats::json_integer` with JSON's grammar, written as a state machine, and with the value
 //! that `str::parse` gives to what the grammar accepts.
-//!
-//! `TORKETTLE_TEXTS` sets how many texts are generated. Each of the twelve types is asked about each.
 
 use std::fmt::Debug;
 use std::str::FromStr;
 use torkettle::Parse;
 use torkettle::formats::json_integer;
-use torkettle_common::random::Random;
-use torkettle_common::texts;
-
-const TEXTS: usize = 25_000;
 
 // Every number of an edge is read with each of these before it, and each of the others after it.
 const STARTS: [&str; 11] = ["", "-", "+", "--", "-+", "0", "00", "-0", "-00", " ", "- "];
@@ -112,32 +106,4 @@ fn every_byte_after_a_number_is_judged() {
             check_each_type(&[&[byte], number.as_bytes()].concat());
         }
     }
-}
-
-// Half of the texts begin as a number of JSON may, and end as it may.
-fn push_text(random: &mut Random, text: &mut Vec<u8>) {
-    texts::push_text(random, text);
-    if random.one_in(2) {
-        let front = text.iter().take_while(|byte| b"+-0".contains(byte)).count();
-        let start = random.pick(&["", "", "-", "-", "0", "-0"]);
-        text.splice(..front, start.bytes());
-        let digits = text.iter().rposition(u8::is_ascii_digit).map_or(0, |last| last + 1);
-        text.truncate(digits);
-        text.extend_from_slice(random.pick(&ENDS).as_bytes());
-    }
-}
-
-#[test]
-fn generated_texts_are_read_as_the_grammar_says() {
-    let texts = texts::wanted(TEXTS);
-    let mut random = Random::new(76);
-    let mut text = Vec::new();
-    let mut accepted = 0;
-    for _ in 0..texts {
-        text.clear();
-        push_text(&mut random, &mut text);
-        accepted += check_each_type(&text);
-    }
-    println!("{accepted} of {} results are numbers", 12 * texts);
-    assert!(accepted > texts, "only {accepted} numbers");
 }
