@@ -23,9 +23,7 @@ mod simd;
 #[path = "../../tools/compare/exports/ask.rs"]
 mod ask;
 
-mod calls {
-    #[cfg(feature = "lanes")]
-    pub use torkettle::lanes::*;
-    #[cfg(not(feature = "lanes"))]
-    pub use torkettle::*;
-}
+#[cfg(not(feature = "lanes"))]
+use torkettle as calls;
+#[cfg(feature = "lanes")]
+use torkettle::lanes as calls;

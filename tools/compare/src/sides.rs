@@ -17,13 +17,6 @@ use torkettle_common::question::Question;
 /// What the kit compiles.
 pub const KIT: &str = "the kit's build";
 
-// The module with the error, which it shares with words.
-const LANES: &str = "mod calls {
-    pub use torkettle::AtoiSimdError;
-    pub use torkettle::lanes::*;
-}
-";
-
 // The order of the arguments is: whether it is a call of `lanes`, the numbers of the call and of
 // the type, both flags, the address and the length of the text, and the answer.
 type Export = unsafe extern "C" fn(bool, u32, u32, bool, bool, *const u8, usize, *mut RawAnswer);
@@ -65,7 +58,7 @@ pub fn open(cpu: &str, is_debug: bool, original: Option<PathBuf>) -> Result<Side
         Err(fault) => print_left_out(KIT, &fault),
     }
     let build = if is_debug { "the package, debug" } else { "the package, release" };
-    let heads = ["use torkettle as calls;\n", LANES];
+    let heads = ["use torkettle as calls;\n", "use torkettle::lanes as calls;\n"];
     for ((form, head), features) in Form::BOTH.into_iter().zip(heads).zip([&[][..], &["lanes"]]) {
         let package = dependency("torkettle", "torkettle", repository(), features);
         let answers = answers("package", package, head, format!("-C target-cpu={cpu}"), is_debug)?;
