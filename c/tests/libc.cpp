@@ -1,5 +1,5 @@
-// Compares what c/README.md has in place of functions of libc and of std::stoi with these, for texts of few characters,
-// for numbers at the bounds and for random texts: the number, the end, and errno.
+// Compares what c/README.md has in place of functions of libc and of std::stoi with these, for texts of few characters
+// and for random texts, many of them near the bounds: the number, the end, and errno.
 #define main run_samples
 #include "samples.c"
 #undef main
@@ -89,20 +89,13 @@ static void check_text(const std::string &text)
 
 int main()
 {
-    const std::string characters = "0129-+ \tx,";
+    const std::string characters = "09-+ \t\n\v\f\rx,";
     for (std::size_t number = 0; number < 100000; number++) {
         std::string text;
         for (std::size_t rest = number; rest > 0; rest /= characters.size())
             text += characters[rest % characters.size()];
         check_text(text);
     }
-    for (const char *digits : {"2147483647", "2147483648", "2147483649", "4294967295", "9223372036854775807",
-                               "9223372036854775808", "9223372036854775809", "18446744073709551615",
-                               "18446744073709551616", "99999999999999999999999999999999999999999"})
-        for (const char *before :
-             {"", "-", "+", " \n-", "\v\f\r", "000000000000000000000000", "-00000000000000000000000"})
-            for (const char *after : {"", " ", "x", "-1"})
-                check_text(std::string(before) + digits + after);
     Random random(1);
     for (unsigned number = 0; number < 300000; number++)
         check_text(random_text(random).c_str());
