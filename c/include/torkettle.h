@@ -1397,7 +1397,12 @@ TK_INLINE tk_option_pair_i64_size tk_prefix_of_two_words_i64(bool minus, uint64_
     uint64_t next = tk_load_full(tk_bytes_from(s, 8));
     uint32_t more = tk_leading_digits(next);
     if (more == 8) {
-        return tk_prefix_of_three_words_i64(minus, high, next, s);
+        tk_option_pair_i64_size found_found = tk_prefix_of_three_words_i64(minus, high, next, s);
+        if (!found_found.is_some) {
+            return tk_none_pair_i64_size();
+        }
+        tk_pair_i64_size found = found_found.value;
+        return tk_some_pair_i64_size(found);
     }
     uint64_t low = tk_value_by_product(next - TK_ZEROS, more);
     uint64_t magnitude = high * tk_power_of_ten(more) + low;
@@ -1456,7 +1461,12 @@ TK_INLINE tk_option_pair_u64_size tk_prefix_of_two_words_u64(bool minus, uint64_
     uint64_t next = tk_load_full(tk_bytes_from(s, 8));
     uint32_t more = tk_leading_digits(next);
     if (more == 8) {
-        return tk_prefix_of_three_words_u64(minus, high, next, s);
+        tk_option_pair_u64_size found_found = tk_prefix_of_three_words_u64(minus, high, next, s);
+        if (!found_found.is_some) {
+            return tk_none_pair_u64_size();
+        }
+        tk_pair_u64_size found = found_found.value;
+        return tk_some_pair_u64_size(found);
     }
     uint64_t low = tk_value_by_product(next - TK_ZEROS, more);
     uint64_t magnitude = high * tk_power_of_ten(more) + low;

@@ -96,11 +96,11 @@ fn prefix_of_two_words<T: Number>(minus: bool, high: u64, s: &[u8]) -> Option<(T
     let next = load_full(&s[8..]);
     let more = leading_digits(next);
     if more == 8 {
-        return if T::BITS == 64 {
-            prefix_of_three_words(minus, high, next, s)
-        } else {
-            None
-        };
+        if T::BITS != 64 {
+            return None;
+        }
+        let found = prefix_of_three_words(minus, high, next, s)?;
+        return Some(found);
     }
     let low = value_by_product(next.wrapping_sub(ZEROS), more);
     let magnitude = high * power_of_ten(more) + low;
