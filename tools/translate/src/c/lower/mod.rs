@@ -159,10 +159,14 @@ impl<'w, 'i> Lowering<'w, 'i> {
         if let ("==" | "!=", Some(one), Some(other)) = (operator, left.number(), right.number()) {
             return self.boolean((one == other) == (operator == "=="));
         }
-        match (operator, &left.kind, &right.kind) {
-            ("&&", Kind::Boolean(true), _) | ("||", Kind::Boolean(false), _) => return right,
-            ("&&", Kind::Boolean(false), _) | ("||", Kind::Boolean(true), _) => return left,
-            ("&&" | "||", _, Kind::Boolean(_)) if !left.has_effect() => return right,
+        // One constant decides what `&&` or `||` is, and the other leaves it as it is.
+        let decides = |it: &Term| it.kind == Kind::Boolean(operator == "||");
+        let is_neutral = |it: &Term| it.kind == Kind::Boolean(operator == "&&");
+        match operator {
+            "&&" | "||" if decides(&left) || is_neutral(&right) => return left,
+            "&&" | "||" if is_neutral(&left) || decides(&right) && !left.has_effect() => {
+                return right;
+            }
             _ => {}
         }
         self.make(Kind::Binary(operator), vec![left, right], Type::Boolean)
