@@ -7,13 +7,18 @@ use super::world::{Variant, World};
 use crate::source::Fault;
 use std::path::Path;
 
-/// The struct of C for a type: its members behind the one that says of which variant a value is, and for each variant
-/// the members of its fields. Fields without bytes have none.
-struct Layout {
-    variants: Vec<Variant>,
-    members: Vec<(String, Type)>,
-    places: Vec<Vec<Option<usize>>>,
+/// How C has the values of a variant.
+struct Shape {
+    /// The member that says of which variant a value is, and what it says, if there are others.
+    tag: Option<(String, String)>,
+    /// The function that makes one.
+    maker: String,
+    /// What holds each field. Nothing does if it has no bytes.
+    fields: Vec<Option<Member>>,
 }
+
+/// The name of a member of a struct, and its type.
+type Member = (String, Type);
 
 // The names of the fields of tuples.
 const ORDINALS: [&str; 2] = ["first", "second"];
@@ -85,15 +90,15 @@ impl Printer<'_> {
     }
 
     fn definition(&mut self, of: &Type, name: &str) -> Done<String> {
-        let layout = self.layout(of)?;
+        let shapes = self.shapes(of)?;
+        let members = self.members(&shapes)?;
         let (mut lines, mut before) = (String::new(), String::new());
         if let Type::Of(Form::Item(id), _) = of {
             before = explained(self.world, *id);
         }
-        let all = 0..layout.variants.len();
-        let tags: Vec<_> = all.clone().filter_map(|it| self.tag(of, &layout, it)).collect();
+        let tags: Vec<_> = shapes.iter().filter_map(|it| it.tag.as_ref()).collect();
         match tags.first() {
-            Some(("tag", _)) => {
+            Some((member, _)) if member == "tag" => {
                 let tags: Vec<String> = tags.iter().map(|(_, tag)| format!("    {tag}")).collect();
                 let (tags, name) = (tags.join(",\n"), format!("{name}_tag"));
                 before += &format!("typedef enum {name} {{\n{tags}\n}} {name};\n\n");
@@ -102,79 +107,84 @@ impl Printer<'_> {
             Some((member, _)) => lines += &format!("    bool {member};\n"),
             None => {}
         }
-        for (name, of) in &layout.members {
+        for (name, of) in &members {
             lines += &format!("    {};\n", declared(&self.name(of)?, name));
         }
         let mut text = format!("{before}typedef struct {name} {{\n{lines}}} {name};\n");
-        for variant in all {
-            text += &self.maker_text(of, name, &layout, variant)?;
+        for shape in &shapes {
+            text += &self.maker(name, shape, &members)?;
         }
         Ok(text)
     }
 
-    // Fields of different variants share a member if they have one type.
-    fn layout(&self, of: &Type) -> Done<Layout> {
+    // Returns how C has the values of each variant of a type.
+    fn shapes(&self, of: &Type) -> Done<Vec<Shape>> {
         let variants = self.world.variants(of)?;
-        let (mut members, mut places) = (Vec::<(String, Type)>::new(), Vec::new());
-        for variant in &variants {
-            let mut own: Vec<Option<usize>> = Vec::new();
-            for (name, of) in &variant.fields {
-                if self.world.is_zero(of) {
-                    own.push(None);
-                    continue;
+        let kind = short(self.world, of);
+        let shape = |(number, variant): (usize, &Variant)| {
+            let name = text::snake(&variant.name);
+            let (tag, maker) = match of {
+                Type::Of(Form::Option | Form::Result, _) => {
+                    let tag = (format!("is_{}", variants[0].name), (number == 0).to_string());
+                    (Some(tag), format!("tk_{name}_{}", kind.split_once('_').map_or("", |it| it.1)))
                 }
-                let number = name.parse::<usize>().ok();
-                let name = match number {
-                    Some(number) if variants.len() == 1 => {
-                        ORDINALS.get(number).ok_or_else(|| self.unknown(of))?.to_string()
-                    }
-                    Some(_) => short(self.world, of),
-                    None => text::local(name),
-                };
-                let fits = |at: usize| {
-                    let (other, other_of) = &members[at];
-                    let is_same = number.is_some() || *other == name;
-                    is_same && other_of == of && !own.contains(&Some(at))
-                };
-                let place = (0..members.len()).find(|at| fits(*at)).unwrap_or_else(|| {
-                    let count = members.iter().filter(|it| it.0.starts_with(&name)).count();
-                    let is_new = count == 0 || variants.len() == 1;
-                    let name = if is_new { name } else { format!("{name}_{}", count + 1) };
-                    members.push((name, of.clone()));
-                    members.len() - 1
-                });
-                own.push(Some(place));
-            }
-            places.push(own);
+                _ if variants.len() > 1 => {
+                    let tag = ("tag".to_string(), format!("TK_{kind}_{name}").to_uppercase());
+                    (Some(tag), format!("tk_{kind}_{name}"))
+                }
+                of if of.is_slice() => (None, format!("tk_{kind}_{name}")),
+                _ => (None, format!("tk_{name}_{kind}")),
+            };
+            let fields = (0..variant.fields.len())
+                .map(|at| self.member(&variant.fields, at, variants.len() == 1));
+            Ok(Shape { tag, maker, fields: fields.collect::<Done<_>>()? })
+        };
+        variants.iter().enumerate().map(shape).collect()
+    }
+
+    // Returns the name and the type of a field in C. What has no name is called by its type, or by its place in the
+    // only variant.
+    fn member(&self, fields: &[(String, Type)], at: usize, is_only: bool) -> Done<Option<Member>> {
+        let (name, of) = &fields[at];
+        if self.world.is_zero(of) {
+            return Ok(None);
         }
-        Ok(Layout { variants, members, places })
+        let same = fields[..at].iter().filter(|it| it.1 == *of).count();
+        let name = match name.parse::<usize>() {
+            Err(_) => text::local(name),
+            Ok(_) if is_only => ORDINALS.get(at).ok_or_else(|| self.unknown(of))?.to_string(),
+            Ok(_) if same == 0 => short(self.world, of),
+            Ok(_) => format!("{}_{}", short(self.world, of), same + 1),
+        };
+        Ok(Some((name, of.clone())))
+    }
+
+    // Returns the members for the fields of all variants, which share those of one name.
+    fn members(&self, shapes: &[Shape]) -> Done<Vec<Member>> {
+        let mut members: Vec<Member> = Vec::new();
+        for (name, of) in shapes.iter().flat_map(|it| it.fields.iter().flatten()) {
+            match members.iter().find(|it| it.0 == *name) {
+                None => members.push((name.clone(), of.clone())),
+                Some((_, other)) if other == of => {}
+                Some(_) => return Err(self.unknown(of)),
+            }
+        }
+        Ok(members)
+    }
+
+    fn shape(&self, of: &Type, variant: usize) -> Done<Shape> {
+        self.shapes(of)?.into_iter().nth(variant).ok_or_else(|| self.unknown(of))
     }
 
     /// Returns the name of a field of a value of a variant.
     pub fn field(&self, of: &Type, variant: usize, field: usize) -> Done<String> {
-        let layout = self.layout(of)?;
-        let place = layout.places.get(variant).and_then(|places| *places.get(field)?);
-        place.map(|it| layout.members[it].0.clone()).ok_or_else(|| self.unknown(of))
-    }
-
-    // Returns the member that says of which variant a value is, and what it says.
-    fn tag(&self, of: &Type, layout: &Layout, variant: usize) -> Option<(&'static str, String)> {
-        let is_first = (variant != NONE).to_string();
-        match of {
-            Type::Of(Form::Option, _) => Some(("is_some", is_first)),
-            Type::Of(Form::Result, _) => Some(("is_ok", is_first)),
-            _ if layout.variants.len() < 2 => None,
-            _ => {
-                let name = text::snake(&layout.variants[variant].name);
-                Some(("tag", format!("TK_{}_{name}", short(self.world, of)).to_uppercase()))
-            }
-        }
+        let found = self.shape(of, variant)?.fields.into_iter().nth(field).flatten();
+        found.map(|(name, _)| name).ok_or_else(|| self.unknown(of))
     }
 
     /// Returns the test whether a value is of a variant.
     pub fn test(&self, of: &Type, variant: usize, value: &str) -> Done<Text> {
-        let tag = self.tag(of, &self.layout(of)?, variant);
-        let (member, tag) = tag.ok_or_else(|| self.unknown(of))?;
+        let (member, tag) = self.shape(of, variant)?.tag.ok_or_else(|| self.unknown(of))?;
         Ok(match tag.as_str() {
             "true" => Text::atom(format!("{value}.{member}")),
             "false" => Text::new(format!("!{value}.{member}"), UNARY),
@@ -184,45 +194,27 @@ impl Printer<'_> {
 
     /// Returns a value of a variant, by its function.
     pub fn made(&self, of: &Type, variant: usize, fields: &[String]) -> Done<String> {
-        let maker = self.maker(of, &self.layout(of)?, variant);
-        Ok(format!("{maker}({})", fields.join(", ")))
+        Ok(format!("{}({})", self.shape(of, variant)?.maker, fields.join(", ")))
     }
 
-    // Returns the function that makes values of a variant.
-    fn maker(&self, of: &Type, layout: &Layout, variant: usize) -> String {
-        let (kind, name) = (short(self.world, of), text::snake(&layout.variants[variant].name));
-        match self.tag(of, layout, variant) {
-            Some(("tag", _)) => format!("tk_{kind}_{name}"),
-            Some(_) => format!("tk_{name}_{}", kind.split_once('_').map_or("", |it| it.1)),
-            None if of.is_slice() => format!("tk_{kind}_{name}"),
-            None => format!("tk_{name}_{kind}"),
-        }
-    }
-
-    // Returns the text of that function. It sets all members.
-    fn maker_text(
-        &mut self,
-        of: &Type,
-        name: &str,
-        layout: &Layout,
-        variant: usize,
-    ) -> Done<String> {
-        let places = &layout.places[variant];
+    // Returns the text of the function that makes values of a variant. It sets all members.
+    fn maker(&mut self, name: &str, shape: &Shape, members: &[Member]) -> Done<String> {
+        let own: Vec<&Member> = shape.fields.iter().flatten().collect();
         let mut parameters = Vec::new();
-        for place in places.iter().flatten() {
-            let (member, of) = &layout.members[*place];
+        for (member, of) in &own {
             parameters.push(declared(&self.name(of)?, member));
         }
-        let tag = self.tag(of, layout, variant);
-        let mut values: Vec<String> = tag.into_iter().map(|(_, value)| value).collect();
-        for (place, (member, of)) in layout.members.iter().enumerate() {
-            let is_set = places.contains(&Some(place));
-            values.push(if is_set { member.clone() } else { self.zero(of)? });
+        let mut values: Vec<String> = shape.tag.iter().map(|it| it.1.clone()).collect();
+        for member in members {
+            values.push(if own.contains(&member) {
+                member.0.clone()
+            } else {
+                self.zero(&member.1)?
+            });
         }
         let parameters = if parameters.is_empty() { "void".into() } else { parameters.join(", ") };
-        let (maker, values) = (self.maker(of, layout, variant), values.join(", "));
-        let head = text::wrapped(&format!("TK_CONSTEXPR {name} {maker}({parameters})"));
-        let line = text::wrapped(&format!("    return TK_MAKE({name}, {values});"));
+        let head = text::wrapped(&format!("TK_CONSTEXPR {name} {}({parameters})", shape.maker));
+        let line = text::wrapped(&format!("    return TK_MAKE({name}, {});", values.join(", ")));
         Ok(format!("\n{head}\n{{\n{line}\n}}\n"))
     }
 
@@ -234,11 +226,10 @@ impl Printer<'_> {
             Type::Boolean => "false".into(),
             Type::Of(Form::Array { .. } | Form::Pointer, _) => "NULL".into(),
             _ => {
-                let layout = self.layout(of)?;
                 let variant = if let Type::Of(Form::Option, _) = of { NONE } else { 0 };
-                let places = layout.places[variant].iter().flatten();
-                let values = places.map(|it| self.zero(&layout.members[*it].1));
-                self.made(of, variant, &values.collect::<Done<Vec<String>>>()?)?
+                let shape = self.shape(of, variant)?;
+                let values = shape.fields.iter().flatten().map(|it| self.zero(&it.1));
+                format!("{}({})", shape.maker, values.collect::<Done<Vec<_>>>()?.join(", "))
             }
         })
     }
