@@ -48,8 +48,8 @@ impl Lowering<'_, '_> {
     fn ok(&mut self, result: Term) -> Done<Term> {
         let name = self.hint.take().map_or("found".into(), |hint| format!("{hint}_found"));
         let found = self.keep(result, &name);
-        let (mut tests, mut values) = self.parts(&found, OK)?;
-        Ok(self.maybe(tests.remove(0), values.remove(0)))
+        let (test, mut values) = self.parts(&found, OK)?;
+        Ok(self.maybe(test, values.remove(0)))
     }
 
     // `Some` of a value if a condition holds.
@@ -156,7 +156,7 @@ impl Lowering<'_, '_> {
             it.destructure(parameter, element, None)?;
             it.advance(at);
             let test = it.term(body, &Type::Boolean)?;
-            it.push_if(test.negated(), vec![otherwise], Vec::new());
+            it.push_if(test.negated(), vec![otherwise]);
             it.advance(count.clone());
             Ok(())
         })?;

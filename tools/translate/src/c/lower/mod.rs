@@ -139,6 +139,10 @@ impl<'w, 'i> Lowering<'w, 'i> {
         Err(self.source.fault(self.at, format!("C: {reason}")))
     }
 
+    fn require(&self, condition: bool, reason: &str) -> Done<()> {
+        if condition { Ok(()) } else { self.refuse(reason) }
+    }
+
     // Ends this attempt, as the type of a parameter matters.
     fn need<T>(&mut self, name: &str) -> Done<T> {
         self.needed = Some(name.to_string());
@@ -190,12 +194,6 @@ impl<'w, 'i> Lowering<'w, 'i> {
 
     fn unit(&self) -> Term {
         self.make(Kind::Make(PLAIN), Vec::new(), Type::UNIT)
-    }
-
-    // Joins conditions by an operator. None are always fulfilled.
-    fn joined(&self, tests: Vec<Term>, operator: &'static str) -> Term {
-        let joined = tests.into_iter().reduce(|left, right| self.test(operator, left, right));
-        joined.unwrap_or_else(|| self.boolean(true))
     }
 
     // Makes a variable, and lets its name stand for it.

@@ -9,19 +9,28 @@ use std::cmp::Ordering;
 /// A name of a pattern, whether it may be changed, and the part that it stands for.
 pub type Binding = (String, bool, Term);
 
-/// What must hold if a value fits a pattern, in order, and what is bound then.
-#[derive(Default)]
+/// Whether a value fits a pattern, and what is bound then.
 pub struct Fit {
-    pub tests: Vec<Term>,
+    pub test: Term,
     pub bindings: Vec<Binding>,
 }
 
 impl Lowering<'_, '_> {
     /// Returns when a value fits a pattern.
     pub fn matched(&mut self, pattern: &Node, value: &Term) -> Done<Fit> {
-        let mut fit = Fit::default();
+        let mut fit = self.always();
         self.fit(pattern, value, &mut fit)?;
         Ok(fit)
+    }
+
+    /// Returns what everything fits.
+    pub fn always(&self) -> Fit {
+        Fit { test: self.boolean(true), bindings: Vec::new() }
+    }
+
+    // Adds a condition.
+    fn also(&self, test: Term, fit: &mut Fit) {
+        fit.test = self.test("&&", fit.test.clone(), test);
     }
 
     fn fit(&mut self, pattern: &Node, value: &Term, fit: &mut Fit) -> Done<()> {
@@ -34,15 +43,15 @@ impl Lowering<'_, '_> {
                 let is_mutable = pattern.has("mutable");
                 fit.bindings.push((pattern.name().into(), is_mutable, value.clone()));
             }
-            ("boolean", _) if pattern.text == "true" => fit.tests.push(value.clone()),
-            ("boolean", _) => fit.tests.push(value.clone().negated()),
+            ("boolean", _) if pattern.text == "true" => self.also(value.clone(), fit),
+            ("boolean", _) => self.also(value.clone().negated(), fit),
             ("range", [low, high]) => {
                 let (low, high) = (self.like(low, value)?, self.like(high, value)?);
                 // No number is below the first 0, and compilers warn of such a test.
                 if low.number() != Some(0) {
-                    fit.tests.push(self.test("<=", low, value.clone()));
+                    self.also(self.test("<=", low, value.clone()), fit);
                 }
-                fit.tests.push(self.test("<=", value.clone(), high));
+                self.also(self.test("<=", value.clone(), high), fit);
             }
             ("tuple", _) => {
                 let fields = self.parts(value, PLAIN)?;
@@ -55,19 +64,17 @@ impl Lowering<'_, '_> {
             ("path", _) => self.fit_variant(pattern, &[], value, fit)?,
             ("call", [path, fields @ ..]) => self.fit_variant(path, fields, value, fit)?,
             ("either", _) => {
-                let mut tests = Vec::new();
+                let mut test = self.boolean(false);
                 for pattern in parts {
                     let own = self.matched(pattern, value)?;
-                    if !own.bindings.is_empty() {
-                        return self.refuse("alternatives that bind names");
-                    }
-                    tests.push(self.joined(own.tests, "&&"));
+                    self.require(own.bindings.is_empty(), "alternatives that bind names")?;
+                    test = self.test("||", test, own.test);
                 }
-                fit.tests.push(self.joined(tests, "||"));
+                self.also(test, fit);
             }
             _ => {
                 let number = self.like(pattern, value)?;
-                fit.tests.push(self.test("==", value.clone(), number));
+                self.also(self.test("==", value.clone(), number), fit);
             }
         }
         Ok(())
@@ -98,26 +105,23 @@ impl Lowering<'_, '_> {
         Ok(term)
     }
 
-    // The same for parts of a value, behind tests.
+    // The same for parts of a value, behind a test.
     fn fit_all(
         &mut self,
         patterns: &[Node],
-        (tests, parts): (Vec<Term>, Vec<Term>),
+        (test, parts): (Term, Vec<Term>),
         fit: &mut Fit,
     ) -> Done<()> {
-        if patterns.len() != parts.len() {
-            return self.refuse("a pattern with another number of parts");
-        }
-        fit.tests.extend(tests);
+        self.require(patterns.len() == parts.len(), "a pattern with another number of parts")?;
+        self.also(test, fit);
         let mut pairs = patterns.iter().zip(&parts);
         pairs.try_for_each(|(pattern, part)| self.fit(pattern, part, fit))
     }
 
     // Returns whether a slice is as long as its patterns ask, and what each of them is for.
-    fn elements(&mut self, patterns: &[Node], slice: &Term) -> Done<(Vec<Term>, Vec<Term>)> {
-        if !self.known(&slice.of).is_slice() {
-            return self.refuse("a slice pattern for what is no slice");
-        }
+    fn elements(&mut self, patterns: &[Node], slice: &Term) -> Done<(Term, Vec<Term>)> {
+        let is_slice = self.known(&slice.of).is_slice();
+        self.require(is_slice, "a slice pattern for what is no slice")?;
         let count = patterns.len();
         let rest = patterns.iter().position(is_rest).unwrap_or(count);
         let (operator, fixed) = if rest < count { (">=", count - 1) } else { ("==", count) };
@@ -136,7 +140,7 @@ impl Lowering<'_, '_> {
                 Ordering::Equal => return self.refuse("a rest between elements"),
             });
         }
-        Ok((vec![test], parts))
+        Ok((test, parts))
     }
 
     /// Returns the variant that a path names: its type, and its number.
@@ -172,22 +176,24 @@ impl Lowering<'_, '_> {
         }
     }
 
-    /// Returns whether a value is of a variant, if it may be of another, and its fields then.
-    pub fn parts(&mut self, value: &Term, variant: usize) -> Done<(Vec<Term>, Vec<Term>)> {
+    /// Returns whether a value is of a variant, and its fields then.
+    pub fn parts(&mut self, value: &Term, variant: usize) -> Done<(Term, Vec<Term>)> {
         match (&value.kind, variant) {
             (Kind::Maybe, SOME) => {
-                return Ok((vec![value.parts[0].clone()], vec![value.parts[1].clone()]));
+                return Ok((value.parts[0].clone(), vec![value.parts[1].clone()]));
             }
-            (Kind::Maybe, _) => return Ok((vec![value.parts[0].clone().negated()], Vec::new())),
-            _ if value.is_tuple() => return Ok((Vec::new(), value.parts.clone())),
+            (Kind::Maybe, _) => return Ok((value.parts[0].clone().negated(), Vec::new())),
+            _ if value.is_tuple() => return Ok((self.boolean(true), value.parts.clone())),
             _ => {}
         }
         let fields = self.fields_of(&value.of, variant)?.into_iter().enumerate();
         let field = |(at, (_, of))| self.make(Kind::Field(variant, at), vec![value.clone()], of);
         let fields = fields.map(field).collect();
-        let test = self.make(Kind::Is(variant), vec![value.clone()], Type::Boolean);
-        let has_others = self.world.variants(&self.known(&value.of))?.len() > 1;
-        Ok((has_others.then_some(test).into_iter().collect(), fields))
+        let test = match self.world.variants(&self.known(&value.of))?.len() {
+            1 => self.boolean(true),
+            _ => self.make(Kind::Is(variant), vec![value.clone()], Type::Boolean),
+        };
+        Ok((test, fields))
     }
 
     /// Declares the variables of a pattern that every value fits, or all others go to a block that leaves.
@@ -198,31 +204,24 @@ impl Lowering<'_, '_> {
         otherwise: Option<&Node>,
     ) -> Done<()> {
         self.at = pattern.span;
-        match pattern.kind {
-            "binding" if inner(pattern).is_empty() => {
-                self.declare(pattern.name(), value, pattern.has("mutable"));
-                return Ok(());
-            }
-            "tuple" if value.is_tuple() && pattern.parts.len() == value.parts.len() => {
-                let mut pairs = pattern.parts.iter().zip(value.parts);
-                return pairs.try_for_each(|(it, part)| self.destructure(it, part, None));
-            }
-            _ => {}
+        if pattern.kind == "tuple" && value.is_tuple() && pattern.parts.len() == value.parts.len() {
+            let mut pairs = pattern.parts.iter().zip(value.parts);
+            return pairs.try_for_each(|(it, part)| self.destructure(it, part, None));
         }
-        let value = self.keep(value, "found");
-        let Fit { tests, bindings } = self.matched(pattern, &value)?;
+        let is_name = pattern.kind == "binding" && inner(pattern).is_empty();
+        let value = if is_name { value } else { self.keep(value, "found") };
+        let fit = self.matched(pattern, &value)?;
         match otherwise {
             Some(block) => {
                 let (leaving, _) = self.apart(|it| it.evaluate(block, Target::Nothing))?;
-                let test = self.joined(tests, "&&").negated();
-                self.push_if(test, leaving, Vec::new());
+                self.push_if(fit.test.negated(), leaving);
             }
-            None if !tests.is_empty() => {
-                return self.refuse("a pattern that not every value fits");
+            None => {
+                let fits = fit.test.kind == Kind::Boolean(true);
+                self.require(fits, "a pattern that not every value fits")?;
             }
-            None => {}
         }
-        self.bind_all(bindings, |_, _| false);
+        self.bind_all(fit.bindings, |_, _| false);
         Ok(())
     }
 

@@ -7,7 +7,7 @@ use crate::tree::Node;
 
 /// One way that an `if` or `match` goes on.
 struct Branch {
-    condition: Option<Term>,
+    test: Term,
     statements: Vec<Statement>,
     value: Term,
 }
@@ -150,34 +150,32 @@ impl Lowering<'_, '_> {
     }
 
     fn if_else(&mut self, parts: &[Node], target: Target) -> Done<Term> {
-        let (condition, then) = (&parts[0], &parts[1]);
-        let fit = match (condition.kind, condition.parts.as_slice()) {
+        let fit = match (parts[0].kind, parts[0].parts.as_slice()) {
             ("let", [pattern, value]) => self.fits(value, pattern)?,
-            _ => Fit { tests: vec![self.term(condition, &Type::Boolean)?], ..Fit::default() },
+            _ => Fit { test: self.term(&parts[0], &Type::Boolean)?, ..self.always() },
         };
-        let then = self.branch(fit, false, |it| it.evaluate(then, target))?;
-        let otherwise = self.branch(Fit::default(), false, |it| match parts.get(2) {
-            Some(otherwise) => it.evaluate(otherwise, target),
-            None if target == Target::Value => it.refuse("this form has no rule"),
-            None => Ok(it.unit()),
-        })?;
-        self.join(vec![then, otherwise], target)
+        let mut branches = vec![self.branch(fit, None, &parts[1], target)?];
+        if let Some(otherwise) = parts.get(2) {
+            branches.push(self.branch(self.always(), None, otherwise, target)?);
+        }
+        self.join(branches, target)
     }
 
     // Makes the branch for what fits a pattern. Names may stand for its parts in a value, unless something may change
     // these meanwhile.
     fn branch(
         &mut self,
-        Fit { tests, bindings }: Fit,
-        is_value: bool,
-        make: impl FnOnce(&mut Self) -> Done<Term>,
+        Fit { test, bindings }: Fit,
+        comments: Option<&Node>,
+        body: &Node,
+        target: Target,
     ) -> Done<Branch> {
-        let condition = (!tests.is_empty()).then(|| self.joined(tests, "&&"));
         let (statements, value) = self.apart(|it| {
-            it.bind_all(bindings, |it, part| is_value && it.is_constant(part));
-            make(it)
+            it.bind_all(bindings, |it, part| target == Target::Value && it.is_constant(part));
+            comments.into_iter().for_each(|comments| it.comment(comments));
+            it.evaluate(body, target)
         })?;
-        Ok(Branch { condition, statements, value })
+        Ok(Branch { test, statements, value })
     }
 
     /// Returns when a value fits a pattern.
@@ -190,56 +188,47 @@ impl Lowering<'_, '_> {
     fn match_arms(&mut self, value: &Node, arms: &[Node], target: Target) -> Done<Term> {
         let found = self.any(value)?;
         let found = self.keep(found, "found");
-        let mut branches: Vec<Branch> = Vec::new();
+        let mut branches = Vec::new();
         for (number, arm) in arms.iter().enumerate() {
-            let first = usize::from(arm.has("comments"));
-            let mut fit = self.matched(&arm.parts[first], &found)?;
+            let comments = arm.get("comments");
+            let mut fit = self.matched(&arm.parts[usize::from(comments.is_some())], &found)?;
             if let Some(guard) = arm.get("guard") {
-                fit.tests.push(self.alone("a guard", |it| {
+                let guard = self.alone("a guard", |it| {
                     it.bind_all(fit.bindings.clone(), |_, _| true);
                     it.term(guard.last(), &Type::Boolean)
-                })?);
+                })?;
+                fit.test = self.test("&&", fit.test, guard);
             } else if number + 1 == arms.len() {
                 // All values that are left fit.
-                fit.tests.clear();
+                fit.test = self.boolean(true);
             }
-            branches.push(self.branch(fit, target == Target::Value, |it| {
-                arm.all("comments").for_each(|comments| it.comment(comments));
-                it.evaluate(arm.last(), target)
-            })?);
-            if branches[number].condition.is_none() {
-                break;
-            }
+            branches.push(self.branch(fit, comments, arm.last(), target)?);
         }
         self.join(branches, target)
     }
 
     // Ends branches: puts them into the current statements, and returns a value if that is the target.
     fn join(&mut self, mut branches: Vec<Branch>, target: Target) -> Done<Term> {
-        let known = |branch: &Branch| branch.condition.as_ref().map(|it| it.kind.clone());
-        branches.retain(|it| known(it) != Some(Kind::Boolean(false)));
-        let always = branches.iter().position(|it| known(it) == Some(Kind::Boolean(true)));
-        if let Some(always) = always {
-            branches.truncate(always + 1);
-            branches[always].condition = None;
-        }
+        branches.retain(|it| it.test.kind != Kind::Boolean(false));
+        let always = branches.iter().position(|it| it.test.kind == Kind::Boolean(true));
+        branches.truncate(always.map_or(branches.len(), |always| always + 1));
         if target != Target::Value {
             self.push_branches(branches);
             return Ok(self.unit());
         }
+        self.require(always.is_some(), "this form has no rule")?;
         // An array may be a slice.
         let types: Vec<Type> = branches.iter().map(|it| self.known(&it.value.of)).collect();
         let of = types.iter().find(|of| of.is_slice()).unwrap_or(&types[0]).clone();
         for branch in &mut branches {
             branch.value = self.coerce(branch.value.clone(), &of)?;
         }
-        let is_short = branches.len() <= 3 && branches.iter().all(|it| it.statements.is_empty());
-        if is_short {
-            let Some(last) = branches.pop() else { return self.refuse("no value") };
-            return Ok(branches.into_iter().rev().fold(last.value, |other, branch| {
-                let test = branch.condition.unwrap_or_else(|| self.boolean(true));
-                self.make(Kind::Choice, vec![test, branch.value, other], of.clone())
-            }));
+        if branches.len() <= 3 && branches.iter().all(|it| it.statements.is_empty()) {
+            let values = branches.into_iter().rev().map(|it| (it.test, it.value));
+            let choice = values.reduce(|(always, other), (test, value)| {
+                (always, self.make(Kind::Choice, vec![test, value, other], of.clone()))
+            });
+            return choice.map_or_else(|| self.refuse("no value"), |(_, choice)| Ok(choice));
         }
         let local = self.variable("chosen", of.clone(), false);
         self.push(Statement::Declare { local, value: None });
@@ -253,29 +242,23 @@ impl Lowering<'_, '_> {
 
     // Puts branches into the current statements, as a chain of `if`.
     fn push_branches(&mut self, branches: Vec<Branch>) {
-        let mut otherwise = Vec::new();
-        for branch in branches.into_iter().rev() {
-            let Some(condition) = branch.condition else {
-                otherwise = branch.statements;
-                continue;
-            };
-            let before = std::mem::take(&mut self.statements);
-            self.push_if(condition, branch.statements, otherwise);
-            otherwise = std::mem::replace(&mut self.statements, before);
-        }
-        self.extend(otherwise);
+        let chain = branches.into_iter().rev().fold(Vec::new(), |otherwise, branch| {
+            let Branch { test: condition, statements: then, .. } = branch;
+            // What follows a branch that leaves needs no `else`.
+            match (&condition.kind, then.last()) {
+                (Kind::Boolean(true), _) => then,
+                (_, Some(last)) if last.leaves() => {
+                    let first = Statement::If { condition, then, otherwise: Vec::new() };
+                    [vec![first], otherwise].concat()
+                }
+                _ => vec![Statement::If { condition, then, otherwise }],
+            }
+        });
+        self.extend(chain);
     }
 
-    /// Puts an `if` into the current statements. What follows a branch that leaves needs no `else`.
-    pub fn push_if(
-        &mut self,
-        condition: Term,
-        then: Vec<Statement>,
-        mut otherwise: Vec<Statement>,
-    ) {
-        let leaves = then.last().is_some_and(Statement::leaves);
-        let after = if leaves { std::mem::take(&mut otherwise) } else { Vec::new() };
-        self.push(Statement::If { condition, then, otherwise });
-        self.extend(after);
+    /// Puts an `if` without `else` into the current statements.
+    pub fn push_if(&mut self, condition: Term, then: Vec<Statement>) {
+        self.push(Statement::If { condition, then, otherwise: Vec::new() });
     }
 }

@@ -20,10 +20,7 @@ impl Lowering<'_, '_> {
                 Ok(self.test(operator(sign), first, second))
             }
             ("try", [value]) => self.question(value),
-            ("matches", [value, pattern]) => {
-                let tests = self.fits(value, pattern)?.tests;
-                Ok(self.joined(tests, "&&"))
-            }
+            ("matches", [value, pattern]) => Ok(self.fits(value, pattern)?.test),
             _ => match self.literal(tree) {
                 Some(literal) => Ok(literal),
                 None => self.operation(tree),
@@ -284,9 +281,8 @@ impl Lowering<'_, '_> {
             }
             _ => return self.refuse("`?` of another type than the function has"),
         };
-        let (tests, mut values) = self.parts(&found, good)?;
-        let leaves = self.joined(tests, "&&").negated();
-        self.push_if(leaves, vec![Statement::Return(back)], Vec::new());
+        let (test, mut values) = self.parts(&found, good)?;
+        self.push_if(test.negated(), vec![Statement::Return(back)]);
         Ok(values.remove(0))
     }
 }
