@@ -1,120 +1,123 @@
 //! Paths and calls. Calls of laws, which return nothing and change nothing, vanish.
 
 use super::{Done, Lowering, signature};
-use crate::c::ir::{Bindings, Callee, Kind, Term, Type};
+use crate::c::ir::{Bindings, Callee, ERR, Form, Id, Kind, NONE, OK, PLAIN, SOME, Term, Type};
 use crate::c::world::integer;
 use crate::resolve::Definition;
 use crate::tree::Node;
 
+/// What a path names.
+pub enum Named<'p> {
+    // A variant of a type, by its number.
+    Variant(Type, usize),
+    // A member of a type.
+    Member(Type, &'p str),
+    Item(Id),
+    Unknown,
+}
+
 impl Lowering<'_, '_> {
+    /// Returns what a path names that is no variable.
+    pub fn named<'p>(&mut self, path: &'p Node) -> Done<Named<'p>> {
+        let (last, before) = (path.parts.len() - 1, &path.parts[..path.parts.len() - 1]);
+        let found = self.world.resolve(self.place.module, path);
+        let used = found.as_ref().map_or(0, |it| it.used);
+        let is_own = last == 1 && self.place.bindings.contains_key(before[0].name());
+        Ok(match found.map(|it| it.definition) {
+            _ if is_own => Named::Member(self.named_type(before)?, path.last().name()),
+            Some(Definition::Item(_)) if used == last && used > 0 => {
+                Named::Member(self.named_type(before)?, path.last().name())
+            }
+            Some(Definition::Item(id)) if used > last => Named::Item(id),
+            Some(Definition::Variant(id, variant)) if used > last => {
+                Named::Variant(Type::Of(Form::Item(id), Vec::new()), variant)
+            }
+            Some(Definition::Foreign(name)) if used > last => self.foreign(&name),
+            _ => Named::Unknown,
+        })
+    }
+
+    fn foreign(&mut self, name: &str) -> Named<'static> {
+        let (form, count, variant) = match name {
+            "None" => (Form::Option, 1, NONE),
+            "Some" => (Form::Option, 1, SOME),
+            "Ok" => (Form::Result, 2, OK),
+            "Err" => (Form::Result, 2, ERR),
+            "std::marker::PhantomData" => (Form::Tuple, 0, PLAIN),
+            _ => return Named::Unknown,
+        };
+        let parts = (0..count).map(|_| self.fresh(false)).collect();
+        Named::Variant(Type::Of(form, parts), variant)
+    }
+
     /// Evaluates a path: a variable, a constant or a variant without fields.
     pub fn path(&mut self, path: &Node) -> Done<Term> {
-        if let [only] = path.names()[..] {
-            let named = self.scopes.iter().rev().find_map(|scope| scope.get(only));
-            if let Some(value) = named {
-                return Ok(value.clone());
-            }
+        let names = path.names();
+        let variable = self.scopes.iter().rev().find_map(|scope| scope.get(names[0]));
+        if let (Some(value), 1) = (variable, names.len()) {
+            return Ok(value.clone());
         }
-        if let Some((of, variant)) = self.variant(path) {
-            return Ok(self.make(Kind::Make(variant), Vec::new(), of));
-        }
-        if let Some((value, of)) = limit(path) {
+        if let Some((value, of)) = limit(&names) {
             return Ok(self.number(value, of));
         }
-        if let Some((owner, name)) = self.owner(path)? {
-            return self.constant_of(&owner, name);
-        }
-        let id = self.definition(path).and_then(|it| it.item());
-        match id.filter(|id| self.world.item(*id).kind == "constant") {
-            Some(id) => {
-                let of = self.type_of_constant(&Callee { id, bindings: Bindings::new() })?;
+        match self.named(path)? {
+            Named::Variant(of, variant) => Ok(self.make(Kind::Make(variant), Vec::new(), of)),
+            Named::Member(owner, name) => self.constant_of(&owner, name),
+            Named::Item(id) if self.world.item(id).kind == "constant" => {
+                let of = super::constant(self.world, id)?.of;
                 Ok(self.make(Kind::Constant(id), Vec::new(), of))
             }
-            None => self.refuse("this name has no rule"),
+            _ => self.refuse("this name has no rule"),
         }
     }
 
     /// Returns a constant of a type. For a parameter that stands for itself, it is one that the function gets.
     pub fn constant_of(&mut self, owner: &Type, name: &str) -> Done<Term> {
-        let of = owner.with(&self.open);
-        let found = self.world.member(&of, name);
+        let found = self.world.member(&owner.with(&self.open), name);
         let found = found.filter(|it| self.world.item(it.id).kind == "constant");
-        let Some(found) = found else { return self.refuse("this name has no rule") };
-        let id = found.id;
+        let Some(Callee { id, .. }) = found else { return self.refuse("this name has no rule") };
+        let constant = super::constant(self.world, id)?;
         let Type::Parameter(parameter) = owner else {
-            return Ok(Term { span: self.at, ..super::constant(self.world, id)? });
+            return Ok(Term { span: self.at, ..constant });
         };
         let key = (parameter.clone(), id);
         if let Some(local) = self.constants.get(&key) {
             return Ok(self.local(*local));
         }
-        let of = self.type_of_constant(&found)?;
-        let prefix = if of == Type::Boolean { "is_" } else { "" };
-        let local = self.variable(&format!("{prefix}{}", name.to_lowercase()), of, false);
+        let prefix = if constant.of == Type::Boolean { "is_" } else { "" };
+        let local = self.variable(&format!("{prefix}{}", name.to_lowercase()), constant.of, false);
         self.constants.insert(key, local);
         Ok(self.local(local))
     }
 
-    fn type_of_constant(&self, constant: &Callee) -> Done<Type> {
-        let place = self.world.place(constant.id, &constant.bindings)?;
-        let parts = self.world.item(constant.id).parts.iter();
-        let annotation = parts.rev().find(|it| it.kind != "value");
-        annotation.map_or(Ok(Type::UNIT), |it| self.world.type_in(&place, it))
-    }
-
-    // Returns what all of a path stands for.
-    fn definition(&self, path: &Node) -> Option<Definition> {
-        let found = self.world.resolve(self.place.module, path)?;
-        (found.used == path.parts.len()).then_some(found.definition)
-    }
-
-    // Returns the type before the last name of a path, if it begins with one.
-    fn owner<'p>(&mut self, path: &'p Node) -> Done<Option<(Type, &'p str)>> {
-        let Some((last, before @ [first, ..])) = path.parts.split_last() else {
-            return Ok(None);
-        };
-        let is_own = self.place.bindings.contains_key(first.name());
-        let found = self.world.resolve(self.place.module, path);
-        let is_type =
-            found.is_some_and(|it| it.used == before.len() && it.definition.item().is_some());
-        if !(is_own && before.len() == 1 || is_type) {
-            return Ok(None);
-        }
-        Ok(Some((self.named_type(before)?, last.name())))
-    }
-
     /// Evaluates a call of what a path names.
     pub fn call(&mut self, path: &Node, arguments: &[Node]) -> Done<Term> {
-        if let Some((of, variant)) = self.variant(path) {
-            let fields = self.fields_of(&of, variant)?;
-            if fields.len() != arguments.len() {
-                return self.refuse("another number of fields");
-            }
-            let types: Vec<Type> = fields.into_iter().map(|(_, of)| of).collect();
-            let terms = self.operands(arguments)?;
-            let terms = self.coerce_all(terms, &types)?;
-            return Ok(self.make(Kind::Make(variant), terms, of));
-        }
-        if let ([owner, name], [argument]) = (path.names().as_slice(), arguments) {
-            let of = integer(owner).filter(|_| matches!(*name, "from" | "from_le_bytes"));
-            if let Some(of) = of {
+        if let ([owner, name @ ("from" | "from_le_bytes")], [argument]) =
+            (path.names().as_slice(), arguments)
+        {
+            if let Some(Type::Integer(of)) = integer(owner) {
                 let value = self.any(argument)?;
-                let length = of.integer().map_or(0, |it| u128::from(it.bits()) / 8);
                 if *name == "from" {
-                    return Ok(self.make(Kind::Cast, vec![value], of));
+                    return Ok(self.make(Kind::Cast, vec![value], Type::Integer(of)));
                 }
-                self.unify(&value.of, &Type::array(Type::BYTE, length))?;
-                return Ok(self.make(Kind::Small("load"), vec![value], of));
+                self.unify(&value.of, &Type::array(Type::BYTE, u128::from(of.bits()) / 8))?;
+                return Ok(self.make(Kind::Small("load"), vec![value], Type::Integer(of)));
             }
         }
-        let found = match self.owner(path)? {
-            Some((owner, name)) => self.member(&owner, name)?,
-            None => {
-                let id = self.definition(path).and_then(|it| it.item());
-                id.map(|id| Callee { id, bindings: Bindings::new() })
+        let callee = match self.named(path)? {
+            Named::Variant(of, variant) => {
+                let fields = self.fields_of(&of, variant)?.into_iter().map(|(_, of)| of);
+                let fields: Vec<Type> = fields.collect();
+                self.require(fields.len() == arguments.len(), "another number of fields")?;
+                let terms = self.operands(arguments)?;
+                let terms = self.coerce_all(terms, &fields)?;
+                return Ok(self.make(Kind::Make(variant), terms, of));
             }
+            Named::Member(owner, name) => self.member(&owner, name)?,
+            Named::Item(id) => Some(Callee { id, bindings: Bindings::new() }),
+            Named::Unknown => None,
         };
-        let Some(callee) = found else { return self.refuse("this function has no rule") };
+        let Some(callee) = callee else { return self.refuse("this function has no rule") };
         self.call_of(callee, path.last().last(), None, arguments)
     }
 
@@ -129,22 +132,18 @@ impl Lowering<'_, '_> {
     // Adds the generic types that a call writes to a function, and returns its constants. Types that the call leaves
     // out are found later.
     fn choose(&mut self, callee: &mut Callee, arguments: &Node) -> Done<Vec<Term>> {
-        let mut given = arguments.parts.iter();
         let mut constants = Vec::new();
         let parameters = self.world.item(callee.id).get("generics").map(|it| &it.parts);
-        for parameter in parameters.into_iter().flatten() {
-            let given = given.next();
-            if parameter.rule == "generic.type" {
-                let of = given.map(|of| self.world.type_in(&self.place, of)).transpose()?;
-                let of = of.unwrap_or_else(|| self.fresh(false));
-                callee.bindings.insert(parameter.name().into(), of);
-                continue;
+        for (number, parameter) in parameters.into_iter().flatten().enumerate() {
+            match (parameter.rule, arguments.parts.get(number)) {
+                ("generic.type", given) => {
+                    let of = given.map(|of| self.world.type_in(&self.place, of)).transpose()?;
+                    let of = of.unwrap_or_else(|| self.fresh(false));
+                    callee.bindings.insert(parameter.name().into(), of);
+                }
+                (_, Some(given)) => constants.push(self.any(given)?),
+                _ => return self.refuse("a generic constant that is not written"),
             }
-            let Some(given) = given else {
-                return self.refuse("a generic constant that is not written");
-            };
-            let of = self.world.type_in(&self.place, parameter.last())?;
-            constants.push(self.term(given, &of)?);
         }
         Ok(constants)
     }
@@ -156,21 +155,19 @@ impl Lowering<'_, '_> {
         receiver: Option<Term>,
         arguments: &[Node],
     ) -> Done<Term> {
-        let constants = self.choose(&mut callee, generics)?;
+        let mut terms = self.choose(&mut callee, generics)?;
         let (types, of) = signature(self.world, &callee)?;
-        if types.len() != usize::from(receiver.is_some()) + arguments.len() {
-            return self.refuse("another number of arguments");
-        }
-        let terms = match receiver {
+        let count = terms.len() + usize::from(receiver.is_some()) + arguments.len();
+        self.require(types.len() == count, "another number of arguments")?;
+        terms.extend(match receiver {
             Some(receiver) => {
-                let receiver = self.coerce(receiver, &types[0])?;
+                let receiver = self.coerce(receiver, &types[terms.len()])?;
                 self.behind(receiver, arguments)?
             }
             None => self.operands(arguments)?,
-        };
-        let terms = self.coerce_all(terms, &types)?;
-        let terms = constants.into_iter().chain(terms);
-        let terms = terms.filter(|it| !self.world.is_zero(&self.known(&it.of))).collect();
+        });
+        let mut terms = self.coerce_all(terms, &types)?;
+        terms.retain(|it| !self.world.is_zero(&self.known(&it.of)));
         let term = self.make(Kind::Call(callee), terms, of);
         let is_law = term.of == Type::UNIT && !term.has_effect();
         Ok(if is_law { self.unit() } else { term })
@@ -187,14 +184,13 @@ impl Lowering<'_, '_> {
 }
 
 // `u64::MAX` and so on.
-fn limit(path: &Node) -> Option<(u128, Type)> {
-    let [owner, name] = path.names()[..] else { return None };
-    let of = integer(owner)?;
-    let integer = of.integer()?;
-    let greatest = u128::MAX >> (128 - integer.bits() + u32::from(integer.is_signed()));
-    match name {
-        "MAX" => Some((greatest, of)),
-        "MIN" => Some((if integer.is_signed() { greatest + 1 } else { 0 }, of)),
+fn limit(path: &[&str]) -> Option<(u128, Type)> {
+    let [owner, name] = path else { return None };
+    let Some(Type::Integer(of)) = integer(owner) else { return None };
+    let greatest = u128::MAX >> (128 - of.bits() + u32::from(of.is_signed()));
+    match *name {
+        "MAX" => Some((greatest, Type::Integer(of))),
+        "MIN" => Some((if of.is_signed() { greatest + 1 } else { 0 }, Type::Integer(of))),
         _ => None,
     }
 }

@@ -73,21 +73,28 @@ pub fn constant(world: &World, id: Id) -> Done<Term> {
     Ok(term)
 }
 
-/// Returns the types of the parameters of a function, without constants, and its result.
+/// Returns the types of the parameters of a function, first those of its generic constants, and its result.
 pub fn signature(world: &World, callee: &Callee) -> Done<(Vec<Type>, Type)> {
     let place = world.place(callee.id, &callee.bindings)?;
     let tree = world.item(callee.id);
     if tree.kind != "function" {
         return Err(world.fault_of(callee.id, "no function"));
     }
-    let receiver = tree.all("receiver").map(|it| match (it.has("shared"), it.has("mutable")) {
-        (true, true) => Ok(Type::pointer(place.bindings["Self"].clone())),
-        _ => Ok(place.bindings["Self"].clone()),
-    });
-    let others = tree.all("parameter").map(|it| world.type_in(&place, it.last()));
-    let types = receiver.chain(others).collect::<Done<Vec<Type>>>()?;
+    let parameters =
+        parameters(tree).map(|it| match (it.kind, it.has("shared"), it.has("mutable")) {
+            ("receiver", true, true) => Ok(Type::pointer(place.bindings["Self"].clone())),
+            ("receiver", ..) => Ok(place.bindings["Self"].clone()),
+            _ => world.type_in(&place, it.last()),
+        });
+    let types = parameters.collect::<Done<Vec<Type>>>()?;
     let output = tree.get("output").map(|it| world.type_in(&place, it.last())).transpose()?;
     Ok((types, output.unwrap_or(Type::UNIT)))
+}
+
+// Returns the generic constants of a function, the receiver, and the other parameters.
+fn parameters(function: &Node) -> impl Iterator<Item = &Node> {
+    let constants = function.generics("generic.constant");
+    constants.chain(function.all("receiver")).chain(function.all("parameter"))
 }
 
 impl<'w, 'i> Lowering<'w, 'i> {
@@ -122,17 +129,13 @@ impl<'w, 'i> Lowering<'w, 'i> {
             return self.refuse("a function without a result");
         }
         self.result = result;
-        let mut parameters = Vec::new();
-        for generic in tree.generics("generic.constant") {
-            let of = world.type_in(&self.place, generic.last())?;
-            parameters.push(self.bind(generic.name(), of, false));
-        }
-        for (parameter, of) in tree.all("receiver").chain(tree.all("parameter")).zip(types) {
+        let mut locals = Vec::new();
+        for (parameter, of) in parameters(tree).zip(types) {
             let is_mutable = parameter.has("mutable") && !parameter.has("shared");
-            parameters.push(self.bind(parameter.name(), of, is_mutable));
+            locals.push(self.bind(parameter.name(), of, is_mutable));
         }
         self.evaluate(body, Target::Return)?;
-        self.finish(key, parameters)
+        self.finish(key, locals)
     }
 
     fn refuse<T>(&self, reason: impl std::fmt::Display) -> Done<T> {

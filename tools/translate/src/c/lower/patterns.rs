@@ -1,8 +1,8 @@
 //! Patterns as conditions and variables.
 
+use super::calls::Named;
 use super::{Done, Lowering, Target};
-use crate::c::ir::{ERR, Form, Kind, NONE, OK, PLAIN, SOME, Term, Type};
-use crate::resolve::Definition;
+use crate::c::ir::{Kind, PLAIN, SOME, Term, Type};
 use crate::tree::Node;
 use std::cmp::Ordering;
 
@@ -87,7 +87,7 @@ impl Lowering<'_, '_> {
         value: &Term,
         fit: &mut Fit,
     ) -> Done<()> {
-        let Some((of, variant)) = self.variant(path) else {
+        let Named::Variant(of, variant) = self.named(path)? else {
             return self.refuse("this pattern has no rule");
         };
         let value = self.followed(value.clone());
@@ -141,30 +141,6 @@ impl Lowering<'_, '_> {
             });
         }
         Ok((test, parts))
-    }
-
-    /// Returns the variant that a path names: its type, and its number.
-    pub fn variant(&mut self, path: &Node) -> Option<(Type, usize)> {
-        let found = self.world.resolve(self.place.module, path)?;
-        match found.definition {
-            _ if found.used != path.parts.len() => None,
-            Definition::Variant(id, variant) => {
-                Some((Type::Of(Form::Item(id), Vec::new()), variant))
-            }
-            Definition::Foreign(name) => {
-                let (form, count, variant) = match name.as_str() {
-                    "None" => (Form::Option, 1, NONE),
-                    "Some" => (Form::Option, 1, SOME),
-                    "Ok" => (Form::Result, 2, OK),
-                    "Err" => (Form::Result, 2, ERR),
-                    "std::marker::PhantomData" => (Form::Tuple, 0, PLAIN),
-                    _ => return None,
-                };
-                let parts = (0..count).map(|_| self.fresh(false)).collect();
-                Some((Type::Of(form, parts), variant))
-            }
-            _ => None,
-        }
     }
 
     /// Returns the fields of a variant of a type.
