@@ -4807,7 +4807,7 @@ TK_HINTED size_t tk_put_bytes(tk_bytes bytes, tk_room_u8 out, size_t at)
     tk_room_u8 to = tk_room_u8_between(out, at, end);
     size_t at_2 = 0;
     while (at_2 < bytes.len) {
-        to.at[tk_index(at_2, to.len)] = bytes.at[at_2];
+        to.at[tk_index(at_2, to.len)] = bytes.at[tk_index(at_2, bytes.len)];
         at_2++;
     }
     return end;
@@ -5789,7 +5789,7 @@ TK_HINTED tk_pair_bytes_bytes tk_first_field(tk_bytes rest, uint8_t separator, b
     size_t at = tk_field_len(rest, separator);
     tk_bytes field = tk_bytes_to(rest, at);
     tk_bytes tail = tk_bytes_from(rest, at);
-    if (tail.len <= 0) {
+    if (tail.len < 1) {
         return tk_new_pair_bytes_bytes(field, tail);
     }
     tk_bytes following = tk_bytes_from(tail, 1);

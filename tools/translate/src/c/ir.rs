@@ -106,7 +106,7 @@ pub enum Kind {
     Wrapping(&'static str),
     Not,
     // A function of the prelude, by its name behind that of the type of integers.
-    Small(&'static str),
+    Small(String),
     Length,
     At,
     // An element of which it was tested that it is there.
@@ -121,8 +121,6 @@ pub enum Kind {
     Cast,
     // A value by the number of its variant, and its fields.
     Make(usize),
-    // `Some` of a value if a condition holds.
-    Maybe,
     // Whether a value is of a variant, and a field of one that is.
     Is(usize),
     Field(usize, usize),
@@ -286,6 +284,16 @@ impl Term {
     /// Says whether its parts are those of a tuple.
     pub fn is_tuple(&self) -> bool {
         self.kind == Kind::Make(PLAIN) && matches!(self.of, Type::Of(Form::Tuple, _))
+    }
+
+    /// Says whether it is `Some` or `Ok` of a value if a condition holds, or else the other. Its parts can be read more
+    /// than once.
+    pub fn is_maybe(&self) -> bool {
+        let kinds: Vec<&Kind> = self.parts.iter().map(|it| &it.kind).collect();
+        self.kind == Kind::Choice
+            && kinds[1..] == [&Kind::Make(SOME), &Kind::Make(NONE)]
+            && matches!(self.of, Type::Of(Form::Option | Form::Result, _))
+            && !self.any(&|it| matches!(it.kind, Kind::Call(_)))
     }
 
     /// Says whether it can be read more than once at no cost.

@@ -101,7 +101,7 @@ impl Lowering<'_, '_> {
                     return Ok(self.make(Kind::Cast, vec![value], Type::Integer(of)));
                 }
                 self.unify(&value.of, &Type::array(Type::BYTE, u128::from(of.bits()) / 8))?;
-                return Ok(self.make(Kind::Small("load"), vec![value], Type::Integer(of)));
+                return Ok(self.make(Kind::Small("load".into()), vec![value], Type::Integer(of)));
             }
         }
         let callee = match self.named(path)? {

@@ -154,13 +154,13 @@ impl Lowering<'_, '_> {
 
     /// Returns whether a value is of a variant, and its fields then.
     pub fn parts(&mut self, value: &Term, variant: usize) -> Done<(Term, Vec<Term>)> {
-        match (&value.kind, variant) {
-            (Kind::Maybe, SOME) => {
-                return Ok((value.parts[0].clone(), vec![value.parts[1].clone()]));
-            }
-            (Kind::Maybe, _) => return Ok((value.parts[0].clone().negated(), Vec::new())),
-            _ if value.is_tuple() => return Ok((self.boolean(true), value.parts.clone())),
-            _ => {}
+        if value.is_tuple() {
+            return Ok((self.boolean(true), value.parts.clone()));
+        }
+        if value.is_maybe() {
+            let test = value.parts[0].clone();
+            let test = if variant == SOME { test } else { test.negated() };
+            return Ok((test, value.parts[1 + variant].parts.clone()));
         }
         let fields = self.fields_of(&value.of, variant)?.into_iter().enumerate();
         let field = |(at, (_, of))| self.make(Kind::Field(variant, at), vec![value.clone()], of);

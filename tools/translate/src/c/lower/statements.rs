@@ -22,7 +22,7 @@ impl Lowering<'_, '_> {
             ("block", statements) => value = self.block(statements, target)?,
             ("if", parts) => value = self.if_else(parts, target)?,
             ("match", [found, arms @ ..]) => value = self.match_arms(found, arms, target)?,
-            ("return", [value]) if target != Target::Value => {
+            ("return", [value]) => {
                 self.evaluate(value, Target::Return)?;
             }
             ("break", _) => self.push(Statement::Break),
@@ -67,8 +67,8 @@ impl Lowering<'_, '_> {
         self.push(Statement::Comment(lines.collect()));
     }
 
-    // Puts a block into the current statements, with its value at the target.
-    fn block(&mut self, statements: &[Node], target: Target) -> Done<Term> {
+    /// Puts a block into the current statements, with its value at the target.
+    pub fn block(&mut self, statements: &[Node], target: Target) -> Done<Term> {
         self.scopes.push(Default::default());
         let mut value = self.unit();
         for (number, statement) in statements.iter().enumerate() {
@@ -145,7 +145,7 @@ impl Lowering<'_, '_> {
             let parts = std::mem::take(&mut term.parts).into_iter();
             term.parts = parts.map(|it| self.keep(it, name)).collect();
         }
-        let is_kept = term.kind == Kind::Maybe || term.is_tuple() || term.is_path();
+        let is_kept = term.is_maybe() || term.is_tuple() || term.is_path();
         if is_kept { term } else { self.hold(term, name, false) }
     }
 
@@ -217,6 +217,19 @@ impl Lowering<'_, '_> {
             return Ok(self.unit());
         }
         self.require(always.is_some(), "this form has no rule")?;
+        let leaves = |it: &Branch| it.statements.last().is_some_and(Statement::leaves);
+        if let [first, second] = &mut branches[..] {
+            if leaves(second) && !leaves(first) {
+                second.test = first.test.clone().negated();
+                first.test = self.boolean(true);
+                branches.reverse();
+            }
+        }
+        let (last, others) = (branches[branches.len() - 1].value.clone(), &branches[1..]);
+        if branches[..others.len()].iter().all(leaves) {
+            self.push_branches(branches);
+            return Ok(last);
+        }
         // An array may be a slice.
         let types: Vec<Type> = branches.iter().map(|it| self.known(&it.value.of)).collect();
         let of = types.iter().find(|of| of.is_slice()).unwrap_or(&types[0]).clone();

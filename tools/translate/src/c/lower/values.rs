@@ -1,7 +1,7 @@
 //! Expressions as values. Operands are evaluated from left to right: what a later one could change is held first.
 
 use super::{Done, Lowering, operator};
-use crate::c::ir::{ERR, Form, Kind, NONE, OK, PLAIN, SOME, Statement, Term, Type};
+use crate::c::ir::{Form, Kind, PLAIN, Term, Type};
 use crate::c::world::integer;
 use crate::lexer::{bytes, number};
 use crate::tree::{Node, is_comparison, is_shift};
@@ -200,8 +200,8 @@ impl Lowering<'_, '_> {
         Ok(match sign {
             "*" => self.followed(term),
             "!" if of == Type::Boolean => term.negated(),
-            "!" => self.make(Kind::Small("not"), vec![term], of),
-            _ => self.make(Kind::Small("negate"), vec![term], of),
+            "!" => return self.refuse("this operation has no rule"),
+            _ => self.make(Kind::Small("negate".into()), vec![term], of),
         })
     }
 
@@ -266,24 +266,19 @@ impl Lowering<'_, '_> {
 
     // `VALUE?`: leaves with the error, or goes on with the value.
     fn question(&mut self, value: &Node) -> Done<Term> {
-        let name = self.hint.take().map_or("found".to_string(), |hint| format!("{hint}_found"));
+        let hint = self.hint.take();
         let found = self.any(value)?;
-        let found = self.keep(found, &name);
-        let result = self.result.clone();
-        let (good, back) = match (self.known(&found.of), &result) {
+        self.hint = hint;
+        let block = match (self.known(&found.of), &self.result) {
             (Type::Of(Form::Option, _), Type::Of(Form::Option, _)) => {
-                (SOME, self.make(Kind::Make(NONE), Vec::new(), result))
+                "{ match found { Some(value) => value, None => return None } }"
             }
-            (Type::Of(Form::Result, _), Type::Of(Form::Result, wanted)) => {
-                let (_, errors) = self.parts(&found, ERR)?;
-                self.unify(&wanted[1], &errors[0].of)?;
-                (OK, self.make(Kind::Make(ERR), errors, result))
+            (Type::Of(Form::Result, _), Type::Of(Form::Result, _)) => {
+                "{ match found { Ok(value) => value, Err(error) => return Err(error) } }"
             }
             _ => return self.refuse("`?` of another type than the function has"),
         };
-        let (test, mut values) = self.parts(&found, good)?;
-        self.push_if(test.negated(), vec![Statement::Return(back)]);
-        Ok(values.remove(0))
+        self.defined(&["found"], vec![found], block)
     }
 }
 
