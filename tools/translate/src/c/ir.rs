@@ -229,43 +229,35 @@ impl Statement {
         matches!(self, Statement::Return(_) | Statement::Break | Statement::Continue)
     }
 
-    fn terms(&mut self) -> Vec<&mut Term> {
+    /// Returns its terms, and the lists of statements in it.
+    pub fn parts(&mut self) -> (Vec<&mut Term>, Vec<&mut Vec<Statement>>) {
         match self {
-            Statement::Declare { value, .. } => value.iter_mut().collect(),
-            Statement::Assign { place, value } => vec![place, value],
-            Statement::Return(term) => vec![term],
-            Statement::If { condition, .. } | Statement::While { condition, .. } => vec![condition],
-            Statement::Comment(_) | Statement::Break | Statement::Continue => Vec::new(),
+            Statement::Declare { value, .. } => (value.iter_mut().collect(), Vec::new()),
+            Statement::Assign { place, value } => (vec![place, value], Vec::new()),
+            Statement::Return(term) => (vec![term], Vec::new()),
+            Statement::If { condition, then, otherwise } => {
+                (vec![condition], vec![then, otherwise])
+            }
+            Statement::While { condition, body } => (vec![condition], vec![body]),
+            Statement::Comment(_) | Statement::Break | Statement::Continue => Default::default(),
         }
     }
-
-    /// Returns the lists of statements in this one.
-    pub fn blocks(&mut self) -> Vec<&mut Vec<Statement>> {
-        match self {
-            Statement::If { then, otherwise, .. } => vec![then, otherwise],
-            Statement::While { body, .. } => vec![body],
-            _ => Vec::new(),
-        }
-    }
-}
-
-/// Calls something for each term of statements, behind the terms in it.
-pub fn each_term(body: &mut [Statement], call: &mut dyn FnMut(&mut Term) -> Done<()>) -> Done<()> {
-    for statement in body {
-        statement.terms().into_iter().try_for_each(|term| term.each(call))?;
-        statement.blocks().into_iter().try_for_each(|block| each_term(block, call))?;
-    }
-    Ok(())
 }
 
 /// Returns what all terms of statements are, also of those in others.
 pub fn all_kinds(body: &[Statement]) -> Vec<Kind> {
     let mut found = Vec::new();
-    // Nothing is refused here.
-    let _ = each_term(&mut body.to_vec(), &mut |term| {
-        found.push(term.kind.clone());
-        Ok(())
-    });
+    for statement in &mut body.to_vec() {
+        let (terms, blocks) = statement.parts();
+        for term in terms {
+            // Nothing is refused here.
+            let _ = term.each(&mut |term| {
+                found.push(term.kind.clone());
+                Ok(())
+            });
+        }
+        blocks.into_iter().for_each(|block| found.extend(all_kinds(block)));
+    }
     found
 }
 

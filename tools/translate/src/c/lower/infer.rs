@@ -1,9 +1,7 @@
 //! The types of variables, by unification. What has no rule here is refused.
 
 use super::{Done, Lowering};
-use crate::c::ir::{
-    Callee, Form, Function, Integer, Kind, Statement, Term, Type, all_kinds, each_term,
-};
+use crate::c::ir::{Callee, Form, Function, Integer, Kind, Statement, Term, Type};
 
 impl Lowering<'_, '_> {
     /// Returns a type that is not known yet.
@@ -34,17 +32,10 @@ impl Lowering<'_, '_> {
     pub fn unify(&mut self, left: &Type, right: &Type) -> Done<()> {
         match (self.known(left), self.known(right)) {
             (left, right) if left == right => Ok(()),
-            (left @ Type::Variable { is_integer: true, .. }, Type::Variable { number, .. }) => {
-                self.variables[number] = Some(left);
-                Ok(())
-            }
-            (Type::Variable { is_integer: true, .. }, other)
-            | (other, Type::Variable { is_integer: true, .. })
-                if !matches!(other, Type::Integer(_) | Type::Variable { .. }) =>
-            {
-                self.refuse("an integer in place of another type")
-            }
-            (Type::Variable { number, .. }, other) | (other, Type::Variable { number, .. }) => {
+            (Type::Variable { number, is_integer: false }, other)
+            | (other, Type::Variable { number, is_integer: false })
+            | (Type::Variable { number, .. }, other @ (Type::Integer(_) | Type::Variable { .. }))
+            | (other @ Type::Integer(_), Type::Variable { number, .. }) => {
                 self.variables[number] = Some(other);
                 Ok(())
             }
@@ -97,13 +88,7 @@ impl Lowering<'_, '_> {
     /// Ends a function: all types get what was found, and calls the functions for them.
     pub fn finish(&mut self, key: &Callee, parameters: Vec<usize>) -> Done<Function> {
         let mut body = std::mem::take(&mut self.statements);
-        loop {
-            let used = all_kinds(&body);
-            if !remove_unused(&mut body, &used) {
-                break;
-            }
-        }
-        each_term(&mut body, &mut |term| self.settle(term))?;
+        self.end(&mut body, &mut Vec::new())?;
         for local in 0..self.locals.len() {
             self.locals[local].of = self.settled(&self.locals[local].of.clone())?;
         }
@@ -113,6 +98,28 @@ impl Lowering<'_, '_> {
         let parameters = [given, parameters].concat();
         let locals = std::mem::take(&mut self.locals);
         Ok(Function { key: key.clone(), locals, constants, parameters, result, body })
+    }
+
+    // Ends statements, from the last to the first, as variables that nothing reads behind them are removed.
+    fn end(&mut self, body: &mut Vec<Statement>, used: &mut Vec<Kind>) -> Done<()> {
+        for at in (0..body.len()).rev() {
+            if let Statement::Declare { local, value } = &body[at] {
+                let has_effect = value.as_ref().is_some_and(Term::has_effect);
+                if !has_effect && !used.contains(&Kind::Local(*local)) {
+                    body.remove(at);
+                    continue;
+                }
+            }
+            let (terms, blocks) = body[at].parts();
+            blocks.into_iter().try_for_each(|block| self.end(block, used))?;
+            for term in terms {
+                term.each(&mut |term| {
+                    used.push(term.kind.clone());
+                    self.settle(term)
+                })?;
+            }
+        }
+        Ok(())
     }
 
     // Returns a type with all that matters of it.
@@ -145,21 +152,4 @@ impl Lowering<'_, '_> {
         term.parts.splice(0..0, constants);
         Ok(())
     }
-}
-
-// Removes variables that nothing reads. Returns whether something was removed.
-fn remove_unused(body: &mut Vec<Statement>, used: &[Kind]) -> bool {
-    let mut is_changed = false;
-    body.retain_mut(|statement| {
-        for block in statement.blocks() {
-            is_changed |= remove_unused(block, used);
-        }
-        let Statement::Declare { local, value } = statement else { return true };
-        if used.contains(&Kind::Local(*local)) || value.as_ref().is_some_and(Term::has_effect) {
-            return true;
-        }
-        is_changed = true;
-        false
-    });
-    is_changed
 }
