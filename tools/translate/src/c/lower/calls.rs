@@ -57,8 +57,10 @@ impl Lowering<'_, '_> {
         if let (Some(value), 1) = (variable, names.len()) {
             return Ok(value.clone());
         }
-        if let Some((value, of)) = limit(&names) {
-            return Ok(self.number(value, of));
+        if let [owner, "MIN"] = names[..] {
+            if let Some(Type::Integer(of)) = integer(owner).filter(|_| owner.starts_with('i')) {
+                return Ok(self.number(1 << (of.bits() - 1), Type::Integer(of)));
+            }
         }
         match self.named(path)? {
             Named::Variant(of, variant) => Ok(self.make(Kind::Make(variant), Vec::new(), of)),
@@ -109,7 +111,7 @@ impl Lowering<'_, '_> {
                 let fields = self.fields_of(&of, variant)?.into_iter().map(|(_, of)| of);
                 let fields: Vec<Type> = fields.collect();
                 self.require(fields.len() == arguments.len(), "another number of fields")?;
-                let terms = self.operands(arguments)?;
+                let terms = self.operands(None, arguments)?;
                 let terms = self.coerce_all(terms, &fields)?;
                 return Ok(self.make(Kind::Make(variant), terms, of));
             }
@@ -159,15 +161,10 @@ impl Lowering<'_, '_> {
         let (types, of) = signature(self.world, &callee)?;
         let count = terms.len() + usize::from(receiver.is_some()) + arguments.len();
         self.require(types.len() == count, "another number of arguments")?;
-        terms.extend(match receiver {
-            Some(receiver) => {
-                let receiver = self.coerce(receiver, &types[terms.len()])?;
-                self.behind(receiver, arguments)?
-            }
-            None => self.operands(arguments)?,
-        });
+        let receiver = receiver.map(|it| self.coerce(it, &types[terms.len()])).transpose()?;
+        terms.extend(self.operands(receiver, arguments)?);
         let mut terms = self.coerce_all(terms, &types)?;
-        terms.retain(|it| !self.world.is_zero(&self.known(&it.of)));
+        terms.retain(|it| it.has_effect() || !self.world.is_zero(&self.known(&it.of)));
         let term = self.make(Kind::Call(callee), terms, of);
         let is_law = term.of == Type::UNIT && !term.has_effect();
         Ok(if is_law { self.unit() } else { term })
@@ -180,17 +177,5 @@ impl Lowering<'_, '_> {
             Some(callee) => self.call_of(callee, &call.parts[2], Some(receiver), &call.parts[3..]),
             None => self.refuse("this method has no rule"),
         }
-    }
-}
-
-// `u64::MAX` and so on.
-fn limit(path: &[&str]) -> Option<(u128, Type)> {
-    let [owner, name] = path else { return None };
-    let Some(Type::Integer(of)) = integer(owner) else { return None };
-    let greatest = u128::MAX >> (128 - of.bits() + u32::from(of.is_signed()));
-    match *name {
-        "MAX" => Some((greatest, Type::Integer(of))),
-        "MIN" => Some((if of.is_signed() { greatest + 1 } else { 0 }, Type::Integer(of))),
-        _ => None,
     }
 }

@@ -43,7 +43,7 @@ impl Lowering<'_, '_> {
         if is_own {
             return self.method_of_item(receiver, call);
         }
-        let terms = self.behind(target, arguments)?;
+        let terms = self.operands(Some(target), arguments)?;
         let count = generics.parts.iter().find(|it| it.kind == "integer");
         let count = count.map_or("COUNT", |it| &it.text);
         for (head, block) in BLOCKS.lines().filter_map(|line| line.split_once(" = ")) {

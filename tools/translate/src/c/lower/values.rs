@@ -49,7 +49,7 @@ impl Lowering<'_, '_> {
     fn operation(&mut self, tree: &Node) -> Done<Term> {
         match (tree.kind, tree.parts.as_slice()) {
             ("tuple", parts) => {
-                let terms = self.operands(parts)?;
+                let terms = self.operands(None, parts)?;
                 Ok(self.tuple_of(terms))
             }
             ("list", parts) => self.array(parts),
@@ -66,12 +66,12 @@ impl Lowering<'_, '_> {
             }
             ("member_of", [receiver, name]) => self.field(receiver, &name.text),
             ("index", parts) => {
-                let mut terms = self.operands(parts)?;
+                let mut terms = self.operands(None, parts)?;
                 let at = self.coerce(terms.remove(1), &Type::SIZE)?;
                 self.element(terms.remove(0), at, Kind::At)
             }
             ("part", parts) => {
-                let mut terms = self.operands(parts)?;
+                let mut terms = self.operands(None, parts)?;
                 let offsets = self.coerce_all(terms.split_off(1), &[Type::SIZE, Type::SIZE])?;
                 terms.extend(offsets);
                 self.part(tree.rule.trim_start_matches("part."), terms)
@@ -87,28 +87,30 @@ impl Lowering<'_, '_> {
 
     fn array(&mut self, parts: &[Node]) -> Done<Term> {
         let element = self.fresh(false);
-        let terms = self.operands(parts)?;
+        let terms = self.operands(None, parts)?;
         let terms = self.coerce_all(terms, &vec![element.clone(); parts.len()])?;
         let of = Type::array(element, terms.len() as u128);
         Ok(self.make(Kind::Elements, terms, of))
     }
 
-    /// Evaluates operands from left to right. Those before one with statements are held in variables, and so
-    /// are results of calls that write.
+    /// Evaluates operands from left to right, behind a receiver. Each is held in a variable if it changes something or may
+    /// be changed before the last is evaluated.
     pub fn operands<'t>(
         &mut self,
+        receiver: Option<Term>,
         operands: impl IntoIterator<Item = &'t Node>,
     ) -> Done<Vec<Term>> {
-        let operands: Vec<&Node> = operands.into_iter().collect();
-        let mut terms: Vec<Term> = Vec::new();
-        for operand in &operands {
+        let mut terms = Vec::from_iter(receiver);
+        for operand in operands {
             let (statements, term) = self.apart(|it| it.any(operand))?;
-            let has_effect = term.has_effect() && operands.len() > 1;
-            if has_effect || !statements.is_empty() {
-                terms = terms.into_iter().map(|earlier| self.before(earlier)).collect();
+            let changes = term.has_effect() || !statements.is_empty();
+            for earlier in &mut terms {
+                if earlier.has_effect() || changes && !self.is_constant(earlier) {
+                    *earlier = self.hold(earlier.clone(), "before", false);
+                }
             }
             self.extend(statements);
-            terms.push(if has_effect { self.hold(term, "result", false) } else { term });
+            terms.push(term);
         }
         Ok(terms)
     }
@@ -116,21 +118,6 @@ impl Lowering<'_, '_> {
     /// Makes terms ones of the wanted types.
     pub fn coerce_all(&mut self, terms: Vec<Term>, types: &[Type]) -> Done<Vec<Term>> {
         terms.into_iter().zip(types).map(|(term, of)| self.coerce(term, of)).collect()
-    }
-
-    /// Evaluates operands behind a value, which must not depend on what they change.
-    pub fn behind(&mut self, first: Term, operands: &[Node]) -> Done<Vec<Term>> {
-        let (statements, terms) = self.apart(|it| it.operands(operands))?;
-        let changes = !statements.is_empty() || terms.iter().any(Term::has_effect);
-        let is_pointer = matches!(self.known(&first.of), Type::Of(Form::Pointer, _));
-        let first = if changes && !is_pointer { self.before(first) } else { first };
-        self.extend(statements);
-        Ok([vec![first], terms].concat())
-    }
-
-    // Holds what something that happens later may change.
-    fn before(&mut self, term: Term) -> Term {
-        if self.is_constant(&term) { term } else { self.hold(term, "before", false) }
     }
 
     /// Says whether nothing that happens later changes what a term is.
@@ -141,7 +128,9 @@ impl Lowering<'_, '_> {
             Kind::At | Kind::Element => self.known(&it.parts[0].of).can_write(),
             _ => false,
         };
-        !term.has_effect() && !term.any(&may_change)
+        // A variable stays where it is.
+        let is_place = term.kind == Kind::Address && matches!(term.parts[0].kind, Kind::Local(_));
+        is_place || !term.has_effect() && !term.any(&may_change)
     }
 
     /// Returns what a term refers to.
@@ -176,7 +165,7 @@ impl Lowering<'_, '_> {
             return self.refuse("no such field");
         }
         let values = given.iter().map(|it| if it.kind == "given" { it.last() } else { it });
-        let mut terms = self.operands(values)?;
+        let mut terms = self.operands(None, values)?;
         let base = match terms.drain(names.len()..).next() {
             Some(Term { kind: Kind::Constant(id), .. }) => Some(super::constant(self.world, id)?),
             base => base.map(|base| self.keep(base, "base")),
@@ -221,7 +210,7 @@ impl Lowering<'_, '_> {
     }
 
     fn binary(&mut self, operator: &'static str, operands: [&Node; 2]) -> Done<Term> {
-        let mut terms = self.operands(operands)?;
+        let mut terms = self.operands(None, operands)?;
         let right = self.followed(terms.remove(1));
         let left = self.followed(terms.remove(0));
         if !is_shift(operator) {
