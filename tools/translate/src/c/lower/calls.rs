@@ -53,8 +53,8 @@ impl Lowering<'_, '_> {
     /// Evaluates a path: a variable, a constant or a variant without fields.
     pub fn path(&mut self, path: &Node) -> Done<Term> {
         let names = path.names();
-        let variable = self.scopes.iter().rev().find_map(|scope| scope.get(names[0]));
-        if let (Some(value), 1) = (variable, names.len()) {
+        let variable = self.names.iter().rev().find(|(name, _)| names == [name]);
+        if let Some((_, value)) = variable {
             return Ok(value.clone());
         }
         if let [owner, "MIN"] = names[..] {

@@ -64,7 +64,7 @@ impl Lowering<'_, '_> {
         let mut block = parse(&Source::new(Path::new("C"), block.into()), "block")?;
         block.iter_mut().for_each(|it| put_at(it, self.at));
         let hint = self.hint.take();
-        self.scopes.push(Default::default());
+        let outer = self.names.len();
         for (name, term) in names.iter().zip(terms) {
             let kept = match &hint {
                 Some(hint) if *name == "found" => self.keep(term, &format!("{hint}_found")),
@@ -73,7 +73,7 @@ impl Lowering<'_, '_> {
             self.name(name, kept);
         }
         let value = self.block(&block, Target::Value);
-        self.scopes.pop();
+        self.names.truncate(outer);
         value
     }
 
@@ -127,10 +127,7 @@ impl Lowering<'_, '_> {
             _ => return self.refuse("only `iter().filter(..)` and `take_while` are counted"),
         };
         let count = self.hold(self.size(0), "count", true);
-        let slice = self.any(slice)?;
-        self.walk(slice, |it, element, at| {
-            it.destructure(&parts[0], element, None)?;
-            it.advance(at);
+        self.walk(&parts[0], slice, |it| {
             let test = it.term(&parts[1], &Type::Boolean)?;
             it.push_if(test.negated(), vec![otherwise]);
             it.advance(count.clone());

@@ -10,14 +10,13 @@ mod values;
 use super::instances::{Attempt, Instances};
 use super::ir::{Bindings, Callee, Done, Id, Kind, Local, PLAIN, Statement, Term, Type};
 use super::world::{Place, World};
-use crate::source::{Source, Span};
+use crate::source::Span;
 use crate::tree::Node;
 use std::collections::BTreeMap;
 
 struct Lowering<'w, 'i> {
     world: &'w World<'w>,
     instances: &'i mut Instances<'w>,
-    source: &'w Source,
     place: Place,
     /// The types of the parameters that stand for themselves, in one call.
     open: Bindings,
@@ -30,7 +29,8 @@ struct Lowering<'w, 'i> {
     /// What is known of types that were unknown at first.
     variables: Vec<Option<Type>>,
     locals: Vec<Local>,
-    scopes: Vec<BTreeMap<String, Term>>,
+    /// What names stand for, those of inner scopes last.
+    names: Vec<(String, Term)>,
     /// The statements of the block that is made.
     statements: Vec<Statement>,
     result: Type,
@@ -103,7 +103,6 @@ impl<'w, 'i> Lowering<'w, 'i> {
         Ok(Lowering {
             world,
             instances,
-            source: world.source(id),
             place: world.place(id, known)?,
             open: Bindings::new(),
             needed: None,
@@ -111,7 +110,7 @@ impl<'w, 'i> Lowering<'w, 'i> {
             at: world.item(id).span,
             variables: Vec::new(),
             locals: Vec::new(),
-            scopes: vec![BTreeMap::new()],
+            names: Vec::new(),
             statements: Vec::new(),
             result: Type::UNIT,
             hint: None,
@@ -132,14 +131,17 @@ impl<'w, 'i> Lowering<'w, 'i> {
         let mut locals = Vec::new();
         for (parameter, of) in parameters(tree).zip(types) {
             let is_mutable = parameter.has("mutable") && !parameter.has("shared");
-            locals.push(self.bind(parameter.name(), of, is_mutable));
+            let local = self.variable(parameter.name(), of, is_mutable);
+            self.name(parameter.name(), self.local(local));
+            locals.push(local);
         }
         self.evaluate(body, Target::Return)?;
         self.finish(key, locals)
     }
 
     fn refuse<T>(&self, reason: impl std::fmt::Display) -> Done<T> {
-        Err(self.source.fault(self.at, format!("C: {reason}")))
+        let source = &self.world.package.modules[self.place.module].source;
+        Err(source.fault(self.at, format!("C: {reason}")))
     }
 
     fn require(&self, condition: bool, reason: &str) -> Done<()> {
@@ -199,43 +201,28 @@ impl<'w, 'i> Lowering<'w, 'i> {
         self.make(Kind::Make(PLAIN), Vec::new(), Type::UNIT)
     }
 
-    // Makes a variable, and lets its name stand for it.
-    fn bind(&mut self, name: &str, of: Type, is_mutable: bool) -> usize {
-        let local = self.variable(name, of, is_mutable);
-        self.name(name, self.local(local));
-        local
-    }
-
     fn variable(&mut self, name: &str, of: Type, is_mutable: bool) -> usize {
         self.locals.push(Local { name: name.to_string(), of, is_mutable });
         self.locals.len() - 1
     }
 
-    fn name(&mut self, name: &str, value: Term) {
-        if let Some(scope) = self.scopes.last_mut() {
-            scope.insert(name.to_string(), value);
-        }
-    }
-
-    // Declares a variable with a value, and lets a name stand for it.
-    fn declare(&mut self, name: &str, value: Term, is_mutable: bool) {
-        let local = self.bind(name, value.of.clone(), is_mutable);
-        self.push(Statement::Declare { local, value: Some(value) });
-    }
-
-    // Puts a value into a variable that has no name in the source.
+    // Puts a value into a new variable.
     fn hold(&mut self, value: Term, name: &str, is_mutable: bool) -> Term {
         let local = self.variable(name, value.of.clone(), is_mutable);
         self.push(Statement::Declare { local, value: Some(value) });
         self.local(local)
     }
 
+    // Lets a name stand for a value in the current scope.
+    fn name(&mut self, name: &str, value: Term) {
+        self.names.push((name.to_string(), value));
+    }
+
     // Makes something in a scope and a list of statements of its own.
     fn apart<R>(&mut self, make: impl FnOnce(&mut Self) -> Done<R>) -> Done<(Vec<Statement>, R)> {
-        let before = std::mem::take(&mut self.statements);
-        self.scopes.push(BTreeMap::new());
+        let (before, names) = (std::mem::take(&mut self.statements), self.names.len());
         let made = make(self);
-        self.scopes.pop();
+        self.names.truncate(names);
         Ok((std::mem::replace(&mut self.statements, before), made?))
     }
 

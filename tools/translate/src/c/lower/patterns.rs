@@ -204,10 +204,9 @@ impl Lowering<'_, '_> {
     /// Lets the names of a pattern stand for its parts where they may, or else for variables.
     pub fn bind_all(&mut self, bindings: Vec<Binding>, may_stand: impl Fn(&Self, &Term) -> bool) {
         for (name, is_mutable, value) in bindings {
-            match may_stand(self, &value) && !is_mutable {
-                true => self.name(&name, value),
-                false => self.declare(&name, value, is_mutable),
-            }
+            let stands = may_stand(self, &value) && !is_mutable;
+            let value = if stands { value } else { self.hold(value, &name, is_mutable) };
+            self.name(&name, value);
         }
     }
 }

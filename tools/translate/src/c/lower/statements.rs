@@ -39,14 +39,10 @@ impl Lowering<'_, '_> {
                 let (body, _) = self.apart(|it| it.evaluate(body, Target::Nothing))?;
                 self.push(Statement::While { condition, body });
             }
-            ("for", [pattern, slice, body]) => {
-                let slice = self.any(slice)?;
-                self.walk(slice, |it, element, at| {
-                    it.destructure(pattern, element, None)?;
-                    it.advance(at);
-                    it.evaluate(body, Target::Nothing).map(|_| ())
-                })?;
-            }
+            ("for", [pattern, slice, body]) => self.walk(pattern, slice, |it| {
+                it.evaluate(body, Target::Nothing)?;
+                Ok(())
+            })?,
             ("assign", [place, sign, value]) => self.assign(sign.text == "+=", place, value)?,
             _ => {
                 value = self.value(tree)?;
@@ -69,13 +65,13 @@ impl Lowering<'_, '_> {
 
     /// Puts a block into the current statements, with its value at the target.
     pub fn block(&mut self, statements: &[Node], target: Target) -> Done<Term> {
-        self.scopes.push(Default::default());
+        let names = self.names.len();
         let mut value = self.unit();
         for (number, statement) in statements.iter().enumerate() {
             let is_last = number + 1 == statements.len();
             value = self.evaluate(statement, if is_last { target } else { Target::Nothing })?;
         }
-        self.scopes.pop();
+        self.names.truncate(names);
         Ok(value)
     }
 
@@ -96,21 +92,23 @@ impl Lowering<'_, '_> {
         self.destructure(pattern, found, otherwise.map(Node::last))
     }
 
-    /// Walks over a slice, by what is done with an element and the offset.
+    /// Walks over a slice: makes what is done with an element, which a pattern takes.
     pub fn walk(
         &mut self,
-        slice: Term,
-        make: impl FnOnce(&mut Self, Term, Term) -> Done<()>,
+        pattern: &Node,
+        slice: &Node,
+        make: impl FnOnce(&mut Self) -> Done<()>,
     ) -> Done<()> {
+        let slice = self.any(slice)?;
         let slice = self.keep(slice, "all");
-        if !self.known(&slice.of).is_slice() {
-            return self.refuse("a loop over this has no rule");
-        }
+        self.require(self.known(&slice.of).is_slice(), "a loop over this has no rule")?;
         let at = self.hold(self.size(0), "at", true);
         let condition = self.test("<", at.clone(), self.length(&slice));
         let (body, ()) = self.apart(|it| {
             let element = it.element(slice, at.clone(), Kind::Element)?;
-            make(it, element, at)
+            it.destructure(pattern, element, None)?;
+            it.advance(at);
+            make(it)
         })?;
         self.push(Statement::While { condition, body });
         Ok(())
@@ -180,14 +178,17 @@ impl Lowering<'_, '_> {
 
     /// Returns when a value fits a pattern.
     pub fn fits(&mut self, value: &Node, pattern: &Node) -> Done<Fit> {
-        let found = self.any(value)?;
-        let found = self.keep(found, "found");
+        let found = self.found(value)?;
         self.matched(pattern, &found)
     }
 
-    fn match_arms(&mut self, value: &Node, arms: &[Node], target: Target) -> Done<Term> {
+    fn found(&mut self, value: &Node) -> Done<Term> {
         let found = self.any(value)?;
-        let found = self.keep(found, "found");
+        Ok(self.keep(found, "found"))
+    }
+
+    fn match_arms(&mut self, value: &Node, arms: &[Node], target: Target) -> Done<Term> {
+        let found = self.found(value)?;
         let mut branches = Vec::new();
         for (number, arm) in arms.iter().enumerate() {
             let comments = arm.get("comments");
@@ -217,18 +218,12 @@ impl Lowering<'_, '_> {
             return Ok(self.unit());
         }
         self.require(always.is_some(), "this form has no rule")?;
+        // The last branch goes on if all others leave.
+        let (value, others) = (branches[branches.len() - 1].value.clone(), branches.len() - 1);
         let leaves = |it: &Branch| it.statements.last().is_some_and(Statement::leaves);
-        if let [first, second] = &mut branches[..] {
-            if leaves(second) && !leaves(first) {
-                second.test = first.test.clone().negated();
-                first.test = self.boolean(true);
-                branches.reverse();
-            }
-        }
-        let (last, others) = (branches[branches.len() - 1].value.clone(), &branches[1..]);
-        if branches[..others.len()].iter().all(leaves) {
+        if branches[..others].iter().all(leaves) {
             self.push_branches(branches);
-            return Ok(last);
+            return Ok(value);
         }
         // An array may be a slice.
         let types: Vec<Type> = branches.iter().map(|it| self.known(&it.value.of)).collect();

@@ -258,14 +258,11 @@ impl Lowering<'_, '_> {
         let hint = self.hint.take();
         let found = self.any(value)?;
         self.hint = hint;
-        let block = match (self.known(&found.of), &self.result) {
-            (Type::Of(Form::Option, _), Type::Of(Form::Option, _)) => {
-                "{ match found { Some(value) => value, None => return None } }"
+        let block = match self.known(&found.of) {
+            Type::Of(Form::Option, _) => {
+                "{ match found { None => return None, Some(value) => value } }"
             }
-            (Type::Of(Form::Result, _), Type::Of(Form::Result, _)) => {
-                "{ match found { Ok(value) => value, Err(error) => return Err(error) } }"
-            }
-            _ => return self.refuse("`?` of another type than the function has"),
+            _ => "{ match found { Err(error) => return Err(error), Ok(value) => value } }",
         };
         self.defined(&["found"], vec![found], block)
     }
