@@ -5680,7 +5680,7 @@ TK_HINTED tk_pair_size_size tk_fields_position(tk_fields self)
 /* atoi_column/src/fields.rt:277 */
 TK_INLINE tk_option_pair_i8_bytes tk_one_digit_field_i8(tk_bytes rest, uint8_t separator)
 {
-    if (rest.len >= 2 && (rest.at[1] == separator && tk_u8_is_digit(rest.at[0]))) {
+    if (rest.len >= 2 && rest.at[1] == separator && tk_u8_is_digit(rest.at[0])) {
         tk_bytes following = tk_bytes_from(rest, 2);
         tk_result_i8 found = tk_parse_i8(true, false, tk_bytes_to(rest, 1));
         if (!found.is_ok) {
@@ -5720,7 +5720,7 @@ TK_INLINE tk_option_bytes tk_after_field(tk_bytes tail, uint8_t separator, bool 
         tk_bytes following = tk_bytes_from(tail, 1);
         return tk_some_bytes(following);
     }
-    if (tail.len >= 2 && tail.at[0] == '\r' && (is_lines && tail.at[1] == separator)) {
+    if (tail.len >= 2 && tail.at[0] == '\r' && is_lines && tail.at[1] == separator) {
         tk_bytes following = tk_bytes_from(tail, 2);
         return tk_some_bytes(following);
     }
@@ -5844,7 +5844,7 @@ TK_INLINE tk_option_result_i8_field_error tk_fields_next_i8(tk_fields *self)
 /* atoi_column/src/fields.rt:277 */
 TK_INLINE tk_option_pair_u8_bytes tk_one_digit_field_u8(tk_bytes rest, uint8_t separator)
 {
-    if (rest.len >= 2 && (rest.at[1] == separator && tk_u8_is_digit(rest.at[0]))) {
+    if (rest.len >= 2 && rest.at[1] == separator && tk_u8_is_digit(rest.at[0])) {
         tk_bytes following = tk_bytes_from(rest, 2);
         tk_result_u8 found = tk_parse_u8(true, false, tk_bytes_to(rest, 1));
         if (!found.is_ok) {
@@ -5938,7 +5938,7 @@ TK_INLINE tk_option_result_u8_field_error tk_fields_next_u8(tk_fields *self)
 /* atoi_column/src/fields.rt:277 */
 TK_INLINE tk_option_pair_i16_bytes tk_one_digit_field_i16(tk_bytes rest, uint8_t separator)
 {
-    if (rest.len >= 2 && (rest.at[1] == separator && tk_u8_is_digit(rest.at[0]))) {
+    if (rest.len >= 2 && rest.at[1] == separator && tk_u8_is_digit(rest.at[0])) {
         tk_bytes following = tk_bytes_from(rest, 2);
         tk_result_i16 found = tk_parse_i16(true, false, tk_bytes_to(rest, 1));
         if (!found.is_ok) {
@@ -6036,7 +6036,7 @@ TK_INLINE tk_option_result_i16_field_error tk_fields_next_i16(tk_fields *self)
 /* atoi_column/src/fields.rt:277 */
 TK_INLINE tk_option_pair_u16_bytes tk_one_digit_field_u16(tk_bytes rest, uint8_t separator)
 {
-    if (rest.len >= 2 && (rest.at[1] == separator && tk_u8_is_digit(rest.at[0]))) {
+    if (rest.len >= 2 && rest.at[1] == separator && tk_u8_is_digit(rest.at[0])) {
         tk_bytes following = tk_bytes_from(rest, 2);
         tk_result_u16 found = tk_parse_u16(true, false, tk_bytes_to(rest, 1));
         if (!found.is_ok) {
@@ -6132,7 +6132,7 @@ TK_INLINE tk_option_result_u16_field_error tk_fields_next_u16(tk_fields *self)
 /* atoi_column/src/fields.rt:277 */
 TK_INLINE tk_option_pair_i32_bytes tk_one_digit_field_i32(tk_bytes rest, uint8_t separator)
 {
-    if (rest.len >= 2 && (rest.at[1] == separator && tk_u8_is_digit(rest.at[0]))) {
+    if (rest.len >= 2 && rest.at[1] == separator && tk_u8_is_digit(rest.at[0])) {
         tk_bytes following = tk_bytes_from(rest, 2);
         tk_result_i32 found = tk_parse_i32(true, false, tk_bytes_to(rest, 1));
         if (!found.is_ok) {
@@ -6230,7 +6230,7 @@ TK_INLINE tk_option_result_i32_field_error tk_fields_next_i32(tk_fields *self)
 /* atoi_column/src/fields.rt:277 */
 TK_INLINE tk_option_pair_u32_bytes tk_one_digit_field_u32(tk_bytes rest, uint8_t separator)
 {
-    if (rest.len >= 2 && (rest.at[1] == separator && tk_u8_is_digit(rest.at[0]))) {
+    if (rest.len >= 2 && rest.at[1] == separator && tk_u8_is_digit(rest.at[0])) {
         tk_bytes following = tk_bytes_from(rest, 2);
         tk_result_u32 found = tk_parse_u32(true, false, tk_bytes_to(rest, 1));
         if (!found.is_ok) {
@@ -6326,7 +6326,7 @@ TK_INLINE tk_option_result_u32_field_error tk_fields_next_u32(tk_fields *self)
 /* atoi_column/src/fields.rt:277 */
 TK_INLINE tk_option_pair_i64_bytes tk_one_digit_field_i64(tk_bytes rest, uint8_t separator)
 {
-    if (rest.len >= 2 && (rest.at[1] == separator && tk_u8_is_digit(rest.at[0]))) {
+    if (rest.len >= 2 && rest.at[1] == separator && tk_u8_is_digit(rest.at[0])) {
         tk_bytes following = tk_bytes_from(rest, 2);
         tk_result_i64 found = tk_parse_i64(true, false, tk_bytes_to(rest, 1));
         if (!found.is_ok) {
@@ -6424,7 +6424,7 @@ TK_INLINE tk_option_result_i64_field_error tk_fields_next_i64(tk_fields *self)
 /* atoi_column/src/fields.rt:277 */
 TK_INLINE tk_option_pair_u64_bytes tk_one_digit_field_u64(tk_bytes rest, uint8_t separator)
 {
-    if (rest.len >= 2 && (rest.at[1] == separator && tk_u8_is_digit(rest.at[0]))) {
+    if (rest.len >= 2 && rest.at[1] == separator && tk_u8_is_digit(rest.at[0])) {
         tk_bytes following = tk_bytes_from(rest, 2);
         tk_result_u64 found = tk_parse_u64(true, false, tk_bytes_to(rest, 1));
         if (!found.is_ok) {
@@ -6520,7 +6520,7 @@ TK_INLINE tk_option_result_u64_field_error tk_fields_next_u64(tk_fields *self)
 /* atoi_column/src/fields.rt:277 */
 TK_INLINE tk_option_pair_i128_bytes tk_one_digit_field_i128(tk_bytes rest, uint8_t separator)
 {
-    if (rest.len >= 2 && (rest.at[1] == separator && tk_u8_is_digit(rest.at[0]))) {
+    if (rest.len >= 2 && rest.at[1] == separator && tk_u8_is_digit(rest.at[0])) {
         tk_bytes following = tk_bytes_from(rest, 2);
         tk_result_i128 found = tk_parse_i128(true, false, tk_bytes_to(rest, 1));
         if (!found.is_ok) {
@@ -6618,7 +6618,7 @@ TK_INLINE tk_option_result_i128_field_error tk_fields_next_i128(tk_fields *self)
 /* atoi_column/src/fields.rt:277 */
 TK_INLINE tk_option_pair_u128_bytes tk_one_digit_field_u128(tk_bytes rest, uint8_t separator)
 {
-    if (rest.len >= 2 && (rest.at[1] == separator && tk_u8_is_digit(rest.at[0]))) {
+    if (rest.len >= 2 && rest.at[1] == separator && tk_u8_is_digit(rest.at[0])) {
         tk_bytes following = tk_bytes_from(rest, 2);
         tk_result_u128 found = tk_parse_u128(true, false, tk_bytes_to(rest, 1));
         if (!found.is_ok) {
@@ -7035,8 +7035,8 @@ TK_NOINLINE tk_guess tk_guess_after_i8(tk_slice_i8 numbers, size_t used, tk_byte
     size_t digits_and_ends = tk_size_saturating_sub(used, minuses);
     size_t each = digits_and_ends / count;
     size_t at_2 = tk_size_saturating_add(tk_sign_len(true, rest), tk_size_saturating_sub(each, 2));
-    bool has_return = is_lines
-        && (at_2 <= rest.len && tk_bytes_from(rest, at_2).len >= 1 && tk_bytes_from(rest, at_2).at[0] == '\r');
+    bool has_return = is_lines && at_2 <= rest.len && tk_bytes_from(rest, at_2).len >= 1
+        && tk_bytes_from(rest, at_2).at[0] == '\r';
     size_t found = digits_and_ends % count;
     size_t width = found == 0 ? tk_size_saturating_sub(each, 1 + TK_CAST(size_t, has_return)) : 0;
     return tk_new_guess(width, has_return, used / 11 < count / 4, minuses > count / 8);
@@ -7297,8 +7297,8 @@ TK_NOINLINE tk_guess tk_guess_after_u8(tk_bytes numbers, size_t used, tk_bytes r
     size_t digits_and_ends = tk_size_saturating_sub(used, minuses);
     size_t each = digits_and_ends / count;
     size_t at_2 = tk_size_saturating_add(tk_sign_len(false, rest), tk_size_saturating_sub(each, 2));
-    bool has_return = is_lines
-        && (at_2 <= rest.len && tk_bytes_from(rest, at_2).len >= 1 && tk_bytes_from(rest, at_2).at[0] == '\r');
+    bool has_return = is_lines && at_2 <= rest.len && tk_bytes_from(rest, at_2).len >= 1
+        && tk_bytes_from(rest, at_2).at[0] == '\r';
     size_t found = digits_and_ends % count;
     size_t width = found == 0 ? tk_size_saturating_sub(each, 1 + TK_CAST(size_t, has_return)) : 0;
     return tk_new_guess(width, has_return, used / 11 < count / 4, minuses > count / 8);
@@ -7554,8 +7554,8 @@ TK_NOINLINE tk_guess tk_guess_after_i16(tk_slice_i16 numbers, size_t used, tk_by
     size_t digits_and_ends = tk_size_saturating_sub(used, minuses);
     size_t each = digits_and_ends / count;
     size_t at_2 = tk_size_saturating_add(tk_sign_len(true, rest), tk_size_saturating_sub(each, 2));
-    bool has_return = is_lines
-        && (at_2 <= rest.len && tk_bytes_from(rest, at_2).len >= 1 && tk_bytes_from(rest, at_2).at[0] == '\r');
+    bool has_return = is_lines && at_2 <= rest.len && tk_bytes_from(rest, at_2).len >= 1
+        && tk_bytes_from(rest, at_2).at[0] == '\r';
     size_t found = digits_and_ends % count;
     size_t width = found == 0 ? tk_size_saturating_sub(each, 1 + TK_CAST(size_t, has_return)) : 0;
     return tk_new_guess(width, has_return, used / 11 < count / 4, minuses > count / 8);
@@ -7808,8 +7808,8 @@ TK_NOINLINE tk_guess tk_guess_after_u16(tk_slice_u16 numbers, size_t used, tk_by
     size_t digits_and_ends = tk_size_saturating_sub(used, minuses);
     size_t each = digits_and_ends / count;
     size_t at_2 = tk_size_saturating_add(tk_sign_len(false, rest), tk_size_saturating_sub(each, 2));
-    bool has_return = is_lines
-        && (at_2 <= rest.len && tk_bytes_from(rest, at_2).len >= 1 && tk_bytes_from(rest, at_2).at[0] == '\r');
+    bool has_return = is_lines && at_2 <= rest.len && tk_bytes_from(rest, at_2).len >= 1
+        && tk_bytes_from(rest, at_2).at[0] == '\r';
     size_t found = digits_and_ends % count;
     size_t width = found == 0 ? tk_size_saturating_sub(each, 1 + TK_CAST(size_t, has_return)) : 0;
     return tk_new_guess(width, has_return, used / 11 < count / 4, minuses > count / 8);
@@ -8065,8 +8065,8 @@ TK_NOINLINE tk_guess tk_guess_after_i32(tk_slice_i32 numbers, size_t used, tk_by
     size_t digits_and_ends = tk_size_saturating_sub(used, minuses);
     size_t each = digits_and_ends / count;
     size_t at_2 = tk_size_saturating_add(tk_sign_len(true, rest), tk_size_saturating_sub(each, 2));
-    bool has_return = is_lines
-        && (at_2 <= rest.len && tk_bytes_from(rest, at_2).len >= 1 && tk_bytes_from(rest, at_2).at[0] == '\r');
+    bool has_return = is_lines && at_2 <= rest.len && tk_bytes_from(rest, at_2).len >= 1
+        && tk_bytes_from(rest, at_2).at[0] == '\r';
     size_t found = digits_and_ends % count;
     size_t width = found == 0 ? tk_size_saturating_sub(each, 1 + TK_CAST(size_t, has_return)) : 0;
     return tk_new_guess(width, has_return, used / 11 < count / 4, minuses > count / 8);
@@ -8319,8 +8319,8 @@ TK_NOINLINE tk_guess tk_guess_after_u32(tk_slice_u32 numbers, size_t used, tk_by
     size_t digits_and_ends = tk_size_saturating_sub(used, minuses);
     size_t each = digits_and_ends / count;
     size_t at_2 = tk_size_saturating_add(tk_sign_len(false, rest), tk_size_saturating_sub(each, 2));
-    bool has_return = is_lines
-        && (at_2 <= rest.len && tk_bytes_from(rest, at_2).len >= 1 && tk_bytes_from(rest, at_2).at[0] == '\r');
+    bool has_return = is_lines && at_2 <= rest.len && tk_bytes_from(rest, at_2).len >= 1
+        && tk_bytes_from(rest, at_2).at[0] == '\r';
     size_t found = digits_and_ends % count;
     size_t width = found == 0 ? tk_size_saturating_sub(each, 1 + TK_CAST(size_t, has_return)) : 0;
     return tk_new_guess(width, has_return, used / 11 < count / 4, minuses > count / 8);
@@ -8576,8 +8576,8 @@ TK_NOINLINE tk_guess tk_guess_after_i64(tk_slice_i64 numbers, size_t used, tk_by
     size_t digits_and_ends = tk_size_saturating_sub(used, minuses);
     size_t each = digits_and_ends / count;
     size_t at_2 = tk_size_saturating_add(tk_sign_len(true, rest), tk_size_saturating_sub(each, 2));
-    bool has_return = is_lines
-        && (at_2 <= rest.len && tk_bytes_from(rest, at_2).len >= 1 && tk_bytes_from(rest, at_2).at[0] == '\r');
+    bool has_return = is_lines && at_2 <= rest.len && tk_bytes_from(rest, at_2).len >= 1
+        && tk_bytes_from(rest, at_2).at[0] == '\r';
     size_t found = digits_and_ends % count;
     size_t width = found == 0 ? tk_size_saturating_sub(each, 1 + TK_CAST(size_t, has_return)) : 0;
     return tk_new_guess(width, has_return, used / 11 < count / 4, minuses > count / 8);
@@ -8830,8 +8830,8 @@ TK_NOINLINE tk_guess tk_guess_after_u64(tk_slice_u64 numbers, size_t used, tk_by
     size_t digits_and_ends = tk_size_saturating_sub(used, minuses);
     size_t each = digits_and_ends / count;
     size_t at_2 = tk_size_saturating_add(tk_sign_len(false, rest), tk_size_saturating_sub(each, 2));
-    bool has_return = is_lines
-        && (at_2 <= rest.len && tk_bytes_from(rest, at_2).len >= 1 && tk_bytes_from(rest, at_2).at[0] == '\r');
+    bool has_return = is_lines && at_2 <= rest.len && tk_bytes_from(rest, at_2).len >= 1
+        && tk_bytes_from(rest, at_2).at[0] == '\r';
     size_t found = digits_and_ends % count;
     size_t width = found == 0 ? tk_size_saturating_sub(each, 1 + TK_CAST(size_t, has_return)) : 0;
     return tk_new_guess(width, has_return, used / 11 < count / 4, minuses > count / 8);
@@ -9092,8 +9092,8 @@ TK_NOINLINE tk_guess tk_guess_after_i128(tk_slice_i128 numbers, size_t used, tk_
     size_t digits_and_ends = tk_size_saturating_sub(used, minuses);
     size_t each = digits_and_ends / count;
     size_t at_2 = tk_size_saturating_add(tk_sign_len(true, rest), tk_size_saturating_sub(each, 2));
-    bool has_return = is_lines
-        && (at_2 <= rest.len && tk_bytes_from(rest, at_2).len >= 1 && tk_bytes_from(rest, at_2).at[0] == '\r');
+    bool has_return = is_lines && at_2 <= rest.len && tk_bytes_from(rest, at_2).len >= 1
+        && tk_bytes_from(rest, at_2).at[0] == '\r';
     size_t found = digits_and_ends % count;
     size_t width = found == 0 ? tk_size_saturating_sub(each, 1 + TK_CAST(size_t, has_return)) : 0;
     return tk_new_guess(width, has_return, used / 11 < count / 4, minuses > count / 8);
@@ -9351,8 +9351,8 @@ TK_NOINLINE tk_guess tk_guess_after_u128(tk_slice_u128 numbers, size_t used, tk_
     size_t digits_and_ends = tk_size_saturating_sub(used, minuses);
     size_t each = digits_and_ends / count;
     size_t at_2 = tk_size_saturating_add(tk_sign_len(false, rest), tk_size_saturating_sub(each, 2));
-    bool has_return = is_lines
-        && (at_2 <= rest.len && tk_bytes_from(rest, at_2).len >= 1 && tk_bytes_from(rest, at_2).at[0] == '\r');
+    bool has_return = is_lines && at_2 <= rest.len && tk_bytes_from(rest, at_2).len >= 1
+        && tk_bytes_from(rest, at_2).at[0] == '\r';
     size_t found = digits_and_ends % count;
     size_t width = found == 0 ? tk_size_saturating_sub(each, 1 + TK_CAST(size_t, has_return)) : 0;
     return tk_new_guess(width, has_return, used / 11 < count / 4, minuses > count / 8);

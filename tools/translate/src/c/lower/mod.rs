@@ -172,6 +172,11 @@ impl<'w, 'i> Lowering<'w, 'i> {
         let decides = |it: &Term| it.kind == Kind::Boolean(operator == "||");
         let is_neutral = |it: &Term| it.kind == Kind::Boolean(operator == "&&");
         match operator {
+            // Conditions in a row need no parentheses.
+            "&&" | "||" if right.kind == Kind::Binary(operator) => {
+                let conditions = right.parts.into_iter();
+                return conditions.fold(left, |left, right| self.test(operator, left, right));
+            }
             "&&" | "||" if decides(&left) || is_neutral(&right) => return left,
             "&&" | "||" if is_neutral(&left) || decides(&right) && !left.has_effect() => {
                 return right;

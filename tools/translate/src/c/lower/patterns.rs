@@ -17,105 +17,73 @@ pub struct Fit {
 
 impl Lowering<'_, '_> {
     /// Returns when a value fits a pattern.
-    pub fn matched(&mut self, pattern: &Node, value: &Term) -> Done<Fit> {
-        let mut fit = self.always();
-        self.fit(pattern, value, &mut fit)?;
+    pub fn fit(&mut self, pattern: &Node, value: &Term) -> Done<Fit> {
+        self.at = pattern.span;
+        let parts = pattern.parts.as_slice();
+        let (patterns, (test, values)) = match (pattern.kind, parts) {
+            ("binding", _) => {
+                let inner = inner(pattern);
+                (inner, (self.boolean(true), vec![value.clone(); inner.len()]))
+            }
+            ("tuple", _) => (parts, self.parts(value, PLAIN)?),
+            ("list", _) => (parts, self.elements(parts, value)?),
+            ("path", _) => (&[][..], self.variant(pattern, value)?),
+            ("call", [path, fields @ ..]) => (fields, self.variant(path, value)?),
+            _ => (&[][..], (self.test_of(pattern, value)?, Vec::new())),
+        };
+        self.require(patterns.len() == values.len(), "a pattern with another number of parts")?;
+        let mut fit = Fit { test, bindings: Vec::new() };
+        for (pattern, value) in patterns.iter().zip(&values) {
+            let inner = self.fit(pattern, value)?;
+            fit.test = self.test("&&", fit.test, inner.test);
+            fit.bindings.extend(inner.bindings);
+        }
+        if pattern.kind == "binding" {
+            fit.bindings.push((pattern.name().into(), pattern.has("mutable"), value.clone()));
+        }
         Ok(fit)
     }
 
-    /// Returns what everything fits.
-    pub fn always(&self) -> Fit {
-        Fit { test: self.boolean(true), bindings: Vec::new() }
-    }
-
-    // Adds a condition.
-    fn also(&self, test: Term, fit: &mut Fit) {
-        fit.test = self.test("&&", fit.test.clone(), test);
-    }
-
-    fn fit(&mut self, pattern: &Node, value: &Term, fit: &mut Fit) -> Done<()> {
-        self.at = pattern.span;
-        let parts = pattern.parts.as_slice();
-        match (pattern.kind, parts) {
-            ("wildcard" | "rest", _) => {}
-            ("binding", _) => {
-                inner(pattern).iter().try_for_each(|inner| self.fit(inner, value, fit))?;
-                let is_mutable = pattern.has("mutable");
-                fit.bindings.push((pattern.name().into(), is_mutable, value.clone()));
+    // Returns when a value fits a pattern that has no parts.
+    fn test_of(&mut self, pattern: &Node, value: &Term) -> Done<Term> {
+        match (pattern.kind, pattern.parts.as_slice()) {
+            ("wildcard" | "rest", _) => Ok(self.boolean(true)),
+            ("boolean", _) if pattern.text == "true" => Ok(value.clone()),
+            ("boolean", _) => Ok(value.clone().negated()),
+            ("integer" | "byte", _) => {
+                let literal = self.term(pattern, &value.of)?;
+                Ok(self.test("==", value.clone(), literal))
             }
-            ("boolean", _) if pattern.text == "true" => self.also(value.clone(), fit),
-            ("boolean", _) => self.also(value.clone().negated(), fit),
             ("range", [low, high]) => {
-                let (low, high) = (self.like(low, value)?, self.like(high, value)?);
+                let (low, high) = (self.term(low, &value.of)?, self.term(high, &value.of)?);
+                let is_below = self.test("<=", value.clone(), high);
                 // No number is below the first 0, and compilers warn of such a test.
-                if low.number() != Some(0) {
-                    self.also(self.test("<=", low, value.clone()), fit);
+                if low.number() == Some(0) {
+                    return Ok(is_below);
                 }
-                self.also(self.test("<=", value.clone(), high), fit);
+                Ok(self.test("&&", self.test("<=", low, value.clone()), is_below))
             }
-            ("tuple", _) => {
-                let fields = self.parts(value, PLAIN)?;
-                self.fit_all(parts, fields, fit)?;
-            }
-            ("list", _) => {
-                let elements = self.elements(parts, value)?;
-                self.fit_all(parts, elements, fit)?;
-            }
-            ("path", _) => self.fit_variant(pattern, &[], value, fit)?,
-            ("call", [path, fields @ ..]) => self.fit_variant(path, fields, value, fit)?,
-            ("either", _) => {
+            ("either", patterns) => {
                 let mut test = self.boolean(false);
-                for pattern in parts {
-                    let own = self.matched(pattern, value)?;
-                    self.require(own.bindings.is_empty(), "alternatives that bind names")?;
-                    test = self.test("||", test, own.test);
+                for pattern in patterns {
+                    let fit = self.fit(pattern, value)?;
+                    self.require(fit.bindings.is_empty(), "alternatives that bind names")?;
+                    test = self.test("||", test, fit.test);
                 }
-                self.also(test, fit);
+                Ok(test)
             }
-            _ => {
-                let number = self.like(pattern, value)?;
-                self.also(self.test("==", value.clone(), number), fit);
-            }
+            _ => self.refuse("this pattern has no rule"),
         }
-        Ok(())
     }
 
-    fn fit_variant(
-        &mut self,
-        path: &Node,
-        patterns: &[Node],
-        value: &Term,
-        fit: &mut Fit,
-    ) -> Done<()> {
+    // Returns whether a value is of the variant that a path names, and its fields then.
+    fn variant(&mut self, path: &Node, value: &Term) -> Done<(Term, Vec<Term>)> {
         let Named::Variant(of, variant) = self.named(path)? else {
             return self.refuse("this pattern has no rule");
         };
         let value = self.followed(value.clone());
         self.unify(&of, &value.of)?;
-        let fields = self.parts(&value, variant)?;
-        self.fit_all(patterns, fields, fit)
-    }
-
-    // Returns a literal of the type of a value.
-    fn like(&mut self, literal: &Node, value: &Term) -> Done<Term> {
-        let Some(term) = self.literal(literal) else {
-            return self.refuse("this pattern has no rule");
-        };
-        self.unify(&value.of, &term.of)?;
-        Ok(term)
-    }
-
-    // The same for parts of a value, behind a test.
-    fn fit_all(
-        &mut self,
-        patterns: &[Node],
-        (test, parts): (Term, Vec<Term>),
-        fit: &mut Fit,
-    ) -> Done<()> {
-        self.require(patterns.len() == parts.len(), "a pattern with another number of parts")?;
-        self.also(test, fit);
-        let mut pairs = patterns.iter().zip(&parts);
-        pairs.try_for_each(|(pattern, part)| self.fit(pattern, part, fit))
+        self.parts(&value, variant)
     }
 
     // Returns whether a slice is as long as its patterns ask, and what each of them is for.
@@ -186,7 +154,7 @@ impl Lowering<'_, '_> {
         }
         let is_name = pattern.kind == "binding" && inner(pattern).is_empty();
         let value = if is_name { value } else { self.keep(value, "found") };
-        let fit = self.matched(pattern, &value)?;
+        let fit = self.fit(pattern, &value)?;
         match otherwise {
             Some(block) => {
                 let (leaving, _) = self.apart(|it| it.evaluate(block, Target::Nothing))?;

@@ -150,11 +150,12 @@ impl Lowering<'_, '_> {
     fn if_else(&mut self, parts: &[Node], target: Target) -> Done<Term> {
         let fit = match (parts[0].kind, parts[0].parts.as_slice()) {
             ("let", [pattern, value]) => self.fits(value, pattern)?,
-            _ => Fit { test: self.term(&parts[0], &Type::Boolean)?, ..self.always() },
+            _ => Fit { test: self.term(&parts[0], &Type::Boolean)?, bindings: Vec::new() },
         };
         let mut branches = vec![self.branch(fit, None, &parts[1], target)?];
         if let Some(otherwise) = parts.get(2) {
-            branches.push(self.branch(self.always(), None, otherwise, target)?);
+            let fit = Fit { test: self.boolean(true), bindings: Vec::new() };
+            branches.push(self.branch(fit, None, otherwise, target)?);
         }
         self.join(branches, target)
     }
@@ -179,7 +180,7 @@ impl Lowering<'_, '_> {
     /// Returns when a value fits a pattern.
     pub fn fits(&mut self, value: &Node, pattern: &Node) -> Done<Fit> {
         let found = self.found(value)?;
-        self.matched(pattern, &found)
+        self.fit(pattern, &found)
     }
 
     fn found(&mut self, value: &Node) -> Done<Term> {
@@ -192,7 +193,7 @@ impl Lowering<'_, '_> {
         let mut branches = Vec::new();
         for (number, arm) in arms.iter().enumerate() {
             let comments = arm.get("comments");
-            let mut fit = self.matched(&arm.parts[usize::from(comments.is_some())], &found)?;
+            let mut fit = self.fit(&arm.parts[usize::from(comments.is_some())], &found)?;
             if let Some(guard) = arm.get("guard") {
                 let guard = self.alone("a guard", |it| {
                     it.bind_all(fit.bindings.clone(), |_, _| true);
