@@ -77,7 +77,7 @@ impl Lowering<'_, '_> {
     pub fn constant_of(&mut self, owner: &Type, name: &str) -> Done<Term> {
         let found = self.world.member(&owner.with(&self.open), name);
         let found = found.filter(|it| self.world.item(it.id).kind == "constant");
-        let Some(Callee { id, .. }) = found else { return self.refuse("this name has no rule") };
+        let id = self.expect(found, "this name has no rule")?.id;
         let constant = super::constant(self.world, id)?;
         let Type::Parameter(parameter) = owner else {
             return Ok(Term { span: self.at, ..constant });
@@ -116,18 +116,17 @@ impl Lowering<'_, '_> {
                 return Ok(self.make(Kind::Make(variant), terms, of));
             }
             Named::Member(owner, name) => self.member(&owner, name)?,
-            Named::Item(id) => Some(Callee { id, bindings: Bindings::new() }),
-            Named::Unknown => None,
+            Named::Item(id) => Callee { id, bindings: Bindings::new() },
+            Named::Unknown => return self.refuse("this function has no rule"),
         };
-        let Some(callee) = callee else { return self.refuse("this function has no rule") };
         self.call_of(callee, path.last().last(), None, arguments)
     }
 
-    // Finds a member of a type, which matters then.
-    fn member(&mut self, of: &Type, name: &str) -> Done<Option<Callee>> {
+    /// Finds a function of a type, which matters then.
+    pub fn member(&mut self, of: &Type, name: &str) -> Done<Callee> {
         match self.full(of) {
             Type::Parameter(name) => self.need(&name),
-            of => Ok(self.world.member(&of, name)),
+            of => self.expect(self.world.member(&of, name), "this function has no rule"),
         }
     }
 
@@ -150,7 +149,8 @@ impl Lowering<'_, '_> {
         Ok(constants)
     }
 
-    fn call_of(
+    /// Evaluates a call of a function.
+    pub fn call_of(
         &mut self,
         mut callee: Callee,
         generics: &Node,
@@ -168,14 +168,5 @@ impl Lowering<'_, '_> {
         let term = self.make(Kind::Call(callee), terms, of);
         let is_law = term.of == Type::UNIT && !term.has_effect();
         Ok(if is_law { self.unit() } else { term })
-    }
-
-    /// Evaluates a call of a method of a struct, an enum or a parameter.
-    pub fn method_of_item(&mut self, receiver: Term, call: &Node) -> Done<Term> {
-        let of = self.followed(receiver.clone()).of;
-        match self.member(&of, call.name())? {
-            Some(callee) => self.call_of(callee, &call.parts[2], Some(receiver), &call.parts[3..]),
-            None => self.refuse("this method has no rule"),
-        }
     }
 }

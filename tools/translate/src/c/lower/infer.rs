@@ -56,13 +56,6 @@ impl Lowering<'_, '_> {
         let (of, wanted) = (self.known(&term.of), self.known(wanted));
         let target = self.known(of.target());
         match (&target, &wanted) {
-            (_, Type::Of(Form::Tuple, types))
-                if term.is_tuple() && term.parts.len() == types.len() =>
-            {
-                let parts = term.parts.into_iter().zip(types).map(|(it, of)| self.coerce(it, of));
-                let parts = parts.collect::<Done<_>>()?;
-                Ok(self.tuple_of(parts))
-            }
             (Type::Of(Form::Array { .. }, own), Type::Of(Form::Slice { is_mutable }, parts))
                 if *is_mutable == of.can_write() =>
             {

@@ -41,7 +41,8 @@ impl Lowering<'_, '_> {
             _ => false,
         };
         if is_own {
-            return self.method_of_item(receiver, call);
+            let callee = self.member(&of, name)?;
+            return self.call_of(callee, generics, Some(receiver), arguments);
         }
         let terms = self.operands(Some(target), arguments)?;
         let count = generics.parts.iter().find(|it| it.kind == "integer");
@@ -131,7 +132,7 @@ impl Lowering<'_, '_> {
             let test = it.term(&parts[1], &Type::Boolean)?;
             it.push_if(test.negated(), vec![otherwise]);
             it.advance(count.clone());
-            Ok(())
+            Ok(it.unit())
         })?;
         Ok(count)
     }

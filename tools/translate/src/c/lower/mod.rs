@@ -68,7 +68,7 @@ pub fn constant(world: &World, id: Id) -> Done<Term> {
         return lowering.refuse("no constant with a value");
     };
     let of = world.type_in(&lowering.place, annotation)?;
-    let mut term = lowering.alone("a constant", |it| it.term(value.last(), &of))?;
+    let mut term = lowering.alone("a constant", value.last(), &of)?;
     term.each(&mut |it| lowering.settle(it))?;
     Ok(term)
 }
@@ -142,6 +142,11 @@ impl<'w, 'i> Lowering<'w, 'i> {
     fn refuse<T>(&self, reason: impl std::fmt::Display) -> Done<T> {
         let source = &self.world.package.modules[self.place.module].source;
         Err(source.fault(self.at, format!("C: {reason}")))
+    }
+
+    // Returns what is there, or refuses.
+    fn expect<R>(&self, found: Option<R>, reason: &str) -> Done<R> {
+        found.map_or_else(|| self.refuse(reason), Ok)
     }
 
     fn require(&self, condition: bool, reason: &str) -> Done<()> {
@@ -231,12 +236,11 @@ impl<'w, 'i> Lowering<'w, 'i> {
         Ok((std::mem::replace(&mut self.statements, before), made?))
     }
 
-    // The same for a term that must need no statements.
-    fn alone(&mut self, what: &str, make: impl FnOnce(&mut Self) -> Done<Term>) -> Done<Term> {
-        match self.apart(make)? {
-            (statements, term) if statements.is_empty() => Ok(term),
-            _ => self.refuse(format!("statements in {what}")),
-        }
+    // Evaluates an expression that must need no statements.
+    fn alone(&mut self, what: &str, expression: &Node, of: &Type) -> Done<Term> {
+        let (statements, term) = self.apart(|it| it.term(expression, of))?;
+        self.require(statements.is_empty(), &format!("statements in {what}"))?;
+        Ok(term)
     }
 
     // Nothing follows a statement that leaves.

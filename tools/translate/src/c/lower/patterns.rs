@@ -113,11 +113,8 @@ impl Lowering<'_, '_> {
 
     /// Returns the fields of a variant of a type.
     pub fn fields_of(&self, of: &Type, variant: usize) -> Done<Vec<(String, Type)>> {
-        let mut variants = self.world.variants(&self.known(of))?;
-        match variant < variants.len() {
-            true => Ok(variants.swap_remove(variant).fields),
-            false => self.refuse("this type has no such fields"),
-        }
+        let variant = self.world.variants(&self.known(of))?.into_iter().nth(variant);
+        Ok(self.expect(variant, "this type has no such fields")?.fields)
     }
 
     /// Returns whether a value is of a variant, and its fields then.

@@ -26,23 +26,25 @@ impl Lowering<'_, '_> {
                 self.evaluate(value, Target::Return)?;
             }
             ("break", _) => self.push(Statement::Break),
-            ("comments", _) => self.comment(tree),
+            ("comments", _) => {
+                let lines = tree.comments().into_iter().map(String::from);
+                self.push(Statement::Comment(lines.collect()));
+            }
             ("done", _) => {}
             ("let", [pattern, parts @ ..]) => self.let_statement(pattern, parts)?,
             ("while" | "loop", [condition @ .., body]) => {
-                let condition = match condition.first() {
-                    Some(condition) => self.alone("the condition of a loop", |it| {
-                        it.term(condition, &Type::Boolean)
-                    })?,
-                    None => self.boolean(true),
+                let condition = match condition {
+                    [condition] => {
+                        self.alone("the condition of a loop", condition, &Type::Boolean)?
+                    }
+                    _ => self.boolean(true),
                 };
                 let (body, _) = self.apart(|it| it.evaluate(body, Target::Nothing))?;
                 self.push(Statement::While { condition, body });
             }
-            ("for", [pattern, slice, body]) => self.walk(pattern, slice, |it| {
-                it.evaluate(body, Target::Nothing)?;
-                Ok(())
-            })?,
+            ("for", [pattern, slice, body]) => {
+                self.walk(pattern, slice, |it| it.evaluate(body, Target::Nothing))?;
+            }
             ("assign", [place, sign, value]) => self.assign(sign.text == "+=", place, value)?,
             _ => {
                 value = self.value(tree)?;
@@ -56,11 +58,6 @@ impl Lowering<'_, '_> {
         }
         self.at = before;
         Ok(value)
-    }
-
-    fn comment(&mut self, comments: &Node) {
-        let lines = comments.comments().into_iter().map(String::from);
-        self.push(Statement::Comment(lines.collect()));
     }
 
     /// Puts a block into the current statements, with its value at the target.
@@ -97,14 +94,14 @@ impl Lowering<'_, '_> {
         &mut self,
         pattern: &Node,
         slice: &Node,
-        make: impl FnOnce(&mut Self) -> Done<()>,
+        make: impl FnOnce(&mut Self) -> Done<Term>,
     ) -> Done<()> {
         let slice = self.any(slice)?;
         let slice = self.keep(slice, "all");
         self.require(self.known(&slice.of).is_slice(), "a loop over this has no rule")?;
         let at = self.hold(self.size(0), "at", true);
         let condition = self.test("<", at.clone(), self.length(&slice));
-        let (body, ()) = self.apart(|it| {
+        let (body, _) = self.apart(|it| {
             let element = it.element(slice, at.clone(), Kind::Element)?;
             it.destructure(pattern, element, None)?;
             it.advance(at);
@@ -122,7 +119,8 @@ impl Lowering<'_, '_> {
 
     // Puts an assignment into the current statements.
     fn assign(&mut self, is_sum: bool, place: &Node, value: &Node) -> Done<()> {
-        let place = self.alone("a place", |it| it.any(place))?;
+        let of = self.fresh(false);
+        let place = self.alone("a place", place, &of)?;
         let mut value = self.term(value, &place.of)?;
         // The value comes first, also where C leaves the order open.
         let is_simple = !is_sum && matches!(place.kind, Kind::Local(_));
@@ -171,7 +169,9 @@ impl Lowering<'_, '_> {
     ) -> Done<Branch> {
         let (statements, value) = self.apart(|it| {
             it.bind_all(bindings, |it, part| target == Target::Value && it.is_constant(part));
-            comments.into_iter().for_each(|comments| it.comment(comments));
+            if let Some(comments) = comments {
+                it.evaluate(comments, Target::Nothing)?;
+            }
             it.evaluate(body, target)
         })?;
         Ok(Branch { test, statements, value })
@@ -195,10 +195,10 @@ impl Lowering<'_, '_> {
             let comments = arm.get("comments");
             let mut fit = self.fit(&arm.parts[usize::from(comments.is_some())], &found)?;
             if let Some(guard) = arm.get("guard") {
-                let guard = self.alone("a guard", |it| {
-                    it.bind_all(fit.bindings.clone(), |_, _| true);
-                    it.term(guard.last(), &Type::Boolean)
-                })?;
+                let names = self.names.len();
+                self.bind_all(fit.bindings.clone(), |_, _| true);
+                let guard = self.alone("a guard", guard.last(), &Type::Boolean)?;
+                self.names.truncate(names);
                 fit.test = self.test("&&", fit.test, guard);
             } else if number + 1 == arms.len() {
                 // All values that are left fit.
@@ -237,7 +237,7 @@ impl Lowering<'_, '_> {
             let choice = values.reduce(|(always, other), (test, value)| {
                 (always, self.make(Kind::Choice, vec![test, value, other], of.clone()))
             });
-            return choice.map_or_else(|| self.refuse("no value"), |(_, choice)| Ok(choice));
+            return self.expect(choice.map(|(_, choice)| choice), "no value");
         }
         let local = self.variable("chosen", of.clone(), false);
         self.push(Statement::Declare { local, value: None });

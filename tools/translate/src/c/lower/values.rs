@@ -15,34 +15,31 @@ impl Lowering<'_, '_> {
             ("method", _) => self.method(tree),
             ("binary", [first, sign, second]) if ["&&", "||"].contains(&sign.text.as_str()) => {
                 let first = self.term(first, &Type::Boolean)?;
-                let second =
-                    self.alone("what may not run", |it| it.term(second, &Type::Boolean))?;
+                let second = self.alone("what may not run", second, &Type::Boolean)?;
                 Ok(self.test(operator(sign), first, second))
             }
             ("try", [value]) => self.question(value),
             ("matches", [value, pattern]) => Ok(self.fits(value, pattern)?.test),
-            _ => match self.literal(tree) {
-                Some(literal) => Ok(literal),
-                None => self.operation(tree),
-            },
+            ("boolean" | "byte" | "text" | "integer", _) => Ok(self.literal(tree)),
+            _ => self.operation(tree),
         }
     }
 
-    /// Returns the value of a literal.
-    pub fn literal(&mut self, tree: &Node) -> Option<Term> {
-        let text = tree.text.as_str();
+    // Returns the value of a literal, which the parser has checked.
+    fn literal(&mut self, tree: &Node) -> Term {
+        let (text, bytes) = (tree.text.as_str(), bytes(&tree.text).unwrap_or_default());
         let (kind, of) = match tree.kind {
             "boolean" => (Kind::Boolean(text == "true"), Type::Boolean),
-            "byte" => (Kind::Byte(*bytes(text)?.first()?), Type::BYTE),
-            "text" => (Kind::Text(bytes(text)?), Type::slice(Type::BYTE, false)),
-            "integer" => {
+            "byte" => (Kind::Byte(bytes[0]), Type::BYTE),
+            "text" => (Kind::Text(bytes), Type::slice(Type::BYTE, false)),
+            _ => {
                 let digits = text.strip_prefix("0x").unwrap_or_default();
                 let hexadecimal = digits.chars().filter(|it| *it != '_').count();
-                (Kind::Number { value: number(text)?, hexadecimal }, self.fresh(true))
+                let value = number(text).unwrap_or_default();
+                (Kind::Number { value, hexadecimal }, self.fresh(true))
             }
-            _ => return None,
         };
-        Some(self.make(kind, Vec::new(), of))
+        self.make(kind, Vec::new(), of)
     }
 
     // Evaluates an expression that is made of the values of its parts.
@@ -50,7 +47,8 @@ impl Lowering<'_, '_> {
         match (tree.kind, tree.parts.as_slice()) {
             ("tuple", parts) => {
                 let terms = self.operands(None, parts)?;
-                Ok(self.tuple_of(terms))
+                let of = Type::Of(Form::Tuple, terms.iter().map(|it| it.of.clone()).collect());
+                Ok(self.make(Kind::Make(PLAIN), terms, of))
             }
             ("list", parts) => self.array(parts),
             ("struct", [path, fields @ ..]) => self.structure(path, fields),
@@ -59,10 +57,8 @@ impl Lowering<'_, '_> {
             ("binary", [left, sign, right]) => self.binary(operator(sign), [left, right]),
             ("cast", [value, name]) => {
                 let value = self.any(value)?;
-                match integer(&name.text) {
-                    Some(of) => Ok(self.make(Kind::Cast, vec![value], of)),
-                    None => self.refuse("this type has no rule"),
-                }
+                let of = self.expect(integer(&name.text), "this type has no rule")?;
+                Ok(self.make(Kind::Cast, vec![value], of))
             }
             ("member_of", [receiver, name]) => self.field(receiver, &name.text),
             ("index", parts) => {
@@ -78,11 +74,6 @@ impl Lowering<'_, '_> {
             }
             _ => self.refuse("this form has no rule"),
         }
-    }
-
-    pub fn tuple_of(&self, parts: Vec<Term>) -> Term {
-        let of = Type::Of(Form::Tuple, parts.iter().map(|it| it.of.clone()).collect());
-        self.make(Kind::Make(PLAIN), parts, of)
     }
 
     fn array(&mut self, parts: &[Node]) -> Done<Term> {
@@ -156,31 +147,34 @@ impl Lowering<'_, '_> {
     }
 
     // Makes a struct of the values of fields, and maybe of a base that gives the others.
-    fn structure(&mut self, path: &Node, given: &[Node]) -> Done<Term> {
+    fn structure<'t>(&mut self, path: &Node, given: &'t [Node]) -> Done<Term> {
         let of = self.named_type(&path.parts)?;
         let fields = self.fields_of(&of, PLAIN)?;
         let named = given.iter().filter(|it| it.kind == "given");
-        let names: Vec<&str> = named.map(name_of_field).collect();
-        if !names.iter().all(|name| fields.iter().any(|(own, _)| own == name)) {
-            return self.refuse("no such field");
-        }
+        // A variable may have the name of the field.
+        let name =
+            |it: &'t Node| if it.parts.len() == 1 { it.last().names()[0] } else { it.name() };
+        let names: Vec<&str> = named.map(name).collect();
+        let is_field = |name: &&str| fields.iter().any(|(own, _)| own == name);
+        self.require(names.iter().all(is_field), "no such field")?;
         let values = given.iter().map(|it| if it.kind == "given" { it.last() } else { it });
         let mut terms = self.operands(None, values)?;
-        let base = match terms.drain(names.len()..).next() {
-            Some(Term { kind: Kind::Constant(id), .. }) => Some(super::constant(self.world, id)?),
-            base => base.map(|base| self.keep(base, "base")),
+        let base = match terms.split_off(names.len()).pop() {
+            None => Vec::new(),
+            Some(Term { kind: Kind::Constant(id), .. }) => super::constant(self.world, id)?.parts,
+            Some(base) => {
+                let base = self.keep(base, "base");
+                self.parts(&base, PLAIN)?.1
+            }
         };
-        let mut all = Vec::new();
-        for (number, (name, of)) in fields.into_iter().enumerate() {
-            let given = names.iter().position(|given| *given == name);
-            all.push(match (given, &base) {
-                (Some(at), _) => self.coerce(terms[at].clone(), &of)?,
-                (None, Some(base)) if base.kind == Kind::Make(PLAIN) => base.parts[number].clone(),
-                (None, Some(base)) => self.make(Kind::Field(PLAIN, number), vec![base.clone()], of),
-                (None, None) => return self.refuse("a field without a value"),
+        let mut parts = Vec::new();
+        for (number, (name, of)) in fields.iter().enumerate() {
+            parts.push(match names.iter().position(|given| given == name) {
+                Some(at) => self.coerce(terms[at].clone(), of)?,
+                None => self.expect(base.get(number).cloned(), "a field without a value")?,
             });
         }
-        Ok(self.make(Kind::Make(PLAIN), all, of))
+        Ok(self.make(Kind::Make(PLAIN), parts, of))
     }
 
     fn negation(&mut self, sign: &str, operand: &Node) -> Done<Term> {
@@ -227,9 +221,8 @@ impl Lowering<'_, '_> {
         let receiver = self.any(receiver)?;
         let receiver = self.followed(receiver);
         let fields = self.fields_of(&receiver.of, PLAIN)?;
-        let Some(place) = fields.iter().position(|(own, _)| own == name) else {
-            return self.refuse("no such field");
-        };
+        let place = fields.iter().position(|(own, _)| own == name);
+        let place = self.expect(place, "no such field")?;
         Ok(self.make(Kind::Field(PLAIN, place), vec![receiver], fields[place].1.clone()))
     }
 
@@ -247,9 +240,7 @@ impl Lowering<'_, '_> {
     /// Returns a part of a slice, by a function and its arguments.
     pub fn part(&mut self, name: &'static str, terms: Vec<Term>) -> Done<Term> {
         let of = self.known(&terms[0].of);
-        if !of.is_slice() {
-            return self.refuse("a part of what is no slice");
-        }
+        self.require(of.is_slice(), "a part of what is no slice")?;
         Ok(self.make(Kind::Part(name), terms, of))
     }
 
@@ -266,9 +257,4 @@ impl Lowering<'_, '_> {
         };
         self.defined(&["found"], vec![found], block)
     }
-}
-
-// The name of a field that is given a value, which may be that of a variable.
-fn name_of_field(given: &Node) -> &str {
-    if given.parts.len() == 1 { given.last().names()[0] } else { given.name() }
 }
