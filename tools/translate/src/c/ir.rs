@@ -4,7 +4,6 @@
 pub use crate::resolve::Id;
 pub use crate::source::Done;
 use crate::source::Span;
-use crate::tree::is_comparison;
 use std::collections::BTreeMap;
 
 /// A type of integers, by its name in Rust.
@@ -136,6 +135,9 @@ pub const SOME: usize = 0;
 pub const NONE: usize = 1;
 pub const OK: usize = 0;
 pub const ERR: usize = 1;
+
+/// Comparisons of which one holds.
+const OPPOSITES: [[&str; 2]; 3] = [["==", "!="], ["<", ">="], [">", "<="]];
 
 impl Integer {
     pub fn bits(self) -> u32 {
@@ -314,22 +316,15 @@ impl Term {
     /// Returns the opposite of a condition.
     pub fn negated(mut self) -> Term {
         let span = self.span;
-        self.kind = match self.kind {
-            Kind::Boolean(value) => Kind::Boolean(!value),
-            Kind::Binary(operator) if is_comparison(operator) => Kind::Binary(opposite(operator)),
+        let is_one =
+            |pair: &&[&'static str; 2]| pair.iter().any(|it| self.kind == Kind::Binary(it));
+        self.kind = match (&self.kind, OPPOSITES.iter().find(is_one)) {
+            (Kind::Boolean(value), _) => Kind::Boolean(!value),
+            (Kind::Binary(sign), Some([one, other])) => {
+                Kind::Binary(if sign == one { other } else { one })
+            }
             _ => return Term { kind: Kind::Not, parts: vec![self], of: Type::Boolean, span },
         };
         self
-    }
-}
-
-fn opposite(comparison: &str) -> &'static str {
-    match comparison {
-        "==" => "!=",
-        "!=" => "==",
-        "<" => ">=",
-        ">=" => "<",
-        ">" => "<=",
-        _ => ">",
     }
 }

@@ -23,21 +23,14 @@ type Member = (String, Type);
 // The names of the fields of tuples.
 const ORDINALS: [&str; 2] = ["first", "second"];
 
-// The names of types that are shorter in C.
-const RENAMED: [(&str, &str); 1] = [("AtoiSimdError", "error")];
-
 /// Returns a name for a type that can be part of other names.
 pub fn short(world: &World, of: &Type) -> String {
-    match of {
-        Type::Integer(integer) => integer.name().into(),
-        Type::Boolean => "bool".into(),
-        Type::Of(form, parts) => short_of(world, *form, parts),
-        _ => "unknown".into(),
-    }
-}
-
-fn short_of(world: &World, form: Form, parts: &[Type]) -> String {
-    let parts = parts.iter().filter(|part| !world.is_zero(part));
+    let (form, parts) = match of {
+        Type::Integer(integer) => return integer.name().into(),
+        Type::Boolean => return "bool".into(),
+        Type::Of(form, parts) => (form, parts.iter().filter(|part| !world.is_zero(part))),
+        _ => return "unknown".into(),
+    };
     let names: Vec<String> = parts.map(|it| short(world, it)).collect();
     let joined = names.join("_");
     match form {
@@ -49,11 +42,10 @@ fn short_of(world: &World, form: Form, parts: &[Type]) -> String {
         Form::Result => format!("result_{joined}"),
         Form::Tuple if names.len() == 2 => format!("pair_{joined}"),
         Form::Array { .. } | Form::Pointer | Form::Tuple => "unknown".into(),
-        Form::Item(id) => {
-            let name = world.name(id);
-            let renamed = RENAMED.iter().find(|(from, _)| *from == name);
-            renamed.map_or(text::snake(name), |(_, to)| to.to_string())
-        }
+        Form::Item(id) => match world.name(*id) {
+            "AtoiSimdError" => "error".into(),
+            name => text::snake(name),
+        },
     }
 }
 

@@ -59,7 +59,8 @@ impl Lowering<'_, '_> {
         }
         if let [owner, "MIN"] = names[..] {
             if let Some(Type::Integer(of)) = integer(owner).filter(|_| owner.starts_with('i')) {
-                return Ok(self.number(1 << (of.bits() - 1), Type::Integer(of)));
+                let least = self.size(1 << (of.bits() - 1));
+                return Ok(Term { of: Type::Integer(of), ..least });
             }
         }
         match self.named(path)? {

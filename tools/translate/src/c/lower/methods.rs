@@ -71,7 +71,7 @@ impl Lowering<'_, '_> {
                 Some(hint) if *name == "found" => self.keep(term, &format!("{hint}_found")),
                 _ => self.keep(term, name),
             };
-            self.name(name, kept);
+            self.names.push((name.to_string(), kept));
         }
         let value = self.block(&block, Target::Value);
         self.names.truncate(outer);
@@ -114,7 +114,7 @@ impl Lowering<'_, '_> {
         };
         let length = count.unwrap_or_default();
         let of = Type::array(Type::BYTE, length);
-        Ok(self.make(kind, vec![slice.clone(), self.number(length, Type::SIZE)], of))
+        Ok(self.make(kind, vec![slice.clone(), self.size(length)], of))
     }
 
     // `SLICE.iter().filter(..).count()` or with `take_while`, as a loop.

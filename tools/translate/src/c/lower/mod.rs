@@ -18,7 +18,7 @@ struct Lowering<'w, 'i> {
     world: &'w World<'w>,
     instances: &'i mut Instances<'w>,
     place: Place,
-    /// The types of the parameters that stand for themselves, in one call.
+    /// The types of all parameters in one call, also of those that stand for themselves.
     open: Bindings,
     /// Such a parameter whose type matters, if one is found.
     needed: Option<String>,
@@ -49,20 +49,19 @@ enum Target {
 /// Returns the typed form of a function for what some of its parameters stand for, if that is all that matters. The
 /// callee says what all of them are in one call.
 pub fn function(instances: &mut Instances, key: &Callee, callee: &Callee) -> Done<Attempt> {
-    let mut lowering = Lowering::new(instances, callee.id, &key.bindings)?;
-    lowering.open = callee.bindings.clone();
-    lowering.open.retain(|name, _| !key.bindings.contains_key(name));
+    let mut lowering = Lowering::new(instances, key, callee.bindings.clone())?;
     let made = lowering.function(key);
-    match (lowering.needed, made) {
-        (Some(name), _) => Ok(Attempt::Needs(name)),
-        (None, made) => made.map(Attempt::Made),
+    match lowering.needed {
+        Some(name) => Ok(Attempt::Needs(name)),
+        None => made.map(Attempt::Made),
     }
 }
 
 /// Returns the value of a constant.
 pub fn constant(world: &World, id: Id) -> Done<Term> {
     let mut instances = Instances::new(world);
-    let mut lowering = Lowering::new(&mut instances, id, &Bindings::new())?;
+    let key = Callee { id, bindings: Bindings::new() };
+    let mut lowering = Lowering::new(&mut instances, &key, Bindings::new())?;
     let ("constant", [.., annotation, value]) = (world.item(id).kind, &world.item(id).parts[..])
     else {
         return lowering.refuse("no constant with a value");
@@ -98,16 +97,16 @@ fn parameters(function: &Node) -> impl Iterator<Item = &Node> {
 }
 
 impl<'w, 'i> Lowering<'w, 'i> {
-    fn new(instances: &'i mut Instances<'w>, id: Id, known: &Bindings) -> Done<Self> {
+    fn new(instances: &'i mut Instances<'w>, key: &Callee, open: Bindings) -> Done<Self> {
         let world = instances.world;
         Ok(Lowering {
             world,
             instances,
-            place: world.place(id, known)?,
-            open: Bindings::new(),
+            place: world.place(key.id, &key.bindings)?,
+            open,
             needed: None,
             constants: BTreeMap::new(),
-            at: world.item(id).span,
+            at: world.item(key.id).span,
             variables: Vec::new(),
             locals: Vec::new(),
             names: Vec::new(),
@@ -120,19 +119,15 @@ impl<'w, 'i> Lowering<'w, 'i> {
     fn function(&mut self, key: &Callee) -> Done<super::ir::Function> {
         let world = self.world;
         let tree = world.item(key.id);
-        let Some(body) = tree.get("block") else {
-            return self.refuse("no function with a body");
-        };
+        let body = self.expect(tree.get("block"), "no function with a body")?;
         let (types, result) = signature(world, key)?;
-        if result == Type::UNIT {
-            return self.refuse("a function without a result");
-        }
+        self.require(result != Type::UNIT, "a function without a result")?;
         self.result = result;
         let mut locals = Vec::new();
         for (parameter, of) in parameters(tree).zip(types) {
             let is_mutable = parameter.has("mutable") && !parameter.has("shared");
             let local = self.variable(parameter.name(), of, is_mutable);
-            self.name(parameter.name(), self.local(local));
+            self.names.push((parameter.name().into(), self.local(local)));
             locals.push(local);
         }
         self.evaluate(body, Target::Return)?;
@@ -191,12 +186,8 @@ impl<'w, 'i> Lowering<'w, 'i> {
         self.make(Kind::Binary(operator), vec![left, right], Type::Boolean)
     }
 
-    fn number(&self, value: u128, of: Type) -> Term {
-        self.make(Kind::Number { value, hexadecimal: 0 }, Vec::new(), of)
-    }
-
-    fn size(&self, value: usize) -> Term {
-        self.number(value as u128, Type::SIZE)
+    fn size(&self, value: u128) -> Term {
+        self.make(Kind::Number { value, hexadecimal: 0 }, Vec::new(), Type::SIZE)
     }
 
     fn length(&self, slice: &Term) -> Term {
@@ -221,11 +212,6 @@ impl<'w, 'i> Lowering<'w, 'i> {
         let local = self.variable(name, value.of.clone(), is_mutable);
         self.push(Statement::Declare { local, value: Some(value) });
         self.local(local)
-    }
-
-    // Lets a name stand for a value in the current scope.
-    fn name(&mut self, name: &str, value: Term) {
-        self.names.push((name.to_string(), value));
     }
 
     // Makes something in a scope and a list of statements of its own.

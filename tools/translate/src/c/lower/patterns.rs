@@ -93,12 +93,12 @@ impl Lowering<'_, '_> {
         let count = patterns.len();
         let rest = patterns.iter().position(is_rest).unwrap_or(count);
         let (operator, fixed) = if rest < count { (">=", count - 1) } else { ("==", count) };
-        let test = self.test(operator, self.length(slice), self.size(fixed));
+        let test = self.test(operator, self.length(slice), self.size(fixed as u128));
         let mut parts = Vec::new();
         for at in 0..count {
-            let from = self.size(at);
+            let from = self.size(at as u128);
             let after = count - at - usize::from(at == rest);
-            let to = vec![self.length(slice), self.size(after)];
+            let to = vec![self.length(slice), self.size(after as u128)];
             let to = self.make(Kind::Binary("-"), to, Type::SIZE);
             parts.push(match at.cmp(&rest) {
                 Ordering::Less => self.element(slice.clone(), from, Kind::Element)?,
@@ -171,7 +171,7 @@ impl Lowering<'_, '_> {
         for (name, is_mutable, value) in bindings {
             let stands = may_stand(self, &value) && !is_mutable;
             let value = if stands { value } else { self.hold(value, &name, is_mutable) };
-            self.name(&name, value);
+            self.names.push((name, value));
         }
     }
 }

@@ -31,7 +31,7 @@ impl Lowering<'_, '_> {
                 self.push(Statement::Comment(lines.collect()));
             }
             ("done", _) => {}
-            ("let", [pattern, parts @ ..]) => self.let_statement(pattern, parts)?,
+            ("let", [pattern, ..]) => self.let_statement(tree, pattern)?,
             ("while" | "loop", [condition @ .., body]) => {
                 let condition = match condition {
                     [condition] => {
@@ -72,21 +72,18 @@ impl Lowering<'_, '_> {
         Ok(value)
     }
 
-    // Declares the variables of a pattern. Behind it stand the type, the value, and what is done with other values.
-    fn let_statement(&mut self, pattern: &Node, parts: &[Node]) -> Done<()> {
-        let annotation = parts.iter().find(|it| it.kind == "annotation");
-        let otherwise = parts.iter().find(|it| it.kind == "otherwise");
-        let of = match annotation {
-            Some(annotation) => self.world.type_in(&self.place, annotation.last())?,
-            None => self.fresh(false),
-        };
+    // Declares the variables of a pattern, of which the type may be written.
+    fn let_statement(&mut self, tree: &Node, pattern: &Node) -> Done<()> {
+        let annotation = tree.get("annotation");
+        let of = annotation.map(|it| self.world.type_in(&self.place, it.last())).transpose()?;
+        let of = of.unwrap_or_else(|| self.fresh(false));
         self.at = pattern.span;
         if pattern.kind == "binding" && inner(pattern).is_empty() {
             self.hint = Some(pattern.name().into());
         }
-        let found = self.term(&parts[usize::from(annotation.is_some())], &of)?;
+        let found = self.term(&tree.parts[1 + usize::from(annotation.is_some())], &of)?;
         self.hint = None;
-        self.destructure(pattern, found, otherwise.map(Node::last))
+        self.destructure(pattern, found, tree.get("otherwise").map(Node::last))
     }
 
     /// Walks over a slice: makes what is done with an element, which a pattern takes.
