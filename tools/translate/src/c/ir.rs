@@ -106,17 +106,13 @@ pub enum Kind {
     Not,
     // A function of the prelude, by its name behind that of the type of integers.
     Small(String),
-    Length,
     At,
     // An element of which it was tested that it is there.
     Element,
     // A part of a slice, by the name of the function that makes it.
     Part(&'static str),
-    // The first and the last bytes of a slice.
-    First,
+    // The last bytes of a slice.
     Last,
-    // The slice of an array.
-    OfArray,
     Cast,
     // A value by the number of its variant, and its fields.
     Make(usize),
@@ -135,6 +131,9 @@ pub const SOME: usize = 0;
 pub const NONE: usize = 1;
 pub const OK: usize = 0;
 pub const ERR: usize = 1;
+/// The fields of a slice.
+pub const BYTES: usize = 0;
+pub const LENGTH: usize = 1;
 
 /// Comparisons of which one holds.
 const OPPOSITES: [[&str; 2]; 3] = [["==", "!="], ["<", ">="], [">", "<="]];
@@ -295,7 +294,7 @@ impl Term {
         match self.kind {
             Kind::Local(_) | Kind::Number { .. } | Kind::Constant(_) => true,
             Kind::Byte(_) | Kind::Boolean(_) => true,
-            Kind::Field(..) | Kind::Follow | Kind::Length => self.parts[0].is_path(),
+            Kind::Field(..) | Kind::Follow => self.parts[0].is_path(),
             _ => false,
         }
     }

@@ -90,13 +90,8 @@ fn part(printer: &mut Printer, term: &Term, texts: &[Text]) -> Done<Text> {
         (Kind::At | Kind::Element, Type::Of(Form::Array { length }, _)) => {
             format!("{own}[tk_index({}, {length})]", argument(1))
         }
-        (Kind::OfArray, Type::Of(Form::Array { length }, _)) => {
-            format!("{}_of({}, {length})", printer.name(&term.of)?, argument(0))
-        }
-        (Kind::Length, _) => format!("{own}.len"),
         (Kind::Element, _) => format!("{own}.at[{}]", argument(1)),
         (Kind::At, _) => format!("{own}.at[tk_index({}, {own}.len)]", argument(1)),
-        (Kind::First, _) => format!("{own}.at"),
         (Kind::Last, _) => {
             return Ok(Text::new(format!("{own}.at + ({own}.len - {})", argument(1)), SUM));
         }

@@ -1,7 +1,7 @@
 //! The types of variables, by unification. What has no rule here is refused.
 
 use super::{Done, Lowering};
-use crate::c::ir::{Callee, Form, Function, Integer, Kind, Statement, Term, Type};
+use crate::c::ir::{Callee, Form, Function, Integer, Kind, PLAIN, Statement, Term, Type};
 
 impl Lowering<'_, '_> {
     /// Returns a type that is not known yet.
@@ -56,11 +56,12 @@ impl Lowering<'_, '_> {
         let (of, wanted) = (self.known(&term.of), self.known(wanted));
         let target = self.known(of.target());
         match (&target, &wanted) {
-            (Type::Of(Form::Array { .. }, own), Type::Of(Form::Slice { is_mutable }, parts))
-                if *is_mutable == of.can_write() =>
-            {
+            (
+                Type::Of(Form::Array { length }, own),
+                Type::Of(Form::Slice { is_mutable }, parts),
+            ) if *is_mutable == of.can_write() => {
                 self.unify(&own[0], &parts[0])?;
-                Ok(self.make(Kind::OfArray, vec![term], wanted))
+                Ok(self.make(Kind::Make(PLAIN), vec![term, self.size(*length)], wanted))
             }
             // A receiver that a method changes.
             (_, Type::Of(Form::Pointer, parts)) if of == target => {

@@ -1,7 +1,7 @@
 //! Methods of numbers, slices and results.
 
 use super::{Done, Lowering, Target};
-use crate::c::ir::{Form, Integer, Kind, Statement, Term, Type};
+use crate::c::ir::{BYTES, Form, Integer, Kind, PLAIN, Statement, Term, Type};
 use crate::c::world::integer;
 use crate::lexer::number;
 use crate::parser::parse;
@@ -103,18 +103,21 @@ impl Lowering<'_, '_> {
 
     fn of_slice(&mut self, name: &str, terms: &[Term], count: Option<u128>) -> Done<Term> {
         let [slice] = terms else { return self.refuse("this method has no rule") };
-        let kind = match (name, count) {
-            ("len", None) => return Ok(self.length(slice)),
-            ("is_empty", None) => return Ok(self.test("==", self.length(slice), self.size(0))),
+        match (name, count) {
+            ("len", None) => Ok(self.length(slice)),
+            ("is_empty", None) => Ok(self.test("==", self.length(slice), self.size(0))),
             // Only `for` and `count` take it.
-            ("iter", None) => return Ok(slice.clone()),
-            ("first_bytes", Some(_)) => Kind::First,
-            ("last_bytes", Some(_)) => Kind::Last,
-            _ => return self.refuse("this method has no rule"),
-        };
-        let length = count.unwrap_or_default();
-        let of = Type::array(Type::BYTE, length);
-        Ok(self.make(kind, vec![slice.clone(), self.size(length)], of))
+            ("iter", None) => Ok(slice.clone()),
+            ("first_bytes", Some(count)) => {
+                let of = Type::array(Type::BYTE, count);
+                Ok(self.make(Kind::Field(PLAIN, BYTES), vec![slice.clone()], of))
+            }
+            ("last_bytes", Some(count)) => {
+                let of = Type::array(Type::BYTE, count);
+                Ok(self.make(Kind::Last, vec![slice.clone(), self.size(count)], of))
+            }
+            _ => self.refuse("this method has no rule"),
+        }
     }
 
     // `SLICE.iter().filter(..).count()` or with `take_while`, as a loop.

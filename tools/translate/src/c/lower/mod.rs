@@ -8,7 +8,7 @@ mod statements;
 mod values;
 
 use super::instances::{Attempt, Instances};
-use super::ir::{Bindings, Callee, Done, Id, Kind, Local, PLAIN, Statement, Term, Type};
+use super::ir::{Bindings, Callee, Done, Id, Kind, LENGTH, Local, PLAIN, Statement, Term, Type};
 use super::world::{Place, World};
 use crate::source::Span;
 use crate::tree::Node;
@@ -17,6 +17,7 @@ use std::collections::BTreeMap;
 struct Lowering<'w, 'i> {
     world: &'w World<'w>,
     instances: &'i mut Instances<'w>,
+    id: Id,
     place: Place,
     /// The types of all parameters in one call, also of those that stand for themselves.
     open: Bindings,
@@ -102,6 +103,7 @@ impl<'w, 'i> Lowering<'w, 'i> {
         Ok(Lowering {
             world,
             instances,
+            id: key.id,
             place: world.place(key.id, &key.bindings)?,
             open,
             needed: None,
@@ -135,8 +137,7 @@ impl<'w, 'i> Lowering<'w, 'i> {
     }
 
     fn refuse<T>(&self, reason: impl std::fmt::Display) -> Done<T> {
-        let source = &self.world.package.modules[self.place.module].source;
-        Err(source.fault(self.at, format!("C: {reason}")))
+        Err(self.world.fault(self.id, self.at, format!("C: {reason}")))
     }
 
     // Returns what is there, or refuses.
@@ -191,7 +192,7 @@ impl<'w, 'i> Lowering<'w, 'i> {
     }
 
     fn length(&self, slice: &Term) -> Term {
-        self.make(Kind::Length, vec![slice.clone()], Type::SIZE)
+        self.make(Kind::Field(PLAIN, LENGTH), vec![slice.clone()], Type::SIZE)
     }
 
     fn local(&self, local: usize) -> Term {
