@@ -61,16 +61,14 @@ impl Lowering<'_, '_> {
                 Ok(self.make(Kind::Cast, vec![value], of))
             }
             ("member_of", [receiver, name]) => self.field(receiver, &name.text),
-            ("index", parts) => {
-                let mut terms = self.operands(None, parts)?;
-                let at = self.coerce(terms.remove(1), &Type::SIZE)?;
-                self.element(terms.remove(0), at, Kind::At)
-            }
-            ("part", parts) => {
-                let mut terms = self.operands(None, parts)?;
-                let offsets = self.coerce_all(terms.split_off(1), &[Type::SIZE, Type::SIZE])?;
-                terms.extend(offsets);
-                self.part(tree.rule.trim_start_matches("part."), terms)
+            ("index" | "part", parts) => {
+                let terms = self.operands(None, parts)?;
+                let types = [terms[0].of.clone(), Type::SIZE, Type::SIZE];
+                let mut terms = self.coerce_all(terms, &types)?;
+                match tree.rule.strip_prefix("part.") {
+                    Some(name) => self.part(name, terms),
+                    None => self.element(terms.remove(0), terms.remove(0), Kind::At),
+                }
             }
             _ => self.refuse("this form has no rule"),
         }
