@@ -25,7 +25,7 @@ impl Lowering<'_, '_> {
         let is_own = last == 1 && self.place.bindings.contains_key(before[0].name());
         Ok(match found.map(|it| it.definition) {
             _ if is_own => Named::Member(self.named_type(before)?, path.last().name()),
-            Some(Definition::Item(_)) if used == last && used > 0 => {
+            Some(Definition::Item(_)) if used == last => {
                 Named::Member(self.named_type(before)?, path.last().name())
             }
             Some(Definition::Item(id)) if used > last => Named::Item(id),

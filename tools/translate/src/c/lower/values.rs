@@ -82,8 +82,8 @@ impl Lowering<'_, '_> {
         Ok(self.make(Kind::Elements, terms, of))
     }
 
-    /// Evaluates operands from left to right, behind a receiver. Each is held in a variable if it changes something or may
-    /// be changed before the last is evaluated.
+    /// Evaluates operands from left to right, behind a receiver. Each is held in a variable if it changes something or
+    /// may be changed before the last is evaluated.
     pub fn operands<'t>(
         &mut self,
         receiver: Option<Term>,
