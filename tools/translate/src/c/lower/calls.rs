@@ -57,11 +57,8 @@ impl Lowering<'_, '_> {
         if let Some((_, value)) = variable {
             return Ok(value.clone());
         }
-        if let [owner, "MIN"] = names[..] {
-            if let Some(Type::Integer(of)) = integer(owner).filter(|_| owner.starts_with('i')) {
-                let least = self.size(1 << (of.bits() - 1));
-                return Ok(Term { of: Type::Integer(of), ..least });
-            }
+        if let Some((value, of)) = limit(&names) {
+            return Ok(self.make(Kind::Number { value, hexadecimal: 0 }, Vec::new(), of));
         }
         match self.named(path)? {
             Named::Variant(of, variant) => Ok(self.make(Kind::Make(variant), Vec::new(), of)),
@@ -170,4 +167,14 @@ impl Lowering<'_, '_> {
         let is_law = term.of == Type::UNIT && !term.has_effect();
         Ok(if is_law { self.unit() } else { term })
     }
+}
+
+// `u64::MAX` and so on.
+fn limit(path: &[&str]) -> Option<(u128, Type)> {
+    let [owner, name @ ("MIN" | "MAX")] = *path else { return None };
+    let of = integer(owner)?;
+    let own = of.integer()?;
+    let greatest = u128::MAX >> (128 - own.bits() + u32::from(own.is_signed()));
+    let least = if own.is_signed() { greatest + 1 } else { 0 };
+    Some((if name == "MAX" { greatest } else { least }, of))
 }
