@@ -1,7 +1,5 @@
 -- The answers of 64 bits after sixteen digits, without skipping.
-use Rattle.std.proofs.Common.{◌≡◌, ℕ, ◌+◌, ◌-◌, ◌^◌, ◌<◌, ◌≤◌, false, Ok, List, get_or, length, take, drop, min, refl, sym, ◌∙◌, arith}
-use Rattle.std.proofs.lemmas.Bool.{le-ltb}
-use Rattle.std.proofs.lemmas.List.{get_or-drop, take-take}
+use Rattle.std.proofs.Common.{◌≡◌, ℕ, ◌+◌, ◌-◌, ◌^◌, ◌<◌, ◌≤◌, false, Ok, List, get_or, length, take, drop, min, refl, sym, ◌∙◌, arith, le-ltb, get_or-drop, take-take}
 use Rattle.atoi_core.specs.Digit.{decimal_table, is_digit}
 use Rattle.atoi_core.specs.Magnitude.{HasDigits, wide64, prefix_magnitude}
 use Rattle.atoi_core.specs.Reading.{Reading, IsSkipped, answer_by_digits}

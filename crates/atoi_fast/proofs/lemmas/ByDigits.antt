@@ -22,8 +22,7 @@ too_large bound sum is = grind (arith, nat_tests)
 
 -- What is never a number is an error.
 err_unless : {A : Type 0} (answer : Result A Refusal) → ((found : A) → ¬ (answer ≡ Ok found)) → IsErr answer
-err_unless (Ok found) never = absurd (never found refl)
-err_unless (Err reason) never = refl
+err_unless answer never = grind arith
 
 module _ (int : IntType) (sized : IsSized int) (s : List ℕ) where
   pub prefix_found : (number len : ℕ) →

@@ -75,14 +75,9 @@ module _ (s : List ℕ) (enough : 8 ≤ length s) where
   lanes_of_ends fits first last is last_is =
       let all = take_all 8 (drop (length s - 8) s) (omega (arith, back)) in
       let sixteen : length (ends s) ≡ 16 = length-append (take 8 s) (drop (length s - 8) s) ∙ omega (arith, front, back) in
-      let both : number_l (2 ^ 64) (first ∷ last ∷ []) ≡ word_of (ends s) =
-      omega (
-        arith,
-        word_appended (take 8 s) (drop (length s - 8) s),
-        ap (λ n. word_of (drop (length s - 8) s) * 2 ^ (n * 8)) front,
-        is,
-        last_is,
-      ) in
+      let appended = word_appended (take 8 s) (drop (length s - 8) s) in
+      let place = ap (λ n. word_of (drop (length s - 8) s) * 2 ^ (n * 8)) front in
+      let both : number_l (2 ^ 64) (first ∷ last ∷ []) ≡ word_of (ends s) = omega (arith, appended, place, is, last_is) in
       let each = bytes s fits in
       ap (digits_l 256 16) both
       ∙ lanes-of_bytes 16 (ends s)

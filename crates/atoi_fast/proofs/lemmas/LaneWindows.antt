@@ -25,9 +25,7 @@ first_lanes n s few enough = search (arith, take-take, take-append-le)
 module _ (s : List ℕ) (fits : (i : ℕ) → get_or s i 0 < 256) (word : ℕ) (loaded : word ≡ word_of (take 8 s)) where
   pub few_counted : run_len decimal_table (padded_start 16 s) ≤ 8
       → run_len decimal_table (padded_start 16 s) ≡ run_len decimal_table (low_bytes 8 word)
-  few_counted few =
-      let digit = is_digit decimal_table in
-      omega (arith, digits_shown 16 s, prefix_len-take digit 16 s, prefix_len-take digit 8 s, loaded_run 8 s fits word loaded)
+  few_counted few = omega (arith, digits_shown, prefix_len-take, loaded_run 8 s fits word loaded)
 
 -- The last 16 of 16 to 31 bytes, the first 16 of which are digits: what they count, and the bytes after the
 -- first 16.

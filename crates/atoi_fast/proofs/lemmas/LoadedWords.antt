@@ -23,12 +23,6 @@ word_from_two s few = omega (arith, word_from_eight s (omega arith), get_or_past
 pub word_of_last : (s bytes : List ℕ) → bytes ≡ drop (length s - 8) s → from_le_bytes w64 bytes ≡ word_of (drop (length s - 8) s)
 word_of_last s bytes e = rw e (word_from_eight (drop (length s - 8) s) (omega (arith, length-drop (length s - 8) s)))
 
--- The word of no bytes is 0.
-pub word_of_none : (s : List ℕ) → length s ≡ 0 → 0 ≡ word_of s
-unfolding word_of
-word_of_none [] none = refl
-word_of_none (a ∷ s) none = absurd (omega arith)
-
 -- Joining its own lowest `r` bits to a number changes nothing.
 with_low_bits : (a r : ℕ) → bit_or (a % 2 ^ r) a ≡ a
 with_low_bits a r =
@@ -53,7 +47,8 @@ last_bytes s last at enough inside few fits is =
     ap (λ w. w / 2 ^ (8 * (at + 8 - length s))) (word_of_last s last is) ∙ word_of_rest 8 s at enough inside (omega arith) fits
 
 pub word_after_all : (s : List ℕ) (at : ℕ) → length s ≤ at → 0 ≡ word_of (take 8 (drop at s))
-word_after_all s at all = word_of_none (take 8 (drop at s)) (ap (λ l. length (take 8 l)) (drop_all at s all))
+unfolding word_of
+word_after_all s at all = rw (drop_all at s all) refl
 
 -- ---- A slice of at most eight bytes, joined from overlapping parts
 
@@ -78,21 +73,15 @@ module _ (n y : ℕ) (few : n ≤ 8) (fits : y < 2 ^ (n * 8)) where
 pub word_filled : (m : ℕ) (s : List ℕ) → word_of (replicate m 48 ++ s) ≡ word_of s * 2 ^ (m * 8) + repeated 48 m
 unfolding word_of
 word_filled zero s = omega arith
-word_filled (suc m) s =
-    let rest = word_filled m s in
-    rw byte_more (omega arith)
+word_filled (suc m) s = rw byte_more (omega (arith, word_filled m s))
 
 zeros_fit : (m : ℕ) → repeated 48 m < 2 ^ (m * 8)
 zeros_fit zero = omega arith
-zeros_fit (suc m) =
-    let rest = zeros_fit m in
-    rw byte_more (omega arith)
+zeros_fit (suc m) = rw byte_more (omega (arith, zeros_fit m))
 
 zeros_joined : (m n : ℕ) → repeated 48 (m + n) ≡ repeated 48 n * 2 ^ (m * 8) + repeated 48 m
 zeros_joined zero n = rw zero-add (omega arith)
-zeros_joined (suc m) n =
-    let rest = zeros_joined m n in
-    rw (suc-add, byte_more) (omega arith)
+zeros_joined (suc m) n = rw (suc-add, byte_more) (omega (arith, zeros_joined m n))
 
 zeros_above : (m n : ℕ) → repeated 48 (m + n) / 2 ^ (m * 8) ≡ repeated 48 n
 zeros_above m n = rw zeros_joined (div-mul-add (repeated 48 n) (2 ^ (m * 8)) (repeated 48 m) (zeros_fit m))

@@ -1,7 +1,5 @@
 -- The digits of a word in half a vector.
-use Rattle.std.proofs.Common.{◌≡◌, ℕ, zero, suc, ◌+◌, ◌-◌, ◌*◌, ◌/◌, ◌%◌, ◌^◌, ◌<◌, ◌≤◌, List, [], ◌∷◌, ◌++◌, length, take, replicate, refl, subst, sym, ap, ap₂, ◌∙◌, arith, lit<, mod-lt, zero-lt-suc}
-use Rattle.std.specs.Int.Bits.{bit_and, bit_xor}
-use Rattle.std.proofs.lemmas.List.{take_all, take_at}
+use Rattle.std.proofs.Common.{◌≡◌, ℕ, zero, suc, ◌+◌, ◌-◌, ◌*◌, ◌/◌, ◌%◌, ◌^◌, ◌<◌, ◌≤◌, List, [], ◌∷◌, ◌++◌, length, take, replicate, refl, subst, sym, ap, ap₂, ◌∙◌, arith, lit<, mod-lt, zero-lt-suc, bit_and, bit_xor, take_all, take_at}
 use Rattle.std.proofs.lemmas.Nat.{and_block, and_mask, shr_split}
 use Rattle.std.proofs.lemmas.Simd.{Each1-replicate, Each1-weaker}
 use Rattle.atoi_core.specs.Digit.{decimal_table}

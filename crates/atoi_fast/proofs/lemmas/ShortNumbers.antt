@@ -1,5 +1,5 @@
 -- Numbers of so few digits that no limit refuses them.
-use Rattle.std.proofs.Common.{◌≡◌, ℕ, ◌<◌, ◌≤◌, ◌+◌, ◌==◌, Bool, true, false, List, [], ◌∷◌, length, take, drop, get_or, Option, Some, None, IfSome, ℤ, Ok, refl, sym, ap, ap₂, suc, ◌∙◌, arith, if◌then◌else◌}
+use Rattle.std.proofs.Common.{◌≡◌, ℕ, ◌<◌, ◌≤◌, ◌+◌, ◌==◌, Bool, true, false, List, [], ◌∷◌, length, take, drop, get_or, Option, Some, None, IfSome, ℤ, Ok, refl, sym, ap, ap₂, suc, ◌∙◌, arith, if◌then◌else◌, length-drop}
 use Rattle.std.proofs.lemmas.Bool.Decides.{nat_tests}
 use Rattle.atoi_core.specs.Digit.{Table, decimal_table, is_digit}
 use Rattle.atoi_core.specs.Run.{run_len, zeros, run, value}
@@ -12,7 +12,6 @@ use Rattle.atoi_core.specs.Answer.{whole_answer, prefix_answer, with_more}
 use Rattle.atoi_core.proofs.lemmas.Refusals.{limit_at, significant_len, refusal-none}
 use Rattle.atoi_core.proofs.lemmas.Bounds.{limit-least}
 use Rattle.atoi_core.proofs.lemmas.Runs.{run_all, zeros-le}
-use Rattle.std.proofs.lemmas.List.{length-drop}
 use Rattle.std.proofs.lemmas.List.Sums.{prefix_len-le-length}
 use Rattle.atoi_core.proofs.lemmas.Calls.{found_prefix, from_whole, length-taken, sign_of_digits, to_whole, with_more-zero}
 use Rattle.atoi_core.proofs.lemmas.Prefixes.{prefix_is_whole}
@@ -123,8 +122,7 @@ begins_with_digit int skip s number len some begins =
 pub if_in_range : {T : Type 0} (number : T → ℤ) (int : IntType) (s : List ℕ) (minus : Bool) (magnitude : ℕ) (found : Option T)
     → IfSome found (λ n. magnitude ≤ bound_of int minus) → IfSome found (λ n. number n ≡ with_sign minus magnitude)
     → (magnitude ≤ bound_of int minus → IsNumber int s (with_sign minus magnitude)) → IfSome found (λ n. IsNumber int s (number n))
-if_in_range number int s minus magnitude None in_range number_is is = tt
-if_in_range number int s minus magnitude (Some n) in_range number_is is = rw number_is (is in_range)
+if_in_range number int s minus magnitude found in_range number_is is = grind arith
 
 -- Each type has the number 127, and types of 32 bits and more have all numbers of nine digits.
 pub least_bound : (int : IntType) → IsSized int → (minus : Bool) → 127 ≤ bound_of int minus

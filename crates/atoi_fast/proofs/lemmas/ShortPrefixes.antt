@@ -1,9 +1,7 @@
 -- Numbers at the start of a slice, read from its first word, or from two.
-use Rattle.std.proofs.Common.{zero, suc, ◌≡◌, ◌≢◌, ℕ, ◌+◌, ◌*◌, ◌%◌, ◌^◌, ◌<◌, ◌≤◌, Bool, true, false, List, [], ◌∷◌, length, take, drop, get_or, refl, sym, ap, ◌∙◌, arith, min, if◌then◌else◌}
-use Rattle.std.specs.Int.Bits.{bit_and}
+use Rattle.std.proofs.Common.{zero, suc, ◌≡◌, ◌≢◌, ℕ, ◌+◌, ◌*◌, ◌%◌, ◌^◌, ◌<◌, ◌≤◌, Bool, true, false, List, [], ◌∷◌, length, take, drop, get_or, refl, sym, ap, ◌∙◌, arith, min, if◌then◌else◌, bit_and, drop-drop, length-take, take-suc}
 use Rattle.std.specs.Simd.Lanes.{digits_l}
 use Rattle.std.proofs.Math.Nat.{add-zero, pow-le-pow_right}
-use Rattle.std.proofs.lemmas.List.{drop-drop, length-take}
 use Rattle.std.proofs.lemmas.List.Sums.{prefix_len-le-length}
 use Rattle.std.proofs.lemmas.Bool.Decides.{nat_tests}
 use Rattle.atoi_core.specs.Digit.{decimal_table, is_digit}
@@ -17,7 +15,7 @@ use Rattle.atoi_core.proofs.lemmas.Runs.{prefix_len-drop, prefix_len-take, value
 use Rattle.atoi_core.proofs.lemmas.WordWindows.{first_run}
 use Rattle.atoi_fast.specs.Short.{BeginsWithNumber, HasMinus, zero_for_minus}
 use Rattle.atoi_fast.proofs.lemmas.ShortNumbers.{most_digits, sixteen_fit, prefix_is}
-use Rattle.atoi_fast.proofs.lemmas.SignedWords.{zeroed, marks_after_first, one_digit, first_byte, zeroed_fits, zeroed_word}
+use Rattle.atoi_fast.proofs.lemmas.SignedWords.{zeroed, marks_after_first, one_digit, zeroed_fits, zeroed_word, first_of_word}
 
 pub rest_after_minus : (minus : Bool) (front : ℕ) (s : List ℕ) → 0 < front → drop front (zero_for_minus minus s) ≡ drop front s
 rest_after_minus false front s some = refl
@@ -41,7 +39,7 @@ module _ (minus : Bool) (s : List ℕ) (some : 0 < length s) (fits : (i : ℕ) �
   zeroed_value len within = loaded_part 8 (zero_for_minus minus s) (zeroed_fits minus s fits) (zeroed minus word) zeroed_is len within
 
   pub has_minus : (signed : Bool) → (minus ≡ true → signed ≡ true) → minus ≡ true → HasMinus signed s
-  has_minus signed only e = (only e, first_byte s word some fits word_is ∙ ap (λ b. b ∷ []) (is_minus e))
+  has_minus signed only e = (only e, take-suc s 0 0 some ∙ ap (λ b. b ∷ []) (sym (first_of_word s word some fits word_is) ∙ is_minus e))
 
   -- The run ends in the first word.
   pub one_word_prefix : (int : IntType) (len number : ℕ) → (minus ≡ true → int.signed ≡ true)
@@ -69,11 +67,8 @@ module _ (minus : Bool) (s : List ℕ) (front : ℕ) (some : 0 < front) (fits : 
 
   more_is : more ≡ min 8 (run_len decimal_table (drop front s))
   more_is =
-      omega (
-        arith,
-        loaded_run 8 (drop front s) (fits_after front s fits) next next_is,
-        prefix_len-take (is_digit decimal_table) 8 (drop front s),
-      )
+      let counted = loaded_run 8 (drop front s) (fits_after front s fits) next next_is in
+      omega (arith, counted, prefix_len-take (is_digit decimal_table) 8 (drop front s))
 
   -- The number goes on in the word.
   pub joined_value : (high low : ℕ) → high ≡ value decimal_table (take front signed) → low ≡ low_value (low_bytes more next)

@@ -1,10 +1,8 @@
 -- Whole slices of 2 to 8 bytes, whose minus becomes a zero in the word that is filled with zeros.
-use Rattle.std.proofs.Common.{◌≡◌, ℕ, ◌-◌, ◌*◌, ◌%◌, ◌^◌, ◌<◌, ◌≤◌, Bool, true, false, List, [], ◌∷◌, ◌++◌, length, take, replicate, get_or, refl, sym, ap, ◌∙◌, arith, if◌then◌else◌}
+use Rattle.std.proofs.Common.{◌≡◌, ℕ, ◌-◌, ◌*◌, ◌%◌, ◌^◌, ◌<◌, ◌≤◌, Bool, true, false, List, [], ◌∷◌, ◌++◌, length, take, replicate, get_or, refl, sym, ap, ◌∙◌, arith, if◌then◌else◌, pow_mono, take_all, take-suc}
 use Rattle.std.specs.Int.Bits.{bit_xor, xor_assoc, xor_zero_r}
 use Rattle.std.proofs.lemmas.Nat.{xor_comm}
-use Rattle.std.proofs.Math.Pow.{pow_mono}
 use Rattle.std.proofs.lemmas.Bool.Decides.{nat_tests}
-use Rattle.std.proofs.lemmas.List.{length-drop, take_all}
 use Rattle.atoi_core.specs.Digit.{decimal_table}
 use Rattle.atoi_core.specs.Run.{run_len, run, value}
 use Rattle.atoi_core.specs.Words.{low_bytes, low_value, word_of}
@@ -16,7 +14,7 @@ use Rattle.atoi_core.proofs.lemmas.WordFields.{repeated}
 use Rattle.atoi_fast.specs.Short.{IsNumber, zero_for_minus}
 use Rattle.atoi_fast.proofs.lemmas.LoadedWords.{minus_flipped}
 use Rattle.atoi_fast.proofs.lemmas.ShortNumbers.{whole_is}
-use Rattle.atoi_fast.proofs.lemmas.SignedWords.{zeroed_fits}
+use Rattle.atoi_fast.proofs.lemmas.SignedWords.{length-zeroed, zeroed_fits}
 use Rattle.atoi_fast.proofs.lemmas.WordRuns.{flipped_back}
 use Rattle.atoi_fast.proofs.lemmas.WordWindows.{filled_digits, filled_window}
 
@@ -38,10 +36,6 @@ zero_flipped true m s flipped room is_minus flipped_is =
     (xor_assoc word zeros bits ∙ ap (bit_xor word) (xor_comm zeros bits) ∙ sym (xor_assoc word bits zeros)
     ∙ ap (λ x. bit_xor x zeros) (minus_flipped m s (is_minus refl)))
 
-pub first_only : (s : List ℕ) → 0 < length s → take 1 s ≡ get_or s 0 0 ∷ []
-first_only [] some = absurd (omega arith)
-first_only (b ∷ bs) some = refl
-
 -- If the word is all digits, with a zero for a minus, so is the slice.
 module _ (minus : Bool) (s : List ℕ) (some : 2 ≤ length s) (few : length s ≤ 8) (fits : (i : ℕ) → get_or s i 0 < 256)
     (is_minus : minus ≡ true → get_or s 0 0 ≡ 45) (loaded factor back flipped : ℕ)
@@ -49,18 +43,13 @@ module _ (minus : Bool) (s : List ℕ) (some : 2 ≤ length s) (few : length s �
     (factor_is : factor ≡ 2 ^ (64 - 8 * length s)) (back_is : back ≡ (if minus then 1 else 0))
     (flipped_is : flipped ≡ bit_xor loaded (factor * (0x1D * back) % 2 ^ 64))
     (full : run_len decimal_table (low_bytes 8 (bit_xor flipped (repeated 48 8))) ≡ 8) where
-  zeroed : List ℕ
+  abbrev zeroed : List ℕ
   zeroed = zero_for_minus minus s
 
   zeroed_length : length zeroed ≡ length s
-  unfolding zeroed
-  zeroed_length = elim minus as (λ m. length (zero_for_minus m s) ≡ length s) [
-    | true ↦ omega (arith, length-drop 1 s)
-    | false ↦ refl
-  ]
+  zeroed_length = length-zeroed minus s (omega arith)
 
   filled_is : bit_xor flipped (repeated 48 8) ≡ word_of (replicate (8 - length zeroed) 48 ++ zeroed)
-  unfolding zeroed
   filled_is =
       let m = 8 - length s in
       let shift : 64 - 8 * length s ≡ m * 8 = omega arith in
@@ -68,19 +57,13 @@ module _ (minus : Bool) (s : List ℕ) (some : 2 ≤ length s) (few : length s �
       rw (flipped_is, factor_is, shift, back_is, zero_is, zeroed_length) (flipped_back _ (repeated 48 8))
 
   all : run_len decimal_table zeroed ≡ length s
-  unfolding zeroed
   all =
-      omega (
-        arith,
-        zeroed_length,
-        filled_digits zeroed (omega (arith, zeroed_length)) (zeroed_fits minus s fits) (bit_xor flipped (repeated 48 8)) 8
-            filled_is (sym full),
-      )
+      let digits = filled_digits zeroed (omega (arith, zeroed_length)) (zeroed_fits minus s fits) _ 8 filled_is (sym full) in
+      omega (arith, zeroed_length, digits)
 
   pub short_whole : (int : IntType) (number : ℕ) → (minus ≡ true → int.signed ≡ true)
       → number ≡ low_value (low_bytes 8 (bit_xor flipped (repeated 48 8))) → number ≤ bound_of int minus
       → IsNumber int s (with_sign minus number)
-  unfolding zeroed
   short_whole int number signed number_is in_range =
       let window = filled_window zeroed (omega (arith, zeroed_length)) (zeroed_fits minus s fits) (bit_xor flipped (repeated 48 8)) 8
       (length s) number filled_is (sym full) (omega (arith, zeroed_length)) number_is in
@@ -89,5 +72,5 @@ module _ (minus : Bool) (s : List ℕ) (some : 2 ≤ length s) (few : length s �
       ap (λ (w : Window). w.number) window ∙ ap (λ l. value decimal_table (run decimal_table l)) whole
       ∙ ap (value decimal_table) (run_all decimal_table zeroed (all ∙ sym zeroed_length)) in
       let sign : (if minus then 1 else 0) < length s = grind (arith, nat_tests) in
-      whole_is int minus s number (λ e. (signed e, first_only s (omega arith) ∙ ap (λ b. b ∷ []) (is_minus e))) sign (omega arith)
+      whole_is int minus s number (λ e. (signed e, take-suc s 0 0 (omega arith) ∙ ap (λ b. b ∷ []) (is_minus e))) sign (omega arith)
       all spelled in_range

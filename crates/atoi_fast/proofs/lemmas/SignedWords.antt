@@ -1,6 +1,5 @@
 -- Words whose first byte may be a minus.
-use Rattle.std.proofs.Common.{◌≡◌, ℕ, zero, suc, ◌+◌, ◌-◌, ◌*◌, ◌/◌, ◌%◌, ◌^◌, ◌<◌, ◌≤◌, Bool, true, false, ◌==◌, ◌&&◌, nat_le, refl, sym, ap, ap₂, ◌∙◌, arith, lit<, mod-lt, eqb-true, ◌≢◌, if◌then◌else◌, List, [], ◌∷◌, length, take, get_or}
-use Rattle.std.proofs.Math.Nat.{suc-mul, add-zero}
+use Rattle.std.proofs.Common.{◌≡◌, ℕ, zero, suc, ◌+◌, ◌-◌, ◌*◌, ◌/◌, ◌%◌, ◌^◌, ◌<◌, ◌≤◌, Bool, true, false, ◌==◌, ◌&&◌, nat_le, refl, sym, ap, ap₂, ◌∙◌, arith, lit<, mod-lt, eqb-true, ◌≢◌, if◌then◌else◌, List, [], ◌∷◌, length, take, get_or, suc-mul, add-zero, get_or-drop, length-drop}
 use Rattle.std.proofs.lemmas.Bool.{agree_below_at}
 use Rattle.std.proofs.lemmas.Bool.Decides.{nat_tests}
 use Rattle.std.proofs.lemmas.Nat.{mod-pow-add, and_block, shr_split, and_shr, and_mod, or_shr, or_mod, and_assoc}
@@ -10,7 +9,6 @@ use Rattle.std.specs.Int.Bits.{bit_and, bit_or, and_zero_r}
 use Rattle.atoi_core.specs.Digit.{decimal_table, is_digit}
 use Rattle.atoi_core.specs.Run.{run_len}
 use Rattle.atoi_core.specs.Words.{low_bytes, low_value, word_of}
-use Rattle.std.proofs.lemmas.List.{get_or-drop}
 use Rattle.atoi_fast.specs.Short.{zero_for_minus, at_top}
 use Rattle.atoi_fast.proofs.lemmas.WordRuns.{sum_at_top, none_marked}
 use Rattle.atoi_core.proofs.lemmas.WordFields.{repeated, zero_field, stopping_field}
@@ -39,19 +37,14 @@ digit_unmarked b small digit =
     let same = agree_below_at (λ n. marking.of_byte n == 0) (is_digit decimal_table) 256 b refl small in
     eqb-true (marking.of_byte b) 0 (same ∙ digit)
 
--- Words are equal if their lowest bytes are, and the others.
-same_bytes : (a b : ℕ) → a % 256 ≡ b % 256 → a / 256 ≡ b / 256 → a ≡ b
-same_bytes a b low high = omega arith
-
 module _ (k word : ℕ) where
-  above : ℕ
+  abbrev above : ℕ
   above = (word + repeated 70 (suc k)) % 2 ^ (suc k * 8)
 
-  below : ℕ
+  abbrev below : ℕ
   below = (word + (without_48 (suc k) - 1)) % 2 ^ (suc k * 8)
 
   borrowed_low : borrowed (suc k) word % 256 ≡ bit_and (bit_or ((word % 256 + 70) % 256) ((word % 256 + 207) % 256)) 128
-  unfolding above below
   borrowed_low =
       let some = without_48-some k in
       let above_low : above % 256 ≡ (word % 256 + 70) % 256 =
@@ -63,7 +56,6 @@ module _ (k word : ℕ) where
 
   -- Without a mark in the lowest byte, the borrow ends there, and the marks are the marks of the digits.
   borrowed_marks : borrowed (suc k) word % 256 ≡ 0 → borrowed (suc k) word ≡ marks_in (suc k) word
-  unfolding above below
   borrowed_marks none =
       let some = without_48-some k in
       let small : word % 256 < 256 = mod-lt word (lit< tt) in
@@ -75,8 +67,9 @@ module _ (k word : ℕ) where
       let rest : borrowed (suc k) word / 256 ≡ marks_in k (word / 256) =
       and_shr (bit_or above below) (repeated 128 (suc k)) 8
       ∙ ap₂ bit_and (or_shr above below 8 ∙ ap₂ bit_or ((cut (added 70 (lit< tt))).rest k word digit) below_rest) (omega arith) in
-      same_bytes _ _ (none ∙ sym (marking.low k word ∙ digit_unmarked (word % 256) small digit))
-      (rest ∙ sym (marking.rest k word digit))
+      let low : marks_in (suc k) word % 256 ≡ 0 = marking.low k word ∙ digit_unmarked (word % 256) small digit in
+      let high : marks_in (suc k) word / 256 ≡ marks_in k (word / 256) = marking.rest k word digit in
+      omega (arith, none, low, rest, high)
 
 -- The marks of all bytes but the first.
 abbrev pub marks_after_first : ℕ → ℕ
@@ -155,10 +148,6 @@ module _ (word : ℕ) where
 abbrev pub zeroed : Bool → ℕ → ℕ
 zeroed minus word = word + (if minus then 3 else 0)
 
--- To add 3 takes the borrow of a minus back.
-borrow_returned : (word back : ℕ) → ((word + without_48 8) % 2 ^ 64 + back) % 2 ^ 64 ≡ (word + back + without_48 8) % 2 ^ 64
-borrow_returned word back = omega arith
-
 -- Digits minus 48, moved to the top: bytes below 16, with the sum of the digits.
 pub lowered_at_top : (len word digits : ℕ) → len ≤ 8 → len ≤ run_len decimal_table (low_bytes 8 word)
     → digits ≡ (word + without_48 8) % 2 ^ 64
@@ -169,16 +158,20 @@ lowered_at_top len word digits few run digits_are =
     (same.0, sym (sum_at_top len digits few) ∙ same.1)
 
 -- The first byte of a loaded word is that of the slice.
-pub first_byte : (s : List ℕ) (word : ℕ) → 0 < length s → ((i : ℕ) → get_or s i 0 < 256) → word ≡ word_of (take 8 s)
-    → take 1 s ≡ word % 256 ∷ []
+pub first_of_word : (s : List ℕ) (word : ℕ) → 0 < length s → ((i : ℕ) → get_or s i 0 < 256) → word ≡ word_of (take 8 s)
+    → word % 256 ≡ get_or s 0 0
 unfolding word_of
-first_byte [] word some fits word_is = absurd (omega arith)
-first_byte (b ∷ bs) word some fits word_is = let first : word % 256 ≡ b = omega (arith, fits 0) in rw first refl
+first_of_word [] word some fits word_is = absurd (omega arith)
+first_of_word (b ∷ bs) word some fits word_is = omega (arith, fits 0)
 
 pub zeroed_fits : (minus : Bool) (s : List ℕ) → ((i : ℕ) → get_or s i 0 < 256) → (i : ℕ) → get_or (zero_for_minus minus s) i 0 < 256
 zeroed_fits false s fits i = fits i
 zeroed_fits true s fits zero = omega arith
 zeroed_fits true s fits (suc i) = rw get_or-drop (fits (1 + i))
+
+pub length-zeroed : (minus : Bool) (s : List ℕ) → 0 < length s → length (zero_for_minus minus s) ≡ length s
+length-zeroed false s some = refl
+length-zeroed true s some = omega (arith, length-drop 1 s)
 
 -- Adding 3 to a minus makes it a zero.
 pub zeroed_word : (minus : Bool) (s : List ℕ) (word : ℕ) → 0 < length s → ((i : ℕ) → get_or s i 0 < 256) → word ≡ word_of (take 8 s)
@@ -196,32 +189,31 @@ pub record IsSigned (minus : Bool) (word digits : ℕ) : Type 0 where
   pub digits_are : digits ≡ (zeroed minus word + without_48 8) % 2 ^ 64
   pub goes_on : bit_and (marks_after_first word) 0x8000 ≡ 0
 
-all_marks : (minus : Bool) (word digits : ℕ) → IsSigned minus word digits → marks_after_first word ≡ marks_in 8 (zeroed minus word)
-all_marks true word digits signed = marks_after_minus word (signed.is_minus refl) signed.goes_on
-all_marks false word digits signed =
+all_marks : {minus : Bool} {word digits : ℕ} → IsSigned minus word digits → marks_after_first word ≡ marks_in 8 (zeroed minus word)
+all_marks {minus = true} {word} signed = marks_after_minus word (signed.is_minus refl) signed.goes_on
+all_marks {minus = false} {word} signed =
     marks_after_digit word (rw add-zero at signed.starts) ∙ ap (marks_in 8) (sym (add-zero word))
 
 -- The marks count the digits, at least two with the zero.
-pub signed_run : (minus : Bool) (word digits : ℕ) → IsSigned minus word digits
+pub signed_run : {minus : Bool} {word digits : ℕ} → IsSigned minus word digits
     → (count_trailing_zeros 64 (marks_after_first word) / 8 ≡ run_len decimal_table (low_bytes 8 (zeroed minus word)))
     × (2 ≤ run_len decimal_table (low_bytes 8 (zeroed minus word)))
-signed_run minus word digits signed =
-    let all = all_marks minus word digits signed in
-    let count = ap (λ m. count_trailing_zeros 64 m / 8) all ∙ marks_of_8 (zeroed minus word) in
+signed_run {minus} {word} signed =
+    let count = ap (λ m. count_trailing_zeros 64 m / 8) (all_marks signed) ∙ marks_of_8 (zeroed minus word) in
     (count, omega (arith, count, zero_field 16 48 (marks_after_first word) (marks_low word signed.goes_on)))
 
 -- Without any mark, all bytes are digits.
-pub signed_run_full : (minus : Bool) (word digits : ℕ) → IsSigned minus word digits → marks_after_first word ≡ 0
+pub signed_run_full : {minus : Bool} {word digits : ℕ} → IsSigned minus word digits → marks_after_first word ≡ 0
     → run_len decimal_table (low_bytes 8 (zeroed minus word)) ≡ 8
-signed_run_full minus word digits signed none =
-    none_marked (zeroed minus word) (sym (all_marks minus word digits signed) ∙ none)
+signed_run_full {minus} {word} signed none = none_marked (zeroed minus word) (sym (all_marks signed) ∙ none)
 
 -- The tests of the code.
 pub to_signed : (minus : Bool) (word back digits : ℕ) → (minus ≡ true → word % 256 ≡ 45) → back ≡ (if minus then 3 else 0)
     → digits ≡ ((word + without_48 8) % 2 ^ 64 + back) % 2 ^ 64 → digits % 256 ≤ 9 → bit_and (marks_after_first word) 0x8000 ≡ 0
     → IsSigned minus word digits
 to_signed minus word back digits is_minus back_is digits_are small none =
-    let same : digits ≡ (zeroed minus word + without_48 8) % 2 ^ 64 = cc (borrow_returned word back) in
+    -- To add 3 takes the borrow of a minus back.
+    let same : digits ≡ (zeroed minus word + without_48 8) % 2 ^ 64 = omega arith in
     let low : 48 ≤ zeroed minus word % 256 = omega arith in
     let high : zeroed minus word % 256 ≤ 57 = omega arith in
     record { is_minus = is_minus; starts = grind (arith, nat_tests); digits_are = same; goes_on = none }

@@ -1,7 +1,6 @@
 -- Whole slices of 9 to 15 bytes, from their first eight and their last eight bytes, with a zero for a minus.
-use Rattle.std.proofs.Common.{◌≡◌, ℕ, ◌+◌, ◌-◌, ◌*◌, ◌%◌, ◌^◌, ◌<◌, ◌≤◌, Bool, true, false, List, [], ◌∷◌, length, take, drop, get_or, refl, sym, ap, ◌∙◌, arith, if◌then◌else◌}
+use Rattle.std.proofs.Common.{◌≡◌, ℕ, ◌+◌, ◌-◌, ◌*◌, ◌%◌, ◌^◌, ◌<◌, ◌≤◌, Bool, true, false, List, [], ◌∷◌, length, take, drop, get_or, refl, sym, ap, ◌∙◌, arith, if◌then◌else◌, take_all, take-suc}
 use Rattle.std.proofs.lemmas.Bool.Decides.{nat_tests}
-use Rattle.std.proofs.lemmas.List.{length-drop, take_all}
 use Rattle.atoi_core.specs.Digit.{decimal_table}
 use Rattle.atoi_core.specs.Run.{run_len, run, value}
 use Rattle.atoi_core.specs.Words.{low_bytes, low_value, word_of}
@@ -12,15 +11,8 @@ use Rattle.atoi_core.proofs.lemmas.Runs.{run_all}
 use Rattle.atoi_fast.specs.Short.{IsNumber, zero_for_minus}
 use Rattle.atoi_fast.proofs.lemmas.ShortNumbers.{whole_is}
 use Rattle.atoi_fast.proofs.lemmas.ShortPrefixes.{rest_after_minus}
-use Rattle.atoi_fast.proofs.lemmas.ShortSlices.{first_only}
-use Rattle.atoi_fast.proofs.lemmas.SignedWords.{zeroed, zeroed_fits, zeroed_word}
+use Rattle.atoi_fast.proofs.lemmas.SignedWords.{zeroed, zeroed_fits, zeroed_word, first_of_word, length-zeroed}
 use Rattle.atoi_fast.proofs.lemmas.WordWindows.{run_of_ends, window_of_ends}
-
-first_of_word : (s : List ℕ) (word : ℕ) → 0 < length s → ((i : ℕ) → get_or s i 0 < 256) → word ≡ word_of (take 8 s)
-    → word % 256 ≡ get_or s 0 0
-unfolding word_of
-first_of_word [] word some fits word_is = absurd (omega arith)
-first_of_word (b ∷ bs) word some fits word_is = omega (arith, fits 0)
 
 -- If both words are all digits, with a zero for a minus, so is the slice.
 module _ (minus : Bool) (s : List ℕ) (enough : 8 < length s) (few : length s < 16) (fits : (i : ℕ) → get_or s i 0 < 256)
@@ -28,27 +20,21 @@ module _ (minus : Bool) (s : List ℕ) (enough : 8 < length s) (few : length s <
     (back_is : back ≡ (if minus then 1 else 0)) (first_is : first ≡ (word + 3 * back) % 2 ^ 64)
     (last_is : last ≡ word_of (drop (length s - 8) s)) (small : word < 2 ^ 64)
     (first_full : run_len decimal_table (low_bytes 8 first) ≡ 8) (last_full : run_len decimal_table (low_bytes 8 last) ≡ 8) where
-  signed_slice : List ℕ
+  abbrev signed_slice : List ℕ
   signed_slice = zero_for_minus minus s
 
   signed_length : length signed_slice ≡ length s
-  unfolding signed_slice
-  signed_length = elim minus as (λ m. length (zero_for_minus m s) ≡ length s) [
-    | true ↦ omega (arith, length-drop 1 s)
-    | false ↦ refl
-  ]
+  signed_length = length-zeroed minus s (omega arith)
 
   starts_with_minus : minus ≡ true → word % 256 ≡ 45
   starts_with_minus e = first_of_word s word (omega arith) fits word_is ∙ is_minus e
 
   first_word : first ≡ word_of (take 8 signed_slice)
-  unfolding signed_slice
   first_word =
       let added : first ≡ zeroed minus word = grind (arith, nat_tests, starts_with_minus) in
       added ∙ zeroed_word minus s word (omega arith) fits word_is starts_with_minus
 
   last_word : last ≡ word_of (drop (length signed_slice - 8) signed_slice)
-  unfolding signed_slice
   last_word =
       rw signed_length
       (last_is ∙ ap word_of (sym (rest_after_minus minus (length s - 8) s (omega arith))))
@@ -56,7 +42,6 @@ module _ (minus : Bool) (s : List ℕ) (enough : 8 < length s) (few : length s <
   pub two_words_whole : (int : IntType) (high low number : ℕ) → (minus ≡ true → int.signed ≡ true)
       → high ≡ low_value (low_bytes (length s - 8) first) → low ≡ low_value (low_bytes 8 last)
       → number ≡ high * 10 ^ 8 + low → number ≤ bound_of int minus → IsNumber int s (with_sign minus number)
-  unfolding signed_slice
   two_words_whole int high low number signed high_is low_is number_is in_range =
       let enough_signed : 8 < length signed_slice = omega (arith, signed_length) in
       let few_signed : length signed_slice < 16 = omega (arith, signed_length) in
@@ -69,5 +54,5 @@ module _ (minus : Bool) (s : List ℕ) (enough : 8 < length s) (few : length s <
       number_is ∙ ap (λ (w : Window). w.number) window ∙ ap (λ l. value decimal_table (run decimal_table l)) whole
       ∙ ap (value decimal_table) (run_all decimal_table signed_slice (all ∙ sym signed_length)) in
       let sign : (if minus then 1 else 0) < length s = grind (arith, nat_tests) in
-      whole_is int minus s number (λ e. (signed e, first_only s (omega arith) ∙ ap (λ b. b ∷ []) (is_minus e))) sign (omega arith)
+      whole_is int minus s number (λ e. (signed e, take-suc s 0 0 (omega arith) ∙ ap (λ b. b ∷ []) (is_minus e))) sign (omega arith)
       all spelled in_range

@@ -1,9 +1,7 @@
 -- The answers that windows of 16 and of 32 bytes decide, and how many loads that takes.
-use Rattle.std.proofs.Common.{◌≡◌, ◌⊎◌, ℕ, ◌+◌, ◌-◌, ◌*◌, ◌^◌, ◌<◌, ◌≤◌, Bool, true, false, cond, eqb, List, [], ◌∷◌, slice_index_or, length, take, drop, min, Ok, Err, refl, sym, ap, inl, inr, arith, lit<, take-take}
-use Rattle.std.proofs.Math.Nat.{zero-add}
+use Rattle.std.proofs.Common.{◌≡◌, ◌⊎◌, ℕ, ◌+◌, ◌-◌, ◌*◌, ◌^◌, ◌<◌, ◌≤◌, Bool, true, false, cond, eqb, List, [], ◌∷◌, slice_index_or, length, take, drop, min, Ok, Err, refl, sym, ap, inl, inr, arith, lit<, take-take, zero-add, drop-drop, length-drop}
 use Rattle.std.proofs.lemmas.Bool.{cases_lt, ne_eqb}
 use Rattle.std.proofs.lemmas.Bool.Decides.{nat_tests}
-use Rattle.std.proofs.lemmas.List.{drop-drop, length-drop}
 use Rattle.atoi_core.specs.Digit.{decimal_table, is_digit}
 use Rattle.atoi_core.specs.Loads.{LoadsWithin}
 use Rattle.atoi_core.specs.Magnitude.{Class, HasDigits, wide64, wide128, prefix_magnitude}

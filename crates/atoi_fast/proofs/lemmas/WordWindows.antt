@@ -1,9 +1,7 @@
 -- Windows that are read by words.
-use Rattle.std.proofs.Common.{◌≡◌, ℕ, zero, suc, ◌+◌, ◌-◌, ◌*◌, ◌^◌, ◌<◌, ◌≤◌, List, length, refl, sym, ◌∙◌, arith, drop, ap, ◌++◌, take, replicate, get_or}
-use Rattle.std.proofs.Math.Nat.{suc-add, zero-add}
+use Rattle.std.proofs.Common.{◌≡◌, ℕ, zero, suc, ◌+◌, ◌-◌, ◌*◌, ◌^◌, ◌<◌, ◌≤◌, List, length, refl, sym, ◌∙◌, arith, drop, ap, ◌++◌, take, replicate, get_or, suc-add, zero-add, ne_eqb}
 use Rattle.std.specs.Simd.Lanes.{digits_l, number_l}
 use Rattle.atoi_core.specs.Words.{low_bytes, low_value, word_of}
-use Rattle.std.proofs.lemmas.Bool.{ne_eqb}
 use Rattle.atoi_core.specs.Digit.{decimal_table, is_digit}
 use Rattle.atoi_core.specs.Run.{run_len}
 use Rattle.std.proofs.lemmas.List.{take_all, length-drop, length-append, length-replicate}
@@ -30,15 +28,10 @@ module _ (s : List ℕ) (enough : 8 < length s) (few : length s < 16) (fits : (i
   run_of_ends =
       let front = length s - 8 in
       let eight : 8 ≤ run_len decimal_table s = omega (arith, full, first_run s fits first first_is) in
-      let within = prefix_len-le-length (is_digit decimal_table) (drop front s) in (
-        omega (
-          arith,
-          prefix_len-drop (is_digit decimal_table) front s (omega arith),
-          first_run (drop front s) (fits_after front s fits) last back_is,
-          length-drop front s,
-        ),
-        eight,
-      )
+      let within = prefix_len-le-length (is_digit decimal_table) (drop front s) in
+      let back = prefix_len-drop (is_digit decimal_table) front s (omega arith) in
+      let counted = first_run (drop front s) (fits_after front s fits) last back_is in
+      (omega (arith, back, counted, length-drop front s), eight)
 
   pub window_of_ends : (len more high low : ℕ) → more ≡ run_len decimal_table (low_bytes 8 last) → len ≡ length s - 8 + more
       → high ≡ low_value (low_bytes (length s - 8) first) → low ≡ low_value (low_bytes more last)
@@ -49,15 +42,10 @@ module _ (s : List ℕ) (enough : 8 < length s) (few : length s < 16) (fits : (i
       let within = prefix_len-le-length (is_digit decimal_table) s in
       let length_is : front + more ≡ len = omega arith in
       let parts = value-take-add decimal_table front more s (omega (arith, run_is)) in
+      let front_value = loaded_part 8 s fits first first_is front (omega arith) in
+      let back_value = loaded_part 8 (drop front s) (fits_after front s fits) last back_is more (omega arith) in
       window_ended s len (high * 10 ^ more + low) (omega (arith, run_is)) (omega (arith, run_is))
-      (rw (
-        high_is,
-        low_is,
-        loaded_part 8 s fits first first_is front (omega arith),
-        loaded_part 8 (drop front s) (fits_after front s fits) last back_is more (omega arith),
-        ← length_is,
-      )
-      (sym parts))
+      (rw (high_is, low_is, front_value, back_value, ← length_is) (sym parts))
 
 -- ---- Short slices in the highest bytes of a word
 

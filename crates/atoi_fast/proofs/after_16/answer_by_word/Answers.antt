@@ -1,7 +1,6 @@
 -- The word of the four bytes after 16 shows whether a digit follows them, and has up to four.
-use Rattle.std.proofs.Common.{◌≡◌, ℕ, ◌+◌, ◌-◌, ◌*◌, ◌^◌, ◌≤◌, List, length, min, take, drop, ◌<◌, sym, ◌∙◌, refl, arith, ltb-false, ltb-true, ne_eqb, le-ltb}
+use Rattle.std.proofs.Common.{◌≡◌, ℕ, ◌+◌, ◌-◌, ◌*◌, ◌^◌, ◌≤◌, List, length, min, take, drop, ◌<◌, sym, ◌∙◌, refl, arith, ltb-false, ltb-true, ne_eqb, le-ltb, lt-ltb}
 use Rattle.std.proofs.Math.Nat.{pow-le-pow_right, zero-add}
-use Rattle.std.proofs.lemmas.Bool.{lt-ltb}
 use Rattle.std.proofs.lemmas.List.{get_or-drop, take_rest}
 use Rattle.std.proofs.lemmas.List.Sums.{prefix_len-le-length}
 use Rattle.atoi_core.specs.Digit.{decimal_table, is_digit}
@@ -11,7 +10,7 @@ use Rattle.atoi_core.proofs.lemmas.LoadedWords.{loaded_part}
 use Rattle.atoi_core.proofs.lemmas.Runs.{prefix_len-drop, value-take-add}
 use Rattle.atoi_fast.proofs.lemmas.After16.{by_digits, counted_after, ended_at_16}
 use Rattle.atoi_fast.proofs.after_16.answer_by_word.Goals as goal
-use Rattle.atoi_fast.proofs.after_16.answer_by_word.Goals.{After-leading_digits_of_four-more, then-limit-lt20-via-then-limit-lt20, then-limit-lt20-via-else-limit-lt20+then-starts_with_digit}
+use Rattle.atoi_fast.proofs.after_16.answer_by_word.Goals.{After-leading_digits_of_four-more}
 
 pub returns-then-not-starts_with_digit_of_four : goal.returns-then-not-starts_with_digit_of_four
 returns-then-not-starts_with_digit_of_four c =
@@ -42,13 +41,9 @@ following c =
       more,
       λ len low few low_is.
           let room : 16 + len ≤ length s = omega (arith, more, full, prefix_len-le-length (is_digit decimal_table) s) in
-          rw (
-            c.requires.number,
-            low_is
-                ∙ loaded_part 4 (drop 16 s) (λ i. rw get_or-drop ((c.type_inv.s (16 + i)).fits)) _
-                c.load_four_from-word.ensures len (omega (arith, few, c.leading_digits_of_four-more.ensures.len)),
-          )
-          (sym (value-take-add decimal_table 16 len s room)),
+          let value_is = low_is ∙ loaded_part 4 (drop 16 s) (λ i. rw get_or-drop ((c.type_inv.s (16 + i)).fits)) _
+          c.load_four_from-word.ensures len (omega (arith, few, c.leading_digits_of_four-more.ensures.len)) in
+          rw (c.requires.number, value_is) (sym (value-take-add decimal_table 16 len s room)),
     )
 
 -- If four follow, there are 20.
@@ -63,8 +58,7 @@ slice_bounds-starts_with_digit-count c =
     inside (goal.at.slice_bounds-starts_with_digit-count c).After-leading_digits_of_four-more c.if-more-eq4.true
 
 pub slice_bounds-starts_with_digit-start : goal.slice_bounds-starts_with_digit-start
-slice_bounds-starts_with_digit-start c =
-    inside (goal.at.slice_bounds-starts_with_digit-start c).After-leading_digits_of_four-more c.if-more-eq4.true
+slice_bounds-starts_with_digit-start c = slice_bounds-starts_with_digit-count c
 
 pub returns-then-limit-lt20 : goal.returns-then-limit-lt20
 returns-then-limit-lt20 c =
@@ -76,8 +70,8 @@ returns-then-limit-lt20 c =
     ∙ counted_after 8 16 s _ (λ i. (c.type_inv.s i).fits) (omega (arith, full)) c.load_from.ensures in
     let many : c.args.limit < 16 + more =
     elim c.then-limit-lt20.branch [
-      | then-limit-lt20-via-then-limit-lt20 w ↦ omega (arith, w.if-limit-lt20.true, full)
-      | then-limit-lt20-via-else-limit-lt20+then-starts_with_digit w ↦
+      | goal.then-limit-lt20-via-then-limit-lt20 w ↦ omega (arith, w.if-limit-lt20.true, full)
+      | goal.then-limit-lt20-via-else-limit-lt20+then-starts_with_digit w ↦
           (let next : 0 < run_len decimal_table (drop 20 s) =
           rw take_rest at (ltb-true 0 _ (sym w.starts_with_digit.ensures ∙ w.if-starts_with_digit.true)) in
           omega (arith, c.requires.bound.high, next, prefix_len-drop (is_digit decimal_table) 20 s full))
@@ -104,21 +98,14 @@ fits c few =
 
 pub overflow_mul-number : goal.overflow_mul-number
 overflow_mul-number c =
-    rw c.power_of_ten.ensures.power
-    (omega (
-      arith,
-      fits (goal.at.overflow_mul-number c).After-leading_digits_of_four-more
-          (omega (arith, c.leading_digits_of_four-more.ensures.most, c.if-more-eq4.false)),
-    ))
+    let few : c.leading_digits_of_four-more.result < 4 = omega (arith, c.leading_digits_of_four-more.ensures.most, c.if-more-eq4.false) in
+    rw c.power_of_ten.ensures.power (omega (arith, fits (goal.at.overflow_mul-number c).After-leading_digits_of_four-more few))
 
 pub overflow_add-number : goal.overflow_add-number
 overflow_add-number c =
+    let few : c.leading_digits_of_four-more.result < 4 = omega (arith, c.leading_digits_of_four-more.ensures.most, c.if-more-eq4.false) in
     rw (c.power_of_ten.ensures.power, c.from-2.ensures, c.value_up_to_4-2.ensures)
-    (omega (
-      arith,
-      fits (goal.at.overflow_add-number c).After-leading_digits_of_four-more
-          (omega (arith, c.leading_digits_of_four-more.ensures.most, c.if-more-eq4.false)),
-    ))
+    (omega (arith, fits (goal.at.overflow_add-number c).After-leading_digits_of_four-more few))
 
 pub returns-then-more-eq4 : goal.returns-then-more-eq4
 returns-then-more-eq4 c =

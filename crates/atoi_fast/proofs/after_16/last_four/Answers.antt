@@ -1,6 +1,5 @@
 -- If the last four bytes are digits, all are, and the number is the value of the bytes after the first 16.
-use Rattle.std.proofs.Common.{◌≡◌, ℕ, ◌+◌, ◌-◌, List, length, take, drop, ap, sym, ◌∙◌, arith}
-use Rattle.std.proofs.lemmas.List.{drop-drop, get_or-drop, length-drop, take_all}
+use Rattle.std.proofs.Common.{◌≡◌, ℕ, ◌+◌, ◌-◌, List, length, take, drop, ap, sym, ◌∙◌, arith, drop-drop, get_or-drop, length-drop, take_all}
 use Rattle.atoi_core.specs.Digit.{decimal_table, is_digit}
 use Rattle.atoi_core.specs.Run.{run_len, value}
 use Rattle.atoi_core.specs.Words.{low_bytes, low_value, word_of}
@@ -10,7 +9,8 @@ use Rattle.atoi_fast.proofs.after_16.last_four.Goals as goal
 use Rattle.atoi_fast.proofs.after_16.last_four.Goals.{After-load_last_four-word}
 
 -- The word has the last four bytes, with which the run ends.
-loaded : (c : After-load_last_four-word) → let s : List ℕ = c.args.s.now in let bytes : List ℕ = low_bytes 4 c.load_last_four-word.result in
+loaded : (c : After-load_last_four-word) → let s : List ℕ = c.args.s.now in
+    let bytes : List ℕ = low_bytes 4 c.load_last_four-word.result in
     (bytes ≡ drop (length s - 4) s) × (run_len decimal_table s ≡ length s - 4 + run_len decimal_table bytes)
 loaded c =
     let s : List ℕ = c.args.s.now in
@@ -24,11 +24,8 @@ loaded c =
 
 pub returns-then-leading_digits_of_four-lt4 : goal.returns-then-leading_digits_of_four-lt4
 returns-then-leading_digits_of_four-lt4 c =
-    omega (
-      arith,
-      (loaded (goal.at.returns-then-leading_digits_of_four-lt4 c).After-load_last_four-word).1,
-      c.leading_digits_of_four.ensures.len,
-    )
+    let found = loaded (goal.at.returns-then-leading_digits_of_four-lt4 c).After-load_last_four-word in
+    omega (arith, found.1, c.leading_digits_of_four.ensures.len)
 
 pub returns : goal.returns
 returns c =

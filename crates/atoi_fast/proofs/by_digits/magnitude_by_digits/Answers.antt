@@ -6,7 +6,6 @@ use Rattle.atoi_core.specs.Digit.{decimal_table, is_digit}
 use Rattle.atoi_core.specs.Run.{run_len}
 use Rattle.atoi_core.proofs.lemmas.Runs.{run_more, run_ends, value_more, value-take-le}
 use Rattle.atoi_fast.proofs.lemmas.ByDigits.{appended, too_large}
-use Rattle.atoi_fast.proofs.by_digits.magnitude_by_digits.Goals.{then-loop-len-test+else-is_ascii_digit, else-loop-len-test}
 use Rattle.atoi_fast.proofs.by_digits.magnitude_by_digits.Goals as goal
 
 pub returns-in_err-number-clause-none : goal.returns-in_err-number-clause-none
@@ -42,14 +41,11 @@ returns-else-len-eq0-clause-some c =
     let len = c.loop-len.len in
     let ends : run_len decimal_table s ≡ len =
     elim c.loop-len-test.branch [
-      | then-loop-len-test+else-is_ascii_digit w ↦
+      | goal.then-loop-len-test+else-is_ascii_digit w ↦
           run_ends decimal_table s len w.loop-len-test.true
           (grind (arith, nat_tests, w.if-is_ascii_digit.false, w.is_ascii_digit.ensures)) c.loop-len.invariant.digits
-      | else-loop-len-test w ↦
-          omega (
-            arith,
-            c.loop-len.invariant.digits,
-            prefix_len-drop_all (is_digit decimal_table) s len (omega (arith, w.loop-len-test.false)),
-          )
+      | goal.else-loop-len-test w ↦
+          let none = prefix_len-drop_all (is_digit decimal_table) s len (omega (arith, w.loop-len-test.false)) in
+          omega (arith, c.loop-len.invariant.digits, none)
     ] in
     (omega (arith, c.if-len-eq0.false), sym ends, rw ends c.loop-len.invariant.number, c.loop-len.invariant.bound)

@@ -6,7 +6,6 @@ use Rattle.atoi_core.specs.Run.{run_len, run, value}
 use Rattle.atoi_core.specs.Sign.{sign_of}
 use Rattle.atoi_core.specs.IntType.{limit_of}
 use Rattle.atoi_fast.proofs.lemmas.ByDigits.{whole_found, whole_refused, whole_too_long, whole_followed}
-use Rattle.atoi_fast.proofs.by_digits.whole_by_digits.Goals.{else-not-skip-via-then-not-skip+else-is_above_limit, else-not-skip-via-else-not-skip}
 use Rattle.atoi_fast.proofs.by_digits.whole_by_digits.Goals as goal
 
 pub returns-in_err-magnitude-clause-none : goal.returns-in_err-magnitude-clause-none
@@ -61,9 +60,9 @@ returns-clause-some g c =
     let all : c.in_ok-magnitude.len ≡ length sign.body = rw body at c.if-len-body.false in
     let few : c.args.skip ≡ false → 32 < int.bits → c.in_ok-magnitude.len ≤ limit_of int =
     elim c.else-not-skip.branch [
-      | else-not-skip-via-then-not-skip+else-is_above_limit w ↦
+      | goal.else-not-skip-via-then-not-skip+else-is_above_limit w ↦
           λ off wide. grind (arith, nat_tests, w.is_above_limit.ensures, w.if-is_above_limit.false)
-      | else-not-skip-via-else-not-skip w ↦ λ off wide. absurd (grind (arith, nat_tests, w.if-not-skip.false))
+      | goal.else-not-skip-via-else-not-skip w ↦ λ off wide. absurd (grind (arith, nat_tests, w.if-not-skip.false))
     ] in
     rw (c.from_parts.ensures, minus)
     (whole_found int g.met.T.Number.type_is.sized s c.args.skip c.args.skip_plus c.in_ok-magnitude.magnitude

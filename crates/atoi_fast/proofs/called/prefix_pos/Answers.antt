@@ -10,26 +10,16 @@ use Rattle.atoi_core.proofs.lemmas.Calls.{sign_of_digits}
 use Rattle.atoi_fast.proofs.lemmas.ShortNumbers.{begins_with_digit, len-le, one_load, starts_with_digit, zeros-few}
 use Rattle.atoi_fast.proofs.called.prefix_pos.Goals as goal
 
-pub returns-in-Some-clause-answer : goal.returns-in-Some-clause-answer
-returns-in-Some-clause-answer g c =
-    let s = c.args.s.now in
-    let some : 0 < run_len decimal_table s = starts_with_digit s (omega arith) (grind (arith, nat_tests)) (grind (arith, nat_tests)) in
-    rw c.requires.decimal (begins_with_digit g.T.Number.int_type c.args.skip s _ _ some c.in-Some.ensures.answer)
-
-pub returns-in-Some-clause-within : goal.returns-in-Some-clause-within
-returns-in-Some-clause-within g c = len-le g.T.Number.int_type c.args.s.now _ _ c.in-Some.ensures.answer
-
-pub returns-in-Some-clause-loads : goal.returns-in-Some-clause-loads
-returns-in-Some-clause-loads g c =
+pub returns-in-Some : goal.returns-in-Some
+returns-in-Some g c =
     let int = g.T.Number.int_type in
     let s = c.args.s.now in
     let some : 0 < run_len decimal_table s = starts_with_digit s (omega arith) (grind (arith, nat_tests)) (grind (arith, nat_tests)) in
-    let few : zeros g.E.Engine.table s < 32 =
-    rw c.requires.decimal
-    (omega (
-      arith,
-      c.in-Some.ensures.short,
-      rw (sign_of_digits int.signed false s some) at (zeros-few int false s _ _ c.in-Some.ensures.answer),
-    )) in
-    one_load g.E.Engine.table (most_loads g.E.Engine.table (class_of int) s + 1)
-    (skips_zeros (class_of int) prefix c.args.skip) s (omega arith) few c.loaded_prefix.ensures.one_step
+    let leading = rw (sign_of_digits int.signed false s some) at (zeros-few int false s _ _ c.in-Some.ensures.answer) in
+    let few : zeros g.E.Engine.table s < 32 = rw c.requires.decimal (omega (arith, c.in-Some.ensures.short, leading)) in
+    record {
+      answer = rw c.requires.decimal (begins_with_digit int c.args.skip s _ _ some c.in-Some.ensures.answer);
+      within = len-le int s _ _ c.in-Some.ensures.answer;
+      loads = one_load g.E.Engine.table (most_loads g.E.Engine.table (class_of int) s + 1)
+          (skips_zeros (class_of int) prefix c.args.skip) s (omega arith) few c.loaded_prefix.ensures.one_step;
+    }

@@ -1,6 +1,5 @@
 -- The factor shifts, and sums as `sum_of` does; the lower sum is 0.
-use Rattle.std.proofs.Common.{◌*◌, ◌-◌, ◌/◌, ◌%◌, ◌^◌, ◌∙◌, ap, arith}
-use Rattle.std.specs.Int.Bits.{bit_and}
+use Rattle.std.proofs.Common.{◌*◌, ◌-◌, ◌/◌, ◌%◌, ◌^◌, ◌∙◌, ap, arith, bit_and}
 use Rattle.atoi_core.proofs.lemmas.WordFields.{sum_most}
 use Rattle.atoi_fast.proofs.lemmas.WordRuns.{factor_shifted, sum_of_high_field}
 use Rattle.atoi_fast.proofs.digits.four_by_product.Goals as goal

@@ -2,7 +2,6 @@
 use Rattle.std.proofs.Common.{arith}
 use Rattle.atoi_core.specs.Words.{word_of}
 use Rattle.atoi_fast.proofs.lemmas.LoadedWords.{flipped_joined}
-use Rattle.atoi_fast.proofs.loads.load_flipped.Goals.{then-s-lt4, else-s-lt4}
 use Rattle.atoi_fast.proofs.loads.load_flipped.Goals as goal
 
 pub returns : goal.returns
@@ -17,10 +16,10 @@ returns c =
     flipped_joined s c.requires.few (λ i. (c.type_inv.s i).fits) first last c.load_last_two.result c.requires.some in
     rw (c.from-2.ensures, c.from.ensures, c.from-3.ensures, c.factor_of.ensures)
     (elim c.if-s-lt4.branch [
-      | then-s-lt4 w ↦
+      | goal.then-s-lt4 w ↦
           joined (λ four. absurd (omega (arith, w.if-s-lt4.true))) (λ few. rw w.fours-is at first_is)
           (λ four. absurd (omega (arith, w.if-s-lt4.true))) (λ few. rw w.fours-is at last_is) c.load_last_two.ensures
-      | else-s-lt4 w ↦
+      | goal.else-s-lt4 w ↦
           joined (λ four. rw w.fours-is at first_is) (λ few. absurd (omega (arith, w.if-s-lt4.false)))
           (λ four. rw w.fours-is at last_is) (λ few. absurd (omega (arith, w.if-s-lt4.false))) c.load_last_two.ensures
     ])

@@ -9,9 +9,8 @@ use Rattle.atoi_fast.proofs.lemmas.SignedWords.{lowered_at_top}
 use Rattle.atoi_fast.proofs.lemmas.ShortNumbers.{most_digits}
 use Rattle.atoi_fast.proofs.lemmas.ShortPrefixes.{all_digits, joined_value, next_word_prefix, nineteen_digits}
 use Rattle.atoi_fast.proofs.lemmas.WordRuns.{lowered_eight}
-use Rattle.atoi_fast.proofs.short_prefix.prefix_of_three_words.Given.{Over}
-use Rattle.atoi_fast.proofs.short_prefix.prefix_of_three_words.Goals.{After-four_by_product-low}
 use Rattle.atoi_fast.proofs.short_prefix.prefix_of_three_words.Goals as goal
+use Rattle.atoi_fast.proofs.short_prefix.prefix_of_three_words.Goals.{After-four_by_product-low}
 
 pub sum_of-requires : goal.sum_of-requires
 sum_of-requires g c =
@@ -20,7 +19,7 @@ sum_of-requires g c =
     (lowered_eight c.args.second _ all refl).0
 
 -- What two words spell.
-sixteen : (g : Over) (c : After-four_by_product-low g)
+sixteen : (g : _) (c : After-four_by_product-low g)
     → c.args.high * c.power_of_ten.result + c.sum_of.result ≡ value decimal_table (take 16 (zero_for_minus c.args.minus c.args.s.now))
 sixteen g c =
     let r = c.requires in
@@ -37,7 +36,7 @@ four_by_product-low-requires-clause-halves g c =
     (lowered_at_top c.leading_digits-more.result c.load_from-third.result _ (grind (arith, nat_tests, c.from.ensures)) (omega arith) refl).0
 
 -- What all digits spell.
-spelled : (g : Over) (c : After-four_by_product-low g) → let more = c.leading_digits-more.result in
+spelled : (g : _) (c : After-four_by_product-low g) → let more = c.leading_digits-more.result in
     let high = c.args.high * c.power_of_ten.result + c.sum_of.result in
     high * 10 ^ more + c.four_by_product-low.result ≡ value decimal_table (take (16 + more) (zero_for_minus c.args.minus c.args.s.now))
 spelled g c =
@@ -49,7 +48,7 @@ spelled g c =
     c.requires.full third c.load_from-third.ensures _ c.four_by_product-low.result (sixteen g c)
     (rw c.leading_digits-more.ensures.len at low_is))
 
-below : (g : Over) (c : After-four_by_product-low g)
+below : (g : _) (c : After-four_by_product-low g)
     → (c.args.high * c.power_of_ten.result + c.sum_of.result) * 10 ^ c.leading_digits-more.result + c.four_by_product-low.result < 10 ^ 19
 below g c =
     let limit : 16 + c.leading_digits-more.result ≤ 19 + (if c.args.minus then 1 else 0) = grind (arith, nat_tests, c.from.ensures) in

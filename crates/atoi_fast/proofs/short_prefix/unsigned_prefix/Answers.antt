@@ -1,6 +1,5 @@
 -- The digits of the first word are the number.
-use Rattle.std.proofs.Common.{◌∙◌, false, refl, arith}
-use Rattle.std.proofs.Math.Nat.{add-zero}
+use Rattle.std.proofs.Common.{◌∙◌, false, refl, arith, add-zero}
 use Rattle.atoi_fast.proofs.lemmas.SignedWords.{lowered_at_top}
 use Rattle.atoi_fast.proofs.lemmas.ShortPrefixes.{one_word_prefix}
 use Rattle.atoi_fast.proofs.short_prefix.unsigned_prefix.Goals as goal

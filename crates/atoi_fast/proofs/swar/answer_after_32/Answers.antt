@@ -1,7 +1,5 @@
 -- The digits of the window come after 32.
-use Rattle.std.proofs.Common.{◌+◌, ◌*◌, ◌^◌, ◌≤◌, arith}
-use Rattle.std.proofs.Math.Nat.{mul-le-mul_right}
-use Rattle.std.proofs.lemmas.Nat.{pow-add}
+use Rattle.std.proofs.Common.{◌+◌, ◌*◌, ◌^◌, ◌≤◌, arith, mul-le-mul_right, pow-add}
 use Rattle.atoi_core.proofs.lemmas.Runs.{decimal_below_ten}
 use Rattle.atoi_core.proofs.lemmas.Windows.{shows_rest}
 use Rattle.atoi_fast.proofs.swar.answer_after_32.Goals as goal

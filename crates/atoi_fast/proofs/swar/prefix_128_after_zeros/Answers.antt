@@ -42,17 +42,12 @@ returns-then-second-lt16-clause-answer c =
     c.if-first-lt16.false (second at.After-window-second) c.if-second-lt16.true
     c.requires.digits c.append_digits-number.ensures (omega arith)
 
-pub answer_after_32-requires-clause-below : goal.answer_after_32-requires-clause-below
-answer_after_32-requires-clause-below c =
-    let at = goal.at.answer_after_32-requires-clause-below c in
-    (after_32 c.args.bound (ended at.After-window_after_zeros-at) c.if-first-lt16.false
-    (second at.After-window-second) c.if-second-lt16.false _ refl c.append_digits-number.ensures).0
-
-pub answer_after_32-requires-clause-inside : goal.answer_after_32-requires-clause-inside
-answer_after_32-requires-clause-inside c =
-    let at = goal.at.answer_after_32-requires-clause-inside c in
-    (after_32 c.args.bound (ended at.After-window_after_zeros-at) c.if-first-lt16.false
-    (second at.After-window-second) c.if-second-lt16.false _ refl c.append_digits-number.ensures).1
+pub answer_after_32-requires : goal.answer_after_32-requires
+answer_after_32-requires c =
+    let at = goal.at.answer_after_32-requires c in
+    let known = after_32 c.args.bound (ended at.After-window_after_zeros-at) c.if-first-lt16.false
+    (second at.After-window-second) c.if-second-lt16.false _ refl c.append_digits-number.ensures in
+    record { digits = c.requires.digits; below = known.0; inside = known.1 }
 
 pub returns-clause-answer : goal.returns-clause-answer
 returns-clause-answer c =

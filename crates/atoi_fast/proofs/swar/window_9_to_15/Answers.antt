@@ -16,11 +16,9 @@ returns-then-len-ne8 c =
 pub value_of-requires-else-more-eq8-clause-some : goal.value_of-requires-else-more-eq8-clause-some
 value_of-requires-else-more-eq8-clause-some c =
     let r = c.requires in
-    omega (
-      arith,
-      run_of_ends c.args.s.now r.enough r.few (λ i. (c.type_inv.s i).fits) _ _
-          c.load_full-first.ensures c.load_last-last.ensures (omega arith),
-    )
+    let run = run_of_ends c.args.s.now r.enough r.few (λ i. (c.type_inv.s i).fits) _ _
+    c.load_full-first.ensures c.load_last-last.ensures (omega arith) in
+    omega (arith, run)
 
 pub returns-then-more-eq8 : goal.returns-then-more-eq8
 returns-then-more-eq8 c =

@@ -10,7 +10,6 @@ use Rattle.atoi_core.proofs.lemmas.WordWindows.{window_ended}
 use Rattle.atoi_fast.proofs.lemmas.LaneWindows.{few_counted, first_lanes}
 use Rattle.atoi_core.proofs.lemmas.LaneWindows.{digits_shown}
 use Rattle.atoi_fast.proofs.vectors.long_window.Goals as goal
-use Rattle.atoi_fast.proofs.vectors.long_window.Goals.{then-len-le8, else-len-le8}
 
 pub returns : goal.returns
 returns c =
@@ -22,11 +21,11 @@ returns c =
     let run : len ≡ run_len decimal_table s = omega (arith, shown, few, digits_shown 16 s, prefix_len-take (is_digit decimal_table) 16 s) in
     let number : c.if-len-le8.number ≡ value decimal_table (take len s) =
     elim c.if-len-le8.branch [
-      | then-len-le8 w ↦
+      | goal.then-len-le8 w ↦
           w.number-is ∙ w.value_in_word-number.ensures.sum
           ∙ loaded_part 8 s (λ i. (c.type_inv.s i).fits) _ w.load_full.ensures len
           (omega (arith, shown, w.if-len-le8, few_counted s (λ i. (c.type_inv.s i).fits) _ w.load_full.ensures))
-      | else-len-le8 w ↦
+      | goal.else-len-le8 w ↦
           w.number-is ∙ w.sum_lanes-number.ensures
           ∙ ap (λ l. value decimal_table (take len l)) lanes
           ∙ ap (value decimal_table)

@@ -1,6 +1,5 @@
 -- If each lane is a digit, the mask is 0.
-use Rattle.std.proofs.Common.{inl, inr, sym}
-use Rattle.std.proofs.Math.Nat.{eq-zero-or-pos}
+use Rattle.std.proofs.Common.{inl, inr, sym, eq-zero-or-pos}
 use Rattle.atoi_fast.proofs.vectors.bytes.len_lanes.Goals as goal
 
 pub returns-clause-len : goal.returns-clause-len

@@ -71,15 +71,11 @@ decides c number number_is full =
     rw number_is (decided_full c.args.bound (start false s)
     (join_readings first (following c)) (omega (arith, full)) (λ on. absurd (cc on)))
 
-pub answer_after_32-requires-clause-below : goal.answer_after_32-requires-clause-below
-answer_after_32-requires-clause-below c =
-    (decides (goal.at.answer_after_32-requires-clause-below c).After-read_window-second _
-    c.append_digits-number.ensures c.if-second-lt16.false).0
-
-pub answer_after_32-requires-clause-inside : goal.answer_after_32-requires-clause-inside
-answer_after_32-requires-clause-inside c =
-    (decides (goal.at.answer_after_32-requires-clause-inside c).After-read_window-second _
-    c.append_digits-number.ensures c.if-second-lt16.false).1
+pub answer_after_32-requires : goal.answer_after_32-requires
+answer_after_32-requires c =
+    let known = decides (goal.at.answer_after_32-requires c).After-read_window-second _
+    c.append_digits-number.ensures c.if-second-lt16.false in
+    record { digits = c.requires.digits; below = known.0; inside = known.1 }
 
 pub returns-clause-answer : goal.returns-clause-answer
 returns-clause-answer c =
