@@ -25,13 +25,11 @@ same_split (number ∷ numbers) (value ∷ values) left last p q same =
     let others = same_split numbers values left last p q (cc) in
     (cc (first, others.0), others.1)
 
-index_of-flaw_at : (index place : ℕ) (read : Result (ℤ × ℕ) Refusal) → index_of (flaw_at index place read) ≡ index
-index_of-flaw_at index place (Ok found) = refl
-index_of-flaw_at index place (Err reason) = refl
+pub index_of-flaw_at : (index place : ℕ) (read : Result (ℤ × ℕ) Refusal) → index_of (flaw_at index place read) ≡ index
+index_of-flaw_at index place read = grind arith
 
-place_of-flaw_at : (index place : ℕ) (read : Result (ℤ × ℕ) Refusal) → place_of (flaw_at index place read) ≡ place + number_len read
-place_of-flaw_at index place (Ok found) = refl
-place_of-flaw_at index place (Err reason) = omega arith
+pub place_of-flaw_at : (index place : ℕ) (read : Result (ℤ × ℕ) Refusal) → place_of (flaw_at index place read) ≡ place + number_len read
+place_of-flaw_at index place read = grind arith
 
 texts_of : (int : IntType) (texts : List (List ℕ)) (values : List ℤ) → AllZip (TextWrites int true) texts values → All (IsText int) texts
 texts_of int [] [] written = All-nil (IsText int)

@@ -1,12 +1,11 @@
 -- The first item of `Fields`, with the text and end of the first field.
-use Rattle.std.proofs.Common.{◌≡◌, ◌≢◌, ℕ, ◌+◌, ◌-◌, ◌<◌, ◌≤◌, ◌==◌, min, true, false, not, inl, inr, if◌then◌else◌, Bool, List, [], ◌∷◌, length, length-drop, ℤ, Result, refl, ap, ◌∙◌, arith}
+use Rattle.std.proofs.Common.{◌≡◌, ◌≢◌, ℕ, ◌+◌, ◌-◌, ◌<◌, ◌≤◌, ◌==◌, min, true, false, not, inl, inr, if◌then◌else◌, Bool, List, [], ◌∷◌, length, length-drop, ℤ, Result, refl, ap, ◌∙◌, arith, eq-eqb, ne_eqb}
 use Rattle.std.specs.List.{slice_split, position_or_len, before_first, after_first}
 use Rattle.std.proofs.lemmas.List.{drop_all}
 use Rattle.std.proofs.lemmas.List.Folds.{length-prefix_len}
 use Rattle.std.proofs.lemmas.List.Sums.{prefix_len-le-length, fails_before_first}
 use Rattle.std.proofs.lemmas.List.Splits.{slice_split_first, slice_split_none, length-slice_split}
 use Rattle.std.proofs.lemmas.Bool.Decides.{leb_tells}
-use Rattle.std.proofs.lemmas.Bool.{eq-eqb, ne_eqb}
 use Rattle.atoi_core.specs.Refusal.{Refusal}
 use Rattle.atoi_core.specs.IntType.{IntType}
 use Rattle.atoi_core.specs.Answer.{parse_answer}
@@ -26,12 +25,7 @@ module _ (cut : List ℕ → List ℕ) (answer : List ℕ → Result ℤ Refusal
   length-items_of_parts : (index place : ℕ) (parts : List (List ℕ))
       → length (items_of_parts cut answer index place parts) ≡ length (without_empty_last parts)
   length-items_of_parts index place [] = refl
-  length-items_of_parts index place (part ∷ []) =
-      elim (length part == 0) as
-      (λ b. length (if b then [] else field_item index place part (answer part) ∷ []) ≡ length (if b then [] else part ∷ [])) [
-        | true ↦ refl
-        | false ↦ refl
-      ]
+  length-items_of_parts index place (part ∷ []) = grind arith
   length-items_of_parts index place (part ∷ next ∷ parts) =
       omega (arith, length-items_of_parts (index + 1) (place + length part + 1) (next ∷ parts))
 
@@ -95,19 +89,15 @@ module _ (int : IntType) (left : FieldsLeft) where
   pub length-field_items_left : length (field_items_left int left) ≤ length left.rest
   unfolding field_items_left
   length-field_items_left =
-      omega (
-        arith,
-        length-items_of_parts (cut_of left.is_lines) answer left.index left.place (slice_split ends left.rest),
-        length-fields_of left.separator left.rest,
-      )
+      let items = length-items_of_parts (cut_of left.is_lines) answer left.index left.place (slice_split ends left.rest) in
+      omega (arith, items, length-fields_of left.separator left.rest)
 
   -- Where a byte is left, an item is.
   pub some-field_items_left : min (length left.rest) 1 ≤ length (field_items_left int left)
   some-field_items_left =
-      elim (leb_tells 1 (length left.rest)) [
-        | inl some ↦ let items = ap (λ items. length items) (field_items_left-first (omega (arith, some.1))) in omega (arith, items)
-        | inr none ↦ omega (arith, none.1)
-      ]
+      let items : 0 < length left.rest → 0 < length (field_items_left int left) =
+      λ some. omega (arith, ap (λ items. length items) (field_items_left-first some)) in
+      grind (arith, items)
 
 -- What is left of an input that ends at the offset `end`.
 abbrev pub left_before : (is_lines : Bool) (separator index end : ℕ) → List ℕ → FieldsLeft

@@ -1,5 +1,5 @@
 -- Where the fields of errors begin.
-use Rattle.std.proofs.Common.{◌≡◌, ℕ, ◌+◌, ◌-◌, ◌<◌, ◌≤◌, ◌==◌, true, false, not, inl, inr, if◌then◌else◌, Bool, List, [], ◌∷◌, ◌++◌, length, take, drop, length-drop, ℤ, Result, Ok, Err, refl, sym, ap, ◌∙◌, arith, append_assoc, append-nil}
+use Rattle.std.proofs.Common.{◌≡◌, ℕ, ◌+◌, ◌-◌, ◌<◌, ◌≤◌, ◌==◌, true, false, not, inl, inr, if◌then◌else◌, Bool, List, [], ◌∷◌, ◌++◌, length, take, drop, length-drop, ℤ, Result, Ok, Err, refl, sym, ap, ◌∙◌, arith, append_assoc, append-nil, length-append}
 use Rattle.std.specs.List.{slice_split, slice_index, position_or_len, before_first, after_first}
 use Rattle.std.proofs.lemmas.List.{take-append-drop, drop-drop, nil_from_length}
 use Rattle.std.proofs.lemmas.List.Folds.{length-prefix_len}
@@ -25,14 +25,7 @@ part_begins true part =
 
 field_item-err : (index place : ℕ) (text : List ℕ) (r : Result ℤ Refusal) (bad : BadField) → field_item index place text r ≡ Err bad
     → (bad.index ≡ index) × (bad.place ≡ place) × (bad.text ≡ text)
-field_item-err index place text (Ok number) bad same = absurd (cc same)
-field_item-err index place text (Err reason) bad same =
-    let is : record { index = index; place = place; text = text; reason = reason } ≡ bad = cc same in
-    (sym (ap (λ (b : BadField). b.index) is), sym (ap (λ (b : BadField). b.place) is), sym (ap (λ (b : BadField). b.text) is))
-
-no_error : (before after : List (Result ℤ BadField)) (bad : BadField) → [] ≡ before ++ Err bad ∷ after → ⊥
-no_error [] after bad same = absurd (cc same)
-no_error (item ∷ before) after bad same = absurd (cc same)
+field_item-err index place text r bad same = grind arith
 
 module _ (int : IntType) (is_lines : Bool) (separator : ℕ) (input : List ℕ) where
   abbrev ends : ℕ → Bool
@@ -109,7 +102,7 @@ module _ (int : IntType) (is_lines : Bool) (separator : ℕ) (input : List ℕ) 
             let nothing : rest ≡ [] = nil_from_length rest (omega (arith, none.1)) in
             let empty : left index rest ≡ [] =
             field_items_left-empty int (left_before is_lines separator index (length input) rest) nothing in
-            absurd (no_error before after bad (sym empty ∙ same))
+            omega (arith, ap length (sym empty ∙ same), length-append before (Err bad ∷ after))
         | inr some ↦ some.1
       ]
 

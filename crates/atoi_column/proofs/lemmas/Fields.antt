@@ -1,11 +1,10 @@
 -- The first field of an input, and how many fields there are.
-use Rattle.std.proofs.Common.{◌≡◌, ◌≢◌, inl, inr, ℕ, ◌+◌, ◌<◌, ◌≤◌, ◌==◌, List, [], ◌∷◌, length, Bool, true, false, if◌then◌else◌, refl, ap, ◌∙◌, arith}
+use Rattle.std.proofs.Common.{◌≡◌, ◌≢◌, inl, inr, ℕ, ◌+◌, ◌<◌, ◌≤◌, ◌==◌, List, [], ◌∷◌, length, Bool, true, false, if◌then◌else◌, refl, ap, ◌∙◌, arith, ne_eqb}
 use Rattle.std.specs.List.{slice_split, onto_first, position_or_len, before_first, after_first}
 use Rattle.std.proofs.lemmas.List.{take_all, drop_all}
 use Rattle.std.proofs.lemmas.List.Sums.{fails_before_first}
 use Rattle.std.proofs.lemmas.List.Splits.{slice_split_first, slice_split_none}
-use Rattle.std.proofs.lemmas.Bool.Decides.{leb_tells}
-use Rattle.std.proofs.lemmas.Bool.{ne_eqb}
+use Rattle.std.proofs.lemmas.Bool.Decides.{leb_tells, nat_tests}
 use Rattle.atoi_column.specs.Fields.{without_empty_last, fields_of}
 
 -- A piece before others is kept, even if it is empty.
@@ -58,12 +57,7 @@ onto_first-length x (piece ∷ next ∷ pieces) = omega arith
 
 pieces-fit : (p : ℕ → Bool) (xs : List ℕ) → length (without_empty_last (slice_split p xs)) ≤ length xs
 pieces-fit p [] = omega arith
-pieces-fit p (x ∷ xs) =
-    elim (p x) as
-    (λ b. length (without_empty_last (if b then [] ∷ slice_split p xs else onto_first x (slice_split p xs))) ≤ length (x ∷ xs)) [
-      | true ↦ rw (split-last [] p xs) (omega (arith, pieces-fit p xs))
-      | false ↦ omega (arith, pieces-fit p xs, onto_first-length x (slice_split p xs))
-    ]
+pieces-fit p (x ∷ xs) = grind (arith, pieces-fit p xs, split-last [] p xs, onto_first-length x (slice_split p xs))
 
 pub length-fields_of : (separator : ℕ) (rest : List ℕ) → length (fields_of separator rest) ≤ length rest
 length-fields_of separator rest = pieces-fit (λ byte. byte == separator) rest

@@ -10,6 +10,7 @@ use Rattle.atoi_column.specs.Fields.{without_empty_last}
 use Rattle.atoi_column.specs.Items.{Flaw, flaw_at, index_of, place_of, items_from, items_left}
 use Rattle.atoi_column.specs.FieldItems.{BadField, cut_of, field_item, items_of_parts, field_items_left}
 use Rattle.atoi_column.specs.Laws.{DecidesText, FieldsDecide, StopsAtError, ColumnStopsAtError}
+use Rattle.atoi_column.proofs.lemmas.Decides.{index_of-flaw_at, place_of-flaw_at}
 
 module _ (int : IntType) (texts : AcceptedTexts int) (numbers : AcceptedNumbers int) where
   abbrev answer : List ℕ → Result ℤ Refusal
@@ -26,23 +27,13 @@ module _ (int : IntType) (texts : AcceptedTexts int) (numbers : AcceptedNumbers 
   fields : (index place : ℕ) (parts : List (List ℕ))
       → AllZip (DecidesText int) (without_empty_last parts) (items_of_parts (cut_of false) answer index place parts)
   fields index place [] = tt
-  fields index place (part ∷ []) =
-      elim (length part == 0) as
-      (λ b. AllZip (DecidesText int) (if b then [] else part ∷ []) (if b then [] else field_item index place part (answer part) ∷ [])) [
-        | true ↦ tt
-        | false ↦ (decides index place part, tt)
-      ]
+  fields index place (part ∷ []) = grind (arith, decides index place part)
   fields index place (part ∷ next ∷ parts) = (decides index place part, fields (index + 1) (place + length part + 1) (next ∷ parts))
 
   of_lines : (index place : ℕ) (parts : List (List ℕ))
       → AllZip (DecidesText int) (lines_of_parts parts) (items_of_parts (cut_of true) answer index place parts)
   of_lines index place [] = tt
-  of_lines index place (part ∷ []) =
-      elim (length part == 0) as
-      (λ b. AllZip (DecidesText int) (if b then [] else part ∷ []) (if b then [] else field_item index place part (answer part) ∷ [])) [
-        | true ↦ tt
-        | false ↦ (decides index place part, tt)
-      ]
+  of_lines index place (part ∷ []) = grind (arith, decides index place part)
   of_lines index place (part ∷ next ∷ parts) =
       (decides index place (cut_of true part), of_lines (index + 1) (place + length part + 1) (next ∷ parts))
 
@@ -54,33 +45,17 @@ fields_decide int texts numbers = record {
 }
 
 module _ (whole : List ℕ → Result ℤ Refusal) (prefix : List ℕ → Result (ℤ × ℕ) Refusal) where
-  about_field : (index place : ℕ) (read : Result (ℤ × ℕ) Refusal)
-      → (index_of (flaw_at index place read) ≡ index) × (place ≤ place_of (flaw_at index place read))
-  about_field index place (Ok found) = (refl, omega arith)
-  about_field index place (Err reason) = (refl, omega arith)
-
   stops_after : (index place : ℕ) (rest text : List ℕ) (texts : List (List ℕ)) (items : List (Result ℤ BadField))
       → StopsAtError (items_from whole prefix (index + 1) (place + length text + 1) (drop (length text + 1) rest) texts) items
       → StopsAtError (items_from whole prefix index place rest (text ∷ texts)) (field_item index place text (whole text) ∷ items)
   stops_after index place rest text texts items following =
-      elim (whole text) as (λ r. StopsAtError (elim r as (λ _. List (Result ℤ Flaw)) [
-        | Ok value ↦ Ok value ∷ items_from whole prefix (index + 1) (place + length text + 1) (drop (length text + 1) rest) texts
-        | Err reason ↦ Err (flaw_at index place (prefix rest)) ∷ []
-      ]) (field_item index place text r ∷ items)) [
-        | Ok value ↦ (refl, following)
-        | Err reason ↦ let about = about_field index place (prefix rest) in (about.0, about.1, refl)
-      ]
+      grind (arith, following, index_of-flaw_at index place (prefix rest), place_of-flaw_at index place (prefix rest))
 
   stops : (index place : ℕ) (rest : List ℕ) (parts : List (List ℕ))
       → StopsAtError (items_from whole prefix index place rest (without_empty_last parts))
       (items_of_parts (cut_of false) whole index place parts)
   stops index place rest [] = tt
-  stops index place rest (part ∷ []) =
-      elim (length part == 0) as (λ b. StopsAtError (items_from whole prefix index place rest (if b then [] else part ∷ []))
-      (if b then [] else field_item index place part (whole part) ∷ [])) [
-        | true ↦ tt
-        | false ↦ stops_after index place rest part [] [] tt
-      ]
+  stops index place rest (part ∷ []) = grind (arith, stops_after index place rest part [] [] tt)
   stops index place rest (part ∷ next ∷ parts) =
       stops_after index place rest part (without_empty_last (next ∷ parts)) _
       (stops (index + 1) (place + length part + 1) (drop (length part + 1) rest) (next ∷ parts))

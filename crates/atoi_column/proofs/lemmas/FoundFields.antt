@@ -6,8 +6,8 @@ use Rattle.std.specs.Char.{digit_value}
 use Rattle.std.specs.Str.Parse.{AllDigits}
 use Rattle.std.proofs.lemmas.List.{take_all, drop_all, get_or-take, length-take-le, take-take, drop-drop}
 use Rattle.std.proofs.lemmas.List.Sums.{prefix_len-le-length, fails_before_first, passes_at_first, position_or_len_is}
-use Rattle.std.proofs.lemmas.Bool.{eq-eqb, ne_eqb, false≢true}
-use Rattle.std.proofs.lemmas.Bool.Decides.{leb_tells, eqb_tells}
+use Rattle.std.proofs.lemmas.Bool.{eq-eqb, ne_eqb, false≢true, cases_lt}
+use Rattle.std.proofs.lemmas.Bool.Decides.{leb_tells, eqb_tells, nat_tests}
 use Rattle.atoi_core.specs.IntType.{IntType}
 use Rattle.atoi_core.specs.Answer.{parse_answer, parse_prefix_answer}
 use Rattle.atoi_core.specs.Sign.{sign_of}
@@ -57,13 +57,11 @@ separator_then {separator} {following} (byte ∷ bytes) end =
     ]
 
 pub ok_is : {T E : Type 0} (result : Result T E) {value : T} → result_ok result ≡ Some value → result ≡ Ok value
-ok_is (Ok found) same = cc
-ok_is (Err bad) same = absurd (cc)
+ok_is result same = grind arith
 
 -- A number that is found is found if a plus is allowed, too.
 body_of_plus : (signed : Bool) (bytes : List ℕ) → (sign_of signed false (43 ∷ bytes)).body ≡ 43 ∷ bytes
-body_of_plus true bytes = refl
-body_of_plus false bytes = refl
+body_of_plus signed bytes = grind arith
 
 pub with_plus : (int : IntType) (plus : Bool) {found : ℤ × ℕ} → PrefixBegins int
     → (rest : List ℕ) → parse_prefix_answer int true plus rest ≡ Ok found
@@ -119,11 +117,7 @@ module _ {int : IntType} {separator : ℕ} {rest : List ℕ} {number : ℤ} {cou
   accepted_before byte following cut same =
       let first = drop_first count rest byte following cut in
       let within = has.within in
-      let at : position_or_len ends rest ≡ count = elim (leb_tells (position_or_len ends rest) count) [
-        | inl past ↦ omega arith
-        | inr before ↦ absurd (false≢true (sym (fails_before_first ends rest count 0 before.1)
-            ∙ eq-eqb (get_or rest count 0) separator (first.1 ∙ same)))
-      ] in
+      let at : position_or_len ends rest ≡ count = grind (arith, nat_tests, first.1, fails_before_first ends rest count 0) in
       let apart : position_or_len ends rest ≢ length rest = omega (arith, first.0) in
       record {
         accepted = rw (ne_eqb _ _ apart, at, cut_of_text is_lines has.written) (has.texts.number (take count rest) number has.written);
@@ -138,10 +132,7 @@ module _ {int : IntType} {separator : ℕ} {rest : List ℕ} {number : ℤ} {cou
       let first = drop_first (count + 1) rest separator following return.2 in
       let within = has.within in
       let at : position_or_len ends rest ≡ count + 1 = position_or_len_is ends rest (count + 1) 0 (omega arith)
-      (λ k below. elim (leb_tells count k) [
-        | inl last ↦ let same : k ≡ count = omega (arith, last.1) in rw same (ne_eqb _ _ (λ e. apart (sym return.1 ∙ e)))
-        | inr before ↦ fails_before_first ends rest k 0 (omega (arith, before.1))
-      ]) (λ _. eq-eqb _ _ first.1) in
+      (λ k below. grind (arith, nat_tests, cases_lt k count, return.1, fails_before_first ends rest k 0)) (λ _. eq-eqb _ _ first.1) in
       let other : position_or_len ends rest ≢ length rest = omega (arith, first.0) in
       let line : length (take (count + 1) rest) ≡ count + 1 = length-take-le (count + 1) rest (omega (arith, first.0)) in
       let place : count + 1 - 1 ≡ count = omega arith in
@@ -222,8 +213,5 @@ one_digit_prefix {int} {separator} rest {following} {number} law whole texts sep
     let first = drop_first 1 rest separator following cut in
     let answer : parse_answer int true true (take 1 rest) ≡ Ok number = texts.number (take 1 rest) number written in
     let within : 1 ≤ position_or_len ends rest = text_within separator rest 1 law whole separates (omega (arith, first.0)) answer in
-    let at : position_or_len ends rest ≡ 1 = elim (leb_tells (position_or_len ends rest) 1) [
-      | inl past ↦ omega arith
-      | inr before ↦ absurd (false≢true (sym (fails_before_first ends rest 1 0 before.1) ∙ eq-eqb (get_or rest 1 0) separator first.1))
-    ] in
+    let at : position_or_len ends rest ≡ 1 = grind (arith, nat_tests, first.1, fails_before_first ends rest 1 0) in
     rw at at ((law separator separates rest).to_prefix number (rw at answer))

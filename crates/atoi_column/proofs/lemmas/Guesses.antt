@@ -1,7 +1,5 @@
 -- Digits after a sign are a text, and the bytes after them end its field.
-use Rattle.std.proofs.Common.{◌≡◌, ◌≢◌, ℕ, zero, suc, ◌+◌, ◌-◌, ◌*◌, ◌%◌, ◌^◌, ◌<◌, ◌≤◌, ◌==◌, Bool, true, Some, List, [], ◌∷◌, length, take, drop, get_or, ℤ, refl, sym, ap, ◌∙◌, arith}
-use Rattle.std.proofs.Math.Nat.{zero-add}
-use Rattle.std.proofs.lemmas.Bool.{eq-eqb, ne_eqb}
+use Rattle.std.proofs.Common.{◌≡◌, ◌≢◌, ℕ, zero, suc, ◌+◌, ◌-◌, ◌*◌, ◌%◌, ◌^◌, ◌<◌, ◌≤◌, ◌==◌, Bool, true, Some, List, [], ◌∷◌, length, take, drop, get_or, ℤ, refl, sym, ap, ◌∙◌, arith, zero-add, eq-eqb, ne_eqb, length-take-le, bit_and, take-add, ◌++◌}
 use Rattle.std.specs.Str.Parse.{IsNumeral, digits_value}
 use Rattle.atoi_core.specs.Digit.{decimal_table, is_digit}
 use Rattle.atoi_core.specs.IntType.{IntType, bound_of}
@@ -11,20 +9,14 @@ use Rattle.atoi_core.specs.Text.{no_sign, minus, TextWrites}
 use Rattle.atoi_core.specs.Words.{word_of}
 use Rattle.atoi_core.proofs.lemmas.Runs.{digits_all, run_len-take}
 use Rattle.atoi_core.proofs.lemmas.Texts.{own, to_std}
-use Rattle.std.proofs.lemmas.List.{length-take-le}
 use Rattle.std.proofs.lemmas.List.Sums.{prefix_len-le-length}
 use Rattle.atoi_column.specs.FirstField.{after_field}
 use Rattle.std.specs.Int.{from_le_bytes, w16}
-use Rattle.std.specs.Int.Bits.{bit_and}
 use Rattle.std.proofs.Math.Pow.{mod-mod-pow}
 use Rattle.std.proofs.lemmas.Nat.{and_mask, one_shl}
 use Rattle.std.proofs.lemmas.List.{length-take, get_or_past}
 use Rattle.atoi_core.proofs.lemmas.LoadedWords.{word_from_eight, word_start}
-
-take_after : (byte width : ℕ) (bytes : List ℕ) → take 1 bytes ≡ byte ∷ [] → take (1 + width) bytes ≡ byte ∷ take width (drop 1 bytes)
-take_after byte width [] first = absurd (cc first)
-take_after byte width (b ∷ bs) first =
-    let same : b ≡ byte = cc first in let more : 1 + width ≡ suc width = omega arith in rw (more, same) refl
+use Rattle.std.proofs.lemmas.Bool.Decides.{nat_tests}
 
 -- The first bytes of a slice, whose run is as long, are a numeral.
 numeral_is : (w : ℕ) (s : List ℕ) {number : ℕ} → 0 < w → w ≤ run_len decimal_table s → number ≡ value decimal_table (take w s)
@@ -52,7 +44,7 @@ text_of_digits int bytes (suc zero) width magnitude few taken some run is fits n
     let numeral = numeral_is width (drop 1 bytes) some run is in record {
       sign = minus;
       digits = take width (drop 1 bytes);
-      parts = take_after minus_sign width bytes (taken (omega arith)).1;
+      parts = take-add 1 width bytes ∙ ap (λ front. front ++ take width (drop 1 bytes)) (taken (omega arith)).1;
       signed = λ _. (taken (omega arith)).0;
       plus_taken = λ e. absurd (cc e);
       written = record { numeral = numeral.0; in_range = rw numeral.1 at fits; value_is = rw numeral.1 at number_is };

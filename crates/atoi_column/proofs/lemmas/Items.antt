@@ -4,8 +4,8 @@ use Rattle.std.specs.List.{position_or_len, before_first, after_first}
 use Rattle.std.proofs.lemmas.List.{drop_all, drop_more, nil_from_length}
 use Rattle.std.proofs.lemmas.List.Folds.{length-prefix_len}
 use Rattle.std.proofs.lemmas.List.Sums.{prefix_len-le-length, passes_at_first, fails_before_first}
-use Rattle.std.proofs.lemmas.Bool.{eqb-true, eq-eqb, false≢true}
-use Rattle.std.proofs.lemmas.Bool.Decides.{leb_tells}
+use Rattle.std.proofs.lemmas.Bool.{eqb-true, eq-eqb, false≢true, cases_lt}
+use Rattle.std.proofs.lemmas.Bool.Decides.{leb_tells, nat_tests}
 use Rattle.std.specs.Iterator.{MakesProgress, item_count}
 use Rattle.atoi_core.specs.Refusal.{Refusal}
 use Rattle.atoi_core.specs.IntType.{IntType}
@@ -24,13 +24,7 @@ module _ (whole : List ℕ → Result ℤ Refusal) (prefix : List ℕ → Result
   pub items_from-err : (index place : ℕ) (rest text : List ℕ) (texts : List (List ℕ)) → ((v : ℤ) → whole text ≡ Ok v → ⊥)
       → items_from whole prefix index place rest (text ∷ texts) ≡ Err (flaw_at index place (prefix rest)) ∷ []
   items_from-err index place rest text texts refused =
-      elim (whole text) as (λ r. ((v : ℤ) → r ≡ Ok v → ⊥) → elim r as (λ _. List (Result ℤ Flaw)) [
-        | Ok value ↦ Ok value ∷ items_from whole prefix (index + 1) (place + length text + 1) (drop (length text + 1) rest) texts
-        | Err reason ↦ Err (flaw_at index place (prefix rest)) ∷ []
-      ] ≡ Err (flaw_at index place (prefix rest)) ∷ []) [
-        | Ok value ↦ λ none. absurd (none value refl)
-        | Err reason ↦ λ none. refl
-      ] refused
+      grind (arith, refused)
 
   -- What holds after an accepted and a refused field holds.
   pub items_from-cases : (P : List (Result ℤ Flaw) → Type 0) (index place : ℕ) (rest text : List ℕ) (texts : List (List ℕ))
@@ -57,10 +51,9 @@ module _ (whole : List ℕ → Result ℤ Refusal) (prefix : List ℕ → Result
 pub drop_first : (n : ℕ) (xs : List ℕ) (b : ℕ) (ys : List ℕ) → drop n xs ≡ b ∷ ys
     → (n < length xs) × (get_or xs n 0 ≡ b) × (drop (n + 1) xs ≡ ys)
 drop_first n xs b ys h =
-    elim (leb_tells (length xs) n) [
-      | inl past ↦ let none : drop n xs ≡ [] = drop_all n xs past.1 in absurd (cc (none, h))
-      | inr within ↦ let first : drop n xs ≡ get_or xs n 0 ∷ drop (n + 1) xs = drop_more xs n 0 within.1 in (within.1, cc, cc)
-    ]
+    let none = drop_all n xs in
+    let more = drop_more xs n 0 in
+    grind (arith, cases_lt n (length xs), none, more, h)
 
 same_count : (read : Result (ℤ × ℕ) Refusal) (v w : ℤ) (m n : ℕ) → read ≡ Ok (v, m) → read ≡ Ok (w, n) → m ≡ n
 same_count read v w m n h k = let pair : (v, m) ≡ (w, n) = cc in ap (λ (p : ℤ × ℕ). p.1) pair
@@ -85,11 +78,9 @@ module _ (int : IntType) (separator index place : ℕ) where
   pub length-items_left : (rest : List ℕ) → length (items_left int separator index place rest) ≤ length rest
   unfolding items_left
   length-items_left rest =
-      omega (
-        arith,
-        length-items_from (parse_answer int true true) (parse_prefix_answer int true true) index place rest (fields_of separator rest),
-        length-fields_of separator rest,
-      )
+      let items = length-items_from (parse_answer int true true) (parse_prefix_answer int true true) index place rest
+      (fields_of separator rest) in
+      omega (arith, items, length-fields_of separator rest)
 
 abbrev whole : IntType → List ℕ → Result ℤ Refusal
 whole int = parse_answer int true true
@@ -135,11 +126,7 @@ module _ {int : IntType} {separator index place : ℕ} {rest : List ℕ} (begins
   count_is_end v count following h cut =
       let first = drop_first count rest separator following cut in
       let within = begins.law.within v count h in
-      elim (leb_tells (field_end separator rest) count) [
-        | inl past ↦ omega arith
-        | inr before ↦ absurd (false≢true (sym (fails_before_first (ends separator) rest count 0 before.1)
-            ∙ eq-eqb (get_or rest count 0) separator first.1))
-      ]
+      grind (arith, nat_tests, first.1, fails_before_first (ends separator) rest count 0)
 
   pub items_left-ended : (v : ℤ) (count : ℕ) (following : List ℕ)
       → prefix int rest ≡ Ok (v, count) → drop count rest ≡ separator ∷ following

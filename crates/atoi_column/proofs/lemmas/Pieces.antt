@@ -1,8 +1,7 @@
 -- An input that is cut after a separator has the items of its pieces.
-use Rattle.std.proofs.Common.{◌≡◌, ℕ, ◌+◌, ◌<◌, ◌==◌, true, false, if◌then◌else◌, inl, inr, Bool, List, [], ◌∷◌, ◌++◌, length, ℤ, Result, refl, ap, ◌∙◌, arith, append_assoc, add-zero, length-append, length-drop}
+use Rattle.std.proofs.Common.{◌≡◌, ℕ, ◌+◌, ◌<◌, ◌==◌, true, false, if◌then◌else◌, inl, inr, Bool, List, [], ◌∷◌, ◌++◌, length, ℤ, Result, refl, ap, ◌∙◌, arith, append_assoc, add-zero, length-append, length-drop, eq-eqb}
 use Rattle.std.specs.List.{slice_split, onto_first, position_or_len, after_first}
 use Rattle.std.proofs.lemmas.List.Splits.{length-slice_split}
-use Rattle.std.proofs.lemmas.Bool.{eq-eqb}
 use Rattle.atoi_core.specs.Refusal.{Refusal}
 use Rattle.atoi_core.specs.IntType.{IntType}
 use Rattle.atoi_core.specs.Answer.{parse_answer}
@@ -21,13 +20,8 @@ split_between : (p : ℕ → Bool) (xs : List ℕ) (y : ℕ) (ys : List ℕ) →
     → slice_split p (xs ++ y ∷ ys) ≡ slice_split p xs ++ slice_split p ys
 split_between p [] y ys ends = rw ends refl
 split_between p (x ∷ xs) y ys ends =
-    let others = split_between p xs y ys ends in
     let some : 0 < length (slice_split p xs) = omega (arith, length-slice_split p xs) in
-    elim (p x) as (λ b. (if b then [] ∷ slice_split p (xs ++ y ∷ ys) else onto_first x (slice_split p (xs ++ y ∷ ys)))
-    ≡ (if b then [] ∷ slice_split p xs else onto_first x (slice_split p xs)) ++ slice_split p ys) [
-      | true ↦ ap (λ parts. [] ∷ parts) others
-      | false ↦ ap (onto_first x) others ∙ onto_first-append x (slice_split p xs) (slice_split p ys) some
-    ]
+    grind (arith, split_between p xs y ys ends, onto_first-append x (slice_split p xs) (slice_split p ys) some)
 
 module _ (cut : List ℕ → List ℕ) (answer : List ℕ → Result ℤ Refusal) where
   -- The items of ended parts, and then of others.
@@ -40,12 +34,9 @@ module _ (cut : List ℕ → List ℕ) (answer : List ℕ → Result ℤ Refusal
       let first : index + length (part ∷ parts) ≡ index + 1 + length parts = omega arith in
       let start : place + place_after (part ∷ parts) ≡ place + length part + 1 + place_after parts =
       omega (arith, place_after-cons part parts) in
-      rw (
-        part_then cut answer index place part (parts ++ others) (omega (arith, length-append parts others)),
-        part_then cut answer index place part (parts ++ [] ∷ []) (omega (arith, length-append parts ([] ∷ []))),
-        first,
-        start,
-      )
+      let joined = part_then cut answer index place part (parts ++ others) (omega (arith, length-append parts others)) in
+      let ended = part_then cut answer index place part (parts ++ [] ∷ []) (omega (arith, length-append parts ([] ∷ []))) in
+      rw (joined, ended, first, start)
       (ap (λ items. field_item index place (cut part) (answer (cut part)) ∷ items)
       (items_between (index + 1) (place + length part + 1) parts others some))
 
@@ -86,13 +77,9 @@ module _ (int : IntType) where
       let rest : new.rest ≡ following = ap (λ left. left.rest) moved in
       let index : new.index + length (field_items_left int new) ≡ old.index + length (field_items_left int old) =
       omega (arith, ap length items, ap (λ left. left.index) moved) in
+      let left_over = length-drop (position_or_len (λ byte. byte == old.separator) old.rest + 1) old.rest in
       let place : new.place + length new.rest ≡ old.place + length old.rest =
-      omega (
-        arith,
-        ap (λ left. left.place) moved,
-        ap length rest,
-        length-drop (position_or_len (λ byte. byte == old.separator) old.rest + 1) old.rest,
-      ) in
+      omega (arith, ap (λ left. left.place) moved, ap length rest, left_over) in
       rw (index, place, is_lines, separator) refl
 
   at_end : (left : FieldsLeft) → left.rest ≡ [] → end_of int left ≡ left

@@ -1,6 +1,5 @@
 -- Places and indices of errors are inside the input.
-use Rattle.std.proofs.Common.{◌≡◌, inl, inr, ℕ, ◌+◌, ◌<◌, ◌≤◌, ◌==◌, true, false, if◌then◌else◌, not, Bool, List, [], ◌∷◌, length, drop, ℤ, Result, Ok, Err, refl, ap, ◌∙◌, arith, length-drop}
-use Rattle.std.specs.Prelude.{IfErr}
+use Rattle.std.proofs.Common.{◌≡◌, inl, inr, ℕ, ◌+◌, ◌<◌, ◌≤◌, ◌==◌, true, false, if◌then◌else◌, not, Bool, List, [], ◌∷◌, length, drop, ℤ, Result, Ok, Err, refl, ap, ◌∙◌, arith, length-drop, IfErr}
 use Rattle.std.specs.List.{All, slice_split, onto_first, position_or_len, before_first, after_first}
 use Rattle.std.proofs.lemmas.List.Elements.{All-nil, All-cons}
 use Rattle.std.proofs.lemmas.List.Splits.{length-slice_split}
@@ -33,10 +32,7 @@ onto_first-place x (piece ∷ pieces) some = omega (arith, place_after-cons (x �
 pub split-place : (p : ℕ → Bool) (xs : List ℕ) → place_after (slice_split p xs) ≡ length xs + 1
 split-place p [] = omega (arith, place_after-cons [] [])
 split-place p (x ∷ xs) =
-    elim (p x) as (λ b. place_after (if b then [] ∷ slice_split p xs else onto_first x (slice_split p xs)) ≡ length (x ∷ xs) + 1) [
-      | true ↦ omega (arith, place_after-cons [] (slice_split p xs), split-place p xs)
-      | false ↦ omega (arith, onto_first-place x (slice_split p xs) (omega (arith, length-slice_split p xs)), split-place p xs)
-    ]
+    grind (arith, split-place p xs, place_after-cons [] (slice_split p xs), onto_first-place, length-slice_split p xs)
 
 module _ (int : IntType) (law : FieldsArePrefixes int) (separator : ℕ) (separates : is_separator separator ≡ true) (bytes : ℕ) where
   abbrev ends : ℕ → Bool
@@ -66,10 +62,7 @@ module _ (int : IntType) (law : FieldsArePrefixes int) (separator : ℕ) (separa
   flaw_at-inside : (index place : ℕ) (rest : List ℕ) (reason : Refusal) → whole (before_first ends rest) ≡ Err reason
       → 0 < length rest → place + length rest ≤ bytes → index < bytes → IsInside (Err (flaw_at index place (prefix rest)))
   flaw_at-inside index place rest reason refused some room fewer =
-      elim (prefix rest) as (λ r. prefix rest ≡ r → IsInside (Err (flaw_at index place r))) [
-        | Ok found ↦ λ is. (omega (arith, number-inside rest reason found.0 found.1 refused is), fewer)
-        | Err other ↦ λ is. (omega arith, fewer)
-      ] refl
+      grind (arith, number-inside rest reason, refused)
 
   items_from-inside : (index place : ℕ) (rest : List ℕ) (texts : List (List ℕ))
       → texts ≡ fields_of separator rest → index + length texts ≤ bytes
@@ -104,8 +97,7 @@ module _ (cut : List ℕ → List ℕ) (answer : List ℕ → Result ℤ Refusal
 
   field_item-inside : (index place : ℕ) (text : List ℕ) (r : Result ℤ Refusal)
       → place < bytes → index < bytes → IsBadInside (field_item index place text r)
-  field_item-inside index place text (Ok number) within fewer = tt
-  field_item-inside index place text (Err reason) within fewer = (within, fewer)
+  field_item-inside index place text r within fewer = grind arith
 
   items_of_parts-inside : (index place : ℕ) (parts : List (List ℕ)) → index ≤ place → place + place_after parts ≤ bytes + 1
       → All IsBadInside (items_of_parts cut answer index place parts)

@@ -1,6 +1,5 @@
 -- A field is accepted if and only if its number ends with it.
-use Rattle.std.proofs.Common.{◌≡◌, ℕ, ◌+◌, ◌≤◌, ◌==◌, ◌&&◌, ◌||◌, not, Bool, true, false, cond, if◌then◌else◌, List, [], ◌∷◌, ◌++◌, length, take, drop, get_or, ℤ, Result, Ok, Err, refl, sym, ap, ◌∙◌, subst, inl, inr, arith}
-use Rattle.std.proofs.lemmas.Bool.{eqb-true}
+use Rattle.std.proofs.Common.{◌≡◌, ℕ, ◌+◌, ◌≤◌, ◌==◌, ◌&&◌, ◌||◌, not, Bool, true, false, cond, if◌then◌else◌, List, [], ◌∷◌, ◌++◌, length, take, drop, get_or, ℤ, Result, Ok, Err, refl, sym, ap, ◌∙◌, subst, inl, inr, arith, eqb-true}
 use Rattle.std.specs.List.{prefix_len, position_or_len, before_first, after_first}
 use Rattle.std.proofs.lemmas.List.{take-append-le, take-append-drop, take_all, drop_all, drop_more}
 use Rattle.std.proofs.lemmas.List.Folds.{length-prefix_len}
@@ -16,6 +15,7 @@ use Rattle.atoi_core.specs.Text.{TextWrites, PrefixWrites, BeginsWithDigit}
 use Rattle.atoi_core.specs.Laws.{looked_for, prefix_call, HaveSameRun, HaveSameOutcome, AcceptedNumbers, PrefixesAndRests, PrefixIsWhole, PrefixOfCut, RestChangesNothing}
 use Rattle.atoi_column.specs.Fields.{is_separator}
 use Rattle.atoi_column.specs.Laws.{FieldsArePrefixes, ResultsTellFields}
+use Rattle.std.proofs.Math.Bool.{and-false}
 
 -- A byte that fails `p` ends the prefix that passes.
 prefix_len-stops : (p : ℕ → Bool) (b : ℕ) (ys : List ℕ) → p b ≡ false → (xs : List ℕ) → prefix_len p (xs ++ b ∷ ys) ≡ prefix_len p xs
@@ -55,25 +55,18 @@ record IsApart (byte : ℕ) : Type 0 where
   no_minus : (byte == minus_sign) ≡ false
 
 none_of_three : (a b c : Bool) → not (a || (b || c)) ≡ true → (a ≡ false) × (b ≡ false) × (c ≡ false)
-none_of_three true b c h = absurd (cc h)
-none_of_three false true c h = absurd (cc h)
-none_of_three false false true h = absurd (cc h)
-none_of_three false false false h = (refl, refl, refl)
+none_of_three a b c h = grind (arith, nat_tests)
 
 apart : (byte : ℕ) → is_separator byte ≡ true → IsApart byte
 apart byte h =
     let none = none_of_three (is_digit decimal_table byte) (byte == plus_sign) (byte == minus_sign) h in
     record { no_digit = none.0; no_plus = none.1; no_minus = none.2 }
 
-and_false : (a b : Bool) → b ≡ false → (a && b) ≡ false
-and_false true b h = h
-and_false false b h = refl
-
 module _ (int : IntType) where
   same_run_before : (b : ℕ) (ys : List ℕ) → IsApart b → (xs : List ℕ) → HaveSameRun int (looked_for true) xs (xs ++ b ∷ ys)
   same_run_before b ys is [] =
       let none : sign_of int.signed true (b ∷ ys) ≡ record { minus = false; taken = 0; body = b ∷ ys } =
-      rw (is.no_plus, is.no_minus, and_false int.signed false refl) refl in
+      rw (is.no_plus, is.no_minus, and-false int.signed) refl in
       record {
         minus = sym (ap (λ (g : Sign). g.minus) none);
         taken = sym (ap (λ (g : Sign). g.taken) none);
@@ -98,14 +91,10 @@ module _ (int : IntType) where
       ]
 
 same_outcome-ok : {A : Type 0} (a b : Result A Refusal) (x : A) → HaveSameOutcome a b → a ≡ Ok x → b ≡ Ok x
-same_outcome-ok (Ok x) (Ok y) z same h = cc
-same_outcome-ok (Ok x) (Err other) z same h = absurd same
-same_outcome-ok (Err reason) b z same h = absurd (cc h)
+same_outcome-ok a b x same h = grind arith
 
 same_outcome-ok_back : {A : Type 0} (a b : Result A Refusal) (y : A) → HaveSameOutcome a b → b ≡ Ok y → a ≡ Ok y
-same_outcome-ok_back (Ok x) (Ok y) z same h = cc
-same_outcome-ok_back (Err reason) (Ok y) z same h = absurd same
-same_outcome-ok_back a (Err other) z same h = absurd (cc h)
+same_outcome-ok_back a b y same h = grind arith
 
 -- What `parse_prefix` finds at a field is no longer than the field.
 within_field : (int : IntType) → PrefixOfCut int → RestChangesNothing int → (separator : ℕ) → is_separator separator ≡ true

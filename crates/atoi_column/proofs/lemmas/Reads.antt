@@ -1,8 +1,7 @@
 -- How a loop that reads numbers into a slice keeps what it has read, and when it stops.
-use Rattle.std.proofs.Common.{◌≡◌, ℕ, ◌+◌, ◌<◌, ◌∷◌, List, [], length, take, map, ℤ, Result, Ok, Err, None, refl, ap, ◌∙◌, arith, append_assoc, suc}
+use Rattle.std.proofs.Common.{◌≡◌, ℕ, ◌+◌, ◌<◌, ◌∷◌, List, [], length, take, map, ℤ, Result, Ok, Err, None, refl, ap, ◌∙◌, arith, append_assoc, suc, set}
 use Rattle.std.proofs.lemmas.List.{take_more_set, drop-set-lt, map-append, length-set}
 use Rattle.std.proofs.lemmas.Grind.{drop_more_same}
-use Rattle.std.proofs.Math.ListN.{set}
 use Rattle.std.specs.Result.{result_ok}
 use Rattle.atoi_core.specs.IntType.{IntType}
 use Rattle.atoi_column.specs.declared.field_error.FieldError.{FieldError}
@@ -11,8 +10,7 @@ use Rattle.atoi_column.specs.Reads.{BeginsWithNoNumber, HasFilled}
 
 pub no_number : {T : Type 0} (number : T → ℤ) (item : Result T FieldError) (items : List (Result ℤ BadField)) → result_ok item ≡ None
     → BeginsWithNoNumber (field_item_of number item ∷ items)
-no_number number (Ok value) items none = absurd (cc)
-no_number number (Err error) items none = tt
+no_number number item items none = grind arith
 
 module _ {T : Type 0} (int : IntType) (number : T → ℤ) (old : FieldsLeft) (initial : List T) where
   pub filled_none : HasFilled int number old old initial initial 0
@@ -25,13 +23,9 @@ module _ {T : Type 0} (int : IntType) (number : T → ℤ) (old : FieldsLeft) (i
     within = omega (arith, length-set values count value);
     numbers =
         let item : T → Result ℤ _ = λ value. Ok (number value) in
-        rw (
-          take_more_set values count value room,
-          map-append item (take count values) (value ∷ []),
-          append_assoc (map item (take count values)) (Ok (number value) ∷ []) (field_items_left int next),
-          ← first,
-        )
-        has.numbers;
+        let mapped = map-append item (take count values) (value ∷ []) in
+        let parts = append_assoc (map item (take count values)) (Ok (number value) ∷ []) (field_items_left int next) in
+        rw (take_more_set values count value room, mapped, parts, ← first) has.numbers;
     others = drop-set-lt (count + 1) values count value (omega arith) ∙ drop_more_same values initial count has.others;
     moves = let more : count + 1 ≡ suc count = omega arith in rw more (step ∙ ap after_first_field has.moves);
   }

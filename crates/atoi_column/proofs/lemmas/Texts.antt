@@ -1,7 +1,6 @@
 -- Items, by the fields that are texts of the type.
-use Rattle.std.proofs.Common.{◌≡◌, ℕ, ◌+◌, true, List, [], ◌∷◌, ◌++◌, length, drop, map, ℤ, Result, Ok, Err, refl, ap, ◌∙◌, arith, zero-add, add-zero}
+use Rattle.std.proofs.Common.{◌≡◌, ℕ, ◌+◌, true, List, [], ◌∷◌, ◌++◌, length, drop, map, ℤ, Result, Ok, Err, refl, ap, ◌∙◌, arith, zero-add, add-zero, drop-drop}
 use Rattle.std.specs.List.{AllZip}
-use Rattle.std.proofs.lemmas.List.{drop-drop}
 use Rattle.std.proofs.lemmas.List.Sums.{sum_by-cons}
 use Rattle.atoi_core.specs.Refusal.{Refusal}
 use Rattle.atoi_core.specs.IntType.{IntType}
@@ -71,15 +70,11 @@ module _ (int : IntType) (whole : List ℕ → Result ℤ Refusal)
         }
       ]
 
-ok_or_err : (r : Result ℤ Refusal) (v : ℤ) (reason : Refusal) → r ≡ Ok v → r ≡ Err reason → ⊥
-ok_or_err r v reason h other = absurd (cc)
-
 module _ (int : IntType) (texts : AcceptedTexts int) (numbers : AcceptedNumbers int) (text : List ℕ) where
   read_as : (r : Result ℤ Refusal) → parse_answer int true true text ≡ r → IsRead int (parse_answer int true true) text
   read_as (Ok v) h = accepted v h (numbers.written (looked_for true) true text v h)
   read_as (Err reason) h =
-      refused (λ v ok. ok_or_err (parse_answer int true true text) v reason ok h)
-      (λ is. ok_or_err (parse_answer int true true text) _ reason (texts.number text is.number is.written) h)
+      refused (λ v ok. absurd (cc (h, ok))) (λ is. absurd (cc (h, texts.number text is.number is.written)))
 
   read_by_law : IsRead int (parse_answer int true true) text
   read_by_law = read_as (parse_answer int true true text) refl

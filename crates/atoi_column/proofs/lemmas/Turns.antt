@@ -41,18 +41,12 @@ more_values : (items left after : List (Result ℤ Flaw)) (numbers values : List
     → left ≡ map Ok values ++ after → HaveRead items (numbers ++ values) after
 more_values items left after numbers values read next =
     let ok : ℤ → Result ℤ Flaw = λ value. Ok value in
+    let sizes = ap length next ∙ length-append (map ok values) after in
     record {
       parts = read.parts ∙ (ap (λ rest. map Ok numbers ++ rest) next
           ∙ (sym (append_assoc (map Ok numbers) (map Ok values) after)
           ∙ ap (λ values. values ++ after) (sym (map-append Ok numbers values))));
-      count = omega (
-        arith,
-        read.count,
-        ap length next,
-        length-map values ok,
-        length-append (map ok values) after,
-        length-append numbers values,
-      );
+      count = omega (arith, read.count, sizes, length-map values ok, length-append numbers values);
     }
 
 pub items_in_turn : ItemsInTurn

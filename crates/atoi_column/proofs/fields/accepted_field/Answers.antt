@@ -1,8 +1,7 @@
 -- The number that is found is the whole field.
-use Rattle.std.proofs.Common.{false, refl, sym, ap, ◌∙◌, rules}
+use Rattle.std.proofs.Common.{false, refl, sym, ap, ◌∙◌, rules, eq-eqb}
 use Rattle.std.proofs.lemmas.Result.{IfOk-at_ok}
 use Rattle.std.proofs.lemmas.List.{take_rest}
-use Rattle.std.proofs.lemmas.Bool.{eq-eqb}
 use Rattle.atoi_core.specs.Answer.{typed_prefix_answer}
 use Rattle.atoi_column.proofs.lemmas.FoundFields.{accepted, ok_is, with_plus, text_with_plus}
 use Rattle.atoi_column.proofs.fields.accepted_field.Goals as goal

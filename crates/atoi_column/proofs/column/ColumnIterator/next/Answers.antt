@@ -7,7 +7,7 @@ use Rattle.atoi_core.specs.Refusal.{refusal_of}
 use Rattle.atoi_column.specs.Items.{ColumnLeft, column_items, items_left}
 use Rattle.atoi_column.proofs.lemmas.Items.{items_left-empty, items_left-ended, items_left-last, items_left-trailing, items_left-refused, rest-ended, rest-last, FieldBegins, one_item_less}
 use Rattle.atoi_column.proofs.column.ColumnIterator.next.Goals as goal
-use Rattle.atoi_column.proofs.column.ColumnIterator.next.Goals.{After-parse_prefix, then-self-via-then-self, then-self-via-else-self+then-is_empty}
+use Rattle.atoi_column.proofs.column.ColumnIterator.next.Goals.{After-parse_prefix}
 
 -- The parse reads a field.
 field_begins : (g : _) (c : After-parse_prefix g)
@@ -46,70 +46,58 @@ returns-then-self-clause-steps g c =
     λ b e. ap (λ left. left.rest) (sym c.self.view_is) ∙ ap (λ x. if x then [] else inside.rest.now) e in
     let end : c.args.self.now.rest ≡ [] =
     elim c.then-self.branch [
-      | then-self-via-then-self w ↦ view true w.if-self.true
-      | then-self-via-else-self+then-is_empty w ↦
+      | goal.then-self-via-then-self w ↦ view true w.if-self.true
+      | goal.then-self-via-else-self+then-is_empty w ↦
           view false w.if-self.false ∙ nil_from_length inside.rest.now (grind (arith, nat_tests))
     ] in
     let left = c.args.self.now in
     let items = items_left-empty g.T.Number.int_type left.separator left.index left.place left.rest (ap length end) in
     ((items, items), (end, refl))
 
-pub returns-in-None-clause-steps : goal.returns-in-None-clause-steps
-returns-in-None-clause-steps g c =
+pub returns-in-None : goal.returns-in-None
+returns-in-None g c =
     let rest = c.self.inside.rest.now in
-    let at = (goal.at.returns-in-None-clause-steps g c).After-parse_prefix in
+    let at = (goal.at.returns-in-None g c).After-parse_prefix in
     let begins = field_begins g at in
     let number = g.T.Number.number c.in-Ok.found.0 in
     let answer = sym c.in-Ok.ensures.answer in
-    let none = ap length (sym (take_rest rest c.in-Ok.found.1)) ∙ c.in-None.ensures.cases in (
-      left_is g at ∙ items_left-last begins number c.in-Ok.found.1 answer none,
-      rest-last begins number c.in-Ok.found.1 answer none ∙ after_is g at,
-    )
+    let none = ap length (sym (take_rest rest c.in-Ok.found.1)) ∙ c.in-None.ensures.cases in
+    let items = left_is g at ∙ items_left-last begins number c.in-Ok.found.1 answer none in
+    record {
+      steps = (items, rest-last begins number c.in-Ok.found.1 answer none ∙ after_is g at);
+      goes = one_item_less (column_items g.T.Number.int_type) _ (λ _. tt) _ items;
+    }
 
-pub returns-in-Some-clause-steps : goal.returns-in-Some-clause-steps
-returns-in-Some-clause-steps g c =
+pub returns-in-Some : goal.returns-in-Some
+returns-in-Some g c =
     let rest = c.self.inside.rest.now in
-    let at = (goal.at.returns-in-Some-clause-steps g c).After-parse_prefix in
+    let at = (goal.at.returns-in-Some g c).After-parse_prefix in
     let begins = field_begins g at in
     let found = c.in-Ok.found in
     let following = c.in-Some.following.now in
     let number = g.T.Number.number found.0 in
     let answer = sym c.in-Ok.ensures.answer in
     let cut = rw (take_rest rest found.1) at c.in-Some.ensures.cases.0 in
-    let ended = cut ∙ ap (λ byte. byte ∷ following) c.if-byte-self.true in (
-      left_is g at ∙ items_left-ended begins number found.1 following answer ended,
-      rest-ended begins number found.1 following answer ended ∙ after_is g at,
-    )
+    let ended = cut ∙ ap (λ byte. byte ∷ following) c.if-byte-self.true in
+    let items = left_is g at ∙ items_left-ended begins number found.1 following answer ended in
+    record {
+      steps = (items, rest-ended begins number found.1 following answer ended ∙ after_is g at);
+      goes = one_item_less (column_items g.T.Number.int_type) _ (λ _. tt) _ items;
+    }
 
-pub returns-in-Some-2-clause-steps : goal.returns-in-Some-2-clause-steps
-returns-in-Some-2-clause-steps g c =
+pub returns-in-Some-2 : goal.returns-in-Some-2
+returns-in-Some-2 g c =
     let rest = c.self.inside.rest.now in
-    let at = (goal.at.returns-in-Some-2-clause-steps g c).After-parse_prefix in
+    let at = (goal.at.returns-in-Some-2 g c).After-parse_prefix in
     let begins = field_begins g at in
     let found = c.in-Ok.found in
     let cut = rw (take_rest rest found.1) at c.in-Some.ensures.cases.0 in
     let items = left_is g at ∙ items_left-trailing begins (g.T.Number.number found.0) found.1 c.in-Some.byte.now
     c.in-Some.following.now (sym c.in-Ok.ensures.answer) cut c.if-byte-self.false in
-    (items, refl)
+    record { steps = (items, refl); goes = one_item_less (column_items g.T.Number.int_type) _ (λ _. tt) _ items }
 
-pub returns-in-Err-clause-steps : goal.returns-in-Err-clause-steps
-returns-in-Err-clause-steps g c =
-    let at = (goal.at.returns-in-Err-clause-steps g c).After-parse_prefix in
-    let begins = field_begins g at in
-    (left_is g at ∙ items_left-refused begins (refusal_of c.in-Err.cause) (sym c.in-Err.ensures.answer), refl)
-
-pub returns-in-None-clause-goes : goal.returns-in-None-clause-goes
-returns-in-None-clause-goes g c =
-    one_item_less (column_items g.T.Number.int_type) _ (λ _. tt) _ (returns-in-None-clause-steps g c).0
-
-pub returns-in-Some-clause-goes : goal.returns-in-Some-clause-goes
-returns-in-Some-clause-goes g c =
-    one_item_less (column_items g.T.Number.int_type) _ (λ _. tt) _ (returns-in-Some-clause-steps g c).0
-
-pub returns-in-Some-2-clause-goes : goal.returns-in-Some-2-clause-goes
-returns-in-Some-2-clause-goes g c =
-    one_item_less (column_items g.T.Number.int_type) _ (λ _. tt) _ (returns-in-Some-2-clause-steps g c).0
-
-pub returns-in-Err-clause-goes : goal.returns-in-Err-clause-goes
-returns-in-Err-clause-goes g c =
-    one_item_less (column_items g.T.Number.int_type) _ (λ _. tt) _ (returns-in-Err-clause-steps g c).0
+pub returns-in-Err : goal.returns-in-Err
+returns-in-Err g c =
+    let at = (goal.at.returns-in-Err g c).After-parse_prefix in
+    let items = left_is g at ∙ items_left-refused (field_begins g at) (refusal_of c.in-Err.cause) (sym c.in-Err.ensures.answer) in
+    record { steps = (items, refl); goes = one_item_less (column_items g.T.Number.int_type) _ (λ _. tt) _ items }

@@ -3,7 +3,7 @@ use Rattle.std.proofs.Common.{◌≡◌, Bool, true, false, inl, inr, if◌then�
 use Rattle.std.proofs.lemmas.Bool.Decides.{leb_tells}
 use Rattle.atoi_column.proofs.lemmas.Items.{length-items_left, some-items_left}
 use Rattle.atoi_column.proofs.column.ColumnIterator.size_hint.Goals as goal
-use Rattle.atoi_column.proofs.column.ColumnIterator.size_hint.Goals.{After-min, then-self, else-self}
+use Rattle.atoi_column.proofs.column.ColumnIterator.size_hint.Goals.{After-min}
 
 -- The bytes left are those of the value.
 bytes : (g : _) (c : After-min g) → c.if-self.left ≡ length c.args.self.now.rest
@@ -12,34 +12,17 @@ bytes g c =
     let view : (b : Bool) → inside.has_ended ≡ b → length c.args.self.now.rest ≡ length (if b then [] else inside.rest.now) =
     λ b e. ap (λ left. length left.rest) (sym c.self.view_is) ∙ ap (λ ended. length (if ended then [] else inside.rest.now)) e in
     elim c.if-self.branch [
-      | then-self w ↦ omega (arith, view true w.if-self.true, w.left-is)
-      | else-self w ↦ omega (arith, view false w.if-self.false, w.left-is)
+      | goal.then-self w ↦ omega (arith, view true w.if-self.true, w.left-is)
+      | goal.else-self w ↦ omega (arith, view false w.if-self.false, w.left-is)
     ]
 
-pub returns-clause-lower : goal.returns-clause-lower
-returns-clause-lower g c = λ _.
+pub returns : goal.returns
+returns g c =
     let left = c.args.self.now in
-    elim (leb_tells 1 (length left.rest)) [
-      | inl some ↦ omega (
-        arith,
-        c.min.ensures,
-        bytes g c,
-        some-items_left g.T.Number.int_type left.separator left.index left.place left.rest (omega (arith, some.1)),
-      )
-      | inr none ↦ omega (arith, none.1, c.min.ensures, bytes g c)
-    ]
-
-pub returns-clause-upper : goal.returns-clause-upper
-returns-clause-upper g c =
-    let left = c.args.self.now in (
-      tt,
-      omega (
-        arith,
-        bytes g c,
-        length-items_left g.T.Number.int_type left.separator left.index left.place left.rest,
-      ),
-    )
-
-pub returns-clause-exact : goal.returns-clause-exact
-returns-clause-exact g c =
-    ap (λ least. (least, Some c.if-self.left)) c.min.ensures ∙ ap (λ left. (min left 1, Some left)) (bytes g c)
+    let some = some-items_left g.T.Number.int_type left.separator left.index left.place left.rest in
+    let most = length-items_left g.T.Number.int_type left.separator left.index left.place left.rest in
+    record {
+      lower = λ _. grind (arith, c.min.ensures, bytes g c, some);
+      upper = (tt, omega (arith, bytes g c, most));
+      exact = ap (λ least. (least, Some c.if-self.left)) c.min.ensures ∙ ap (λ left. (min left 1, Some left)) (bytes g c);
+    }

@@ -2,19 +2,18 @@
 use Rattle.std.proofs.Common.{refl, arith}
 use Rattle.atoi_column.proofs.lemmas.Reads.{filled_none}
 use Rattle.atoi_column.proofs.fields.Fields.read.Goals as goal
-use Rattle.atoi_column.proofs.fields.Fields.read.Goals.{then-self-lt-SHORT_TEXT, else-self-lt-SHORT_TEXT}
 
 pub loop-read-init : goal.loop-read-init
 loop-read-init g c = record {
   fills = filled_none g.T.Number.int_type g.T.Number.number c.args.self.now c.args.values.now;
   room = refl;
   some = elim c.if-self-lt-SHORT_TEXT.branch [
-    | then-self-lt-SHORT_TEXT w ↦ omega (arith, w.part-is)
-    | else-self-lt-SHORT_TEXT w ↦ omega (arith, w.part-is)
+    | goal.then-self-lt-SHORT_TEXT w ↦ omega (arith, w.part-is)
+    | goal.else-self-lt-SHORT_TEXT w ↦ omega (arith, w.part-is)
   ];
   few = elim c.if-self-lt-SHORT_TEXT.branch [
-    | then-self-lt-SHORT_TEXT w ↦ omega (arith, w.part-is)
-    | else-self-lt-SHORT_TEXT w ↦ omega (arith, w.part-is)
+    | goal.then-self-lt-SHORT_TEXT w ↦ omega (arith, w.part-is)
+    | goal.else-self-lt-SHORT_TEXT w ↦ omega (arith, w.part-is)
   ];
 }
 

@@ -3,7 +3,6 @@ use Rattle.std.proofs.Common.{◌≡◌, ◌+◌, ◌-◌, ◌<◌, ◌∷◌, O
 use Rattle.atoi_column.specs.FieldItems.{field_items_left, after_first_field}
 use Rattle.atoi_column.proofs.lemmas.Reads.{filled_more}
 use Rattle.atoi_column.proofs.fields.Fields.read_part.Goals as goal
-use Rattle.atoi_column.proofs.fields.Fields.read_part.Goals.{then-this-ne0, else-this-ne0}
 
 pub loop-at-preserved : goal.loop-at-preserved
 loop-at-preserved g c =
@@ -12,8 +11,8 @@ loop-at-preserved g c =
     let step : (field_items_left int c.loop-at.fields ≡ Ok (g.T.Number.number c.in-Some.value) ∷ field_items_left int new)
     × (new ≡ after_first_field c.loop-at.fields) =
     elim c.if-this-ne0.branch [
-      | then-this-ne0 w ↦ rw w.fields-is (rw (sym w.next-is ∙ c.in-Some.is) at w.guessed_number-next.ensures.some)
-      | else-this-ne0 w ↦ rw w.fields-is (rw (sym w.next-is ∙ c.in-Some.is) at w.next_number-next.ensures.some)
+      | goal.then-this-ne0 w ↦ rw w.fields-is (rw (sym w.next-is ∙ c.in-Some.is) at w.guessed_number-next.ensures.some)
+      | goal.else-this-ne0 w ↦ rw w.fields-is (rw (sym w.next-is ∙ c.in-Some.is) at w.next_number-next.ensures.some)
     ] in
     let before = c.loop-at.invariant in
     let at = c.loop-at.at in

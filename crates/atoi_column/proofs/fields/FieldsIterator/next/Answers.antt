@@ -22,16 +22,13 @@ returns-in-Some-clause-steps g c =
     c.self.invariant.within (rw accepted.accepted refl) accepted.after in
     search rules
 
-pub returns-in-None-clause-steps : goal.returns-in-None-clause-steps
-returns-in-None-clause-steps g c =
-    let some : 0 < length c.self.inside.rest.now = grind (arith, nat_tests) in
-    first_field_step g.T.Number.int_type c.self.view_is some c.self.invariant.within c.read_field-item.ensures.item
-    c.read_field-item.ensures.following
-
 pub returns-in-Some-clause-goes : goal.returns-in-Some-clause-goes
 returns-in-Some-clause-goes g c =
     one_item_less (field_items_left g.T.Number.int_type) _ (λ _. tt) _ (returns-in-Some-clause-steps g c).0
 
-pub returns-in-None-clause-goes : goal.returns-in-None-clause-goes
-returns-in-None-clause-goes g c =
-    one_item_less (field_items_left g.T.Number.int_type) _ (λ _. tt) _ (returns-in-None-clause-steps g c).0
+pub returns-in-None : goal.returns-in-None
+returns-in-None g c =
+    let some : 0 < length c.self.inside.rest.now = grind (arith, nat_tests) in
+    let step = first_field_step g.T.Number.int_type c.self.view_is some c.self.invariant.within c.read_field-item.ensures.item
+    c.read_field-item.ensures.following in
+    record { steps = step; goes = one_item_less (field_items_left g.T.Number.int_type) _ (λ _. tt) _ step.0 }

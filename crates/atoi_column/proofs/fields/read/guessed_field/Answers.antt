@@ -1,6 +1,5 @@
 -- The bytes before what ends a field are the field.
-use Rattle.std.proofs.Common.{◌+◌, length-drop, refl, sym, arith}
-use Rattle.std.proofs.lemmas.Bool.{eqb-true}
+use Rattle.std.proofs.Common.{◌+◌, length-drop, refl, sym, arith, eqb-true}
 use Rattle.std.proofs.lemmas.List.{take_rest}
 use Rattle.atoi_column.proofs.lemmas.FoundFields.{accepted_text}
 use Rattle.atoi_column.proofs.fields.read.guessed_field.Goals as goal
