@@ -128,12 +128,8 @@ module _ (int : IntType) (sized : IsSized int) (text : List ℕ) where
   whole_is UnexpectedByte offset h =
       let found = found_before h.before in
       let place : offset ≡ sign.taken + digits = omega (arith, found.count_is) in
-      rw (
-        place,
-        ne_eqb digits 0 (omega (arith, found.is_prefix.some)),
-        le-ltb _ _ found.is_prefix.in_range,
-        lt-ltb (sign.taken + digits) (length text) (omega (arith, h.more)),
-      ) refl
+      let more = lt-ltb (sign.taken + digits) (length text) (omega (arith, h.more)) in
+      rw (place, ne_eqb digits 0 (omega (arith, found.is_prefix.some)), le-ltb _ _ found.is_prefix.in_range, more) refl
   whole_is TooLarge offset h =
       let is = over h.0 in rw (h.1, h.0.sign_is, ne_eqb digits 0 (omega (arith, is.0)), lt-ltb _ _ is.1) refl
   whole_is TooSmall offset h =
@@ -151,11 +147,7 @@ module _ (int : IntType) (sized : IsSized int) (text : List ℕ) where
   -- ---- Reasons
 
   over_whole : 0 < digits → bound_of int sign.minus < number → IsWholeFault int text (range_fault text) 0
-  over_whole some above = rw (sign_decides int.signed text some) (by_sign sign.minus (out_of_range some above))
-    where
-      by_sign : (is_negative : Bool) → IsOutOfRange int is_negative text → IsWholeFault int text (signed_fault is_negative) 0
-      by_sign true is = (is, refl)
-      by_sign false is = (is, refl)
+  over_whole some above = grind (arith, nat_tests, cases_Bool, sign_decides int.signed text some, out_of_range some above)
 
   -- A number with too many digits is out of range.
   long_is_over : is_above (limit_at (class_of int) whole true (limit_of int)) (significant_len decimal_table true sign.body) ≡ true
@@ -186,19 +178,11 @@ module _ (int : IntType) (sized : IsSized int) (text : List ℕ) where
   -- ---- A start that is refused
 
   over_prefix : 0 < digits → bound_of int sign.minus < number → IsPrefixFault int text (range_fault text) 0
-  over_prefix some above = rw (sign_decides int.signed text some) (by_sign sign.minus (out_of_range some above))
-    where
-      by_sign : (is_negative : Bool) → IsOutOfRange int is_negative text → IsPrefixFault int text (signed_fault is_negative) 0
-      by_sign true is = (is, refl)
-      by_sign false is = (is, refl)
+  over_prefix some above = grind (arith, nat_tests, cases_Bool, sign_decides int.signed text some, out_of_range some above)
 
   none_prefix : HasNoDigit int text sign.taken → IsPrefixFault int text (cond (eqb (length sign.body) 0) Empty NoDigit) sign.taken
   none_prefix none =
-      let taken = length-taken int (looked_for true) text in
-      elim (cases_Bool (eqb (length sign.body) 0)) [
-        | inl is ↦ rw is (none, omega (arith, taken, eqb-true (length sign.body) 0 is))
-        | inr not ↦ rw not (none, omega (arith, taken, eqb-false (length sign.body) 0 not))
-      ]
+      grind (arith, nat_tests, none, length-taken int (looked_for true) text)
 
   pub prefix_error : ((v : ℤ) (count : ℕ) → ¬ PrefixWrites (TextWrites int true) text v count)
       → IsPrefixFault int text (error_of_prefix int.signed text).fault (error_of_prefix int.signed text).offset
@@ -222,9 +206,7 @@ module _ {A : Type 0} (P : Fault → ℕ → Type 0) (decided : Option (Fault ×
         let both : Some (error.fault, error.offset) ≡ Some (fault, offset) =
         sym (decides error.fault error.offset holds) ∙ decides fault offset other in
         let pair : (error.fault, error.offset) ≡ (fault, offset) = cc in
-        let kind : error.fault ≡ fault = ap (λ (p : Fault × ℕ). p.0) pair in
-        let place : error.offset ≡ offset = ap (λ (p : Fault × ℕ). p.1) pair in
-        rw (← kind, ← place) refl,
+        ap (λ (p : Fault × ℕ). Err (int_error p.0 p.1)) pair,
   )
 
   accepts : (returned : A) → decided ≡ None → (fault : Fault) → FailsIff (Ok returned) fault (P fault)
@@ -245,12 +227,10 @@ module _ {int : IntType} (sized : IsSized int) (text : List ℕ) {A : Type 0} wh
       let g = sign_of int.signed true text in
       let is = from_whole int g.minus true g.body v
       (sym (whole_call-is int (looked_for true) true text) ∙ (accepted_numbers int sized).accepted (looked_for true) text v written) in
-      let none : whole_fault int sized text ≡ None =
-      rw (
-        ne_eqb (run_len decimal_table g.body) 0 (omega (arith, is.some)),
-        le-ltb _ _ is.in_range,
-        le-ltb (g.taken + run_len decimal_table g.body) (length text) (omega (arith, is.all, length-taken int (looked_for true) text)),
-      ) refl in
+      let some = ne_eqb (run_len decimal_table g.body) 0 (omega (arith, is.some)) in
+      let taken = length-taken int (looked_for true) text in
+      let all = le-ltb (g.taken + run_len decimal_table g.body) (length text) (omega (arith, is.all, taken)) in
+      let none : whole_fault int sized text ≡ None = rw (some, le-ltb _ _ is.in_range, all) refl in
       accepts (IsWholeFault int text) (whole_fault int sized text) (whole_is int sized text) returned none
 
   pub prefix_accepts : (returned : A) {v : ℤ} {count : ℕ} → PrefixWrites (TextWrites int true) text v count

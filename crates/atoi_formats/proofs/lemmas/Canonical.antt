@@ -10,6 +10,7 @@ use Rattle.atoi_core.specs.Laws.{DecimalTexts, least_of}
 use Rattle.atoi_core.specs.Sign.{with_sign}
 use Rattle.atoi_core.specs.Text.{SignMark, no_sign, plus, minus, sign_bytes, is_minus, is_plus, DigitsWrite, TextWrites, BeginsWithDigit, has_needless_zero}
 use Rattle.atoi_formats.specs.Formats.{IsPrinted, has_needless_byte}
+use Rattle.std.proofs.lemmas.Bool.Decides.{nat_tests}
 
 -- ---- What is printed has no needless byte
 
@@ -26,8 +27,7 @@ minus_shortest (digit ∷ next ∷ more) h some = h
 -- A negative number of the type has a magnitude in range.
 magnitude : (signed : Bool) (greatest n : ℕ) → cond signed (neg_ℤ (pos (greatest + 1))) (pos 0) ≤ℤ negsuc n
     → suc n ≤ greatest + 1
-magnitude true greatest n least = omega (arith, ints)
-magnitude false greatest n least = omega (arith, ints)
+magnitude signed greatest n least = grind (arith, ints)
 
 module _ {int : IntType} (law : DecimalTexts int) where
   printed_shortest : (number : ℤ) → least_of int ≤ℤ number → number ≤ℤ pos int.greatest
@@ -61,10 +61,7 @@ no_needless_zero minus (digit ∷ next ∷ more) none h = h
 pub in_range : (signed is_negative : Bool) (greatest n : ℕ) → (is_negative ≡ true → signed ≡ true)
     → n ≤ cond is_negative (greatest + 1) greatest
     → (cond signed (neg_ℤ (pos (greatest + 1))) (pos 0) ≤ℤ with_sign is_negative n) × (with_sign is_negative n ≤ℤ pos greatest)
-in_range true true greatest n has le = (omega (arith, ints), omega (arith, ints))
-in_range true false greatest n has le = (omega (arith, ints), omega (arith, ints))
-in_range false true greatest n has le = absurd (cc (has refl))
-in_range false false greatest n has le = (omega (arith, ints), omega (arith, ints))
+in_range signed is_negative greatest n has le = grind (arith, ints)
 
 -- Digits after a minus without a needless byte do not spell zero.
 not_zero : {int : IntType} → DecimalTexts int → (sign : SignMark) (digits : List ℕ) (number : ℤ)

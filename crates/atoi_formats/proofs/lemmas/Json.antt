@@ -12,6 +12,7 @@ use Rattle.atoi_core.specs.Sign.{with_sign}
 use Rattle.atoi_core.specs.Text.{SignMark, no_sign, plus, minus, sign_bytes, is_minus, is_plus, TextWrites, BeginsWithDigit, has_needless_zero}
 use Rattle.atoi_formats.specs.Formats.{WritesInJson, goes_on, minus_if}
 use Rattle.atoi_formats.proofs.lemmas.Canonical.{in_range}
+use Rattle.std.proofs.lemmas.Bool.Decides.{nat_tests}
 
 pub no_digit : (rest : List ℕ) → IsFalse (goes_on rest) → ¬ BeginsWithDigit rest
 no_digit [] ends begins = begins
@@ -21,8 +22,7 @@ no_digit (byte ∷ rest) ends begins =
 -- ---- A zero at the start, perhaps after a minus
 
 zero_value : (is_negative : Bool) → with_sign is_negative 0 ≡ pos 0
-zero_value true = refl
-zero_value false = refl
+zero_value is_negative = grind arith
 
 pub zero_written : (int : IntType) (is_negative : Bool) → WritesInJson int (minus_if is_negative ++ 48 ∷ []) (pos 0)
 zero_written int is_negative = record {
@@ -37,8 +37,7 @@ zero_written int is_negative = record {
 }
   where
     least : (signed : Bool) (greatest : ℕ) → cond signed (neg_ℤ (pos (greatest + 1))) (pos 0) ≤ℤ pos 0
-    least true greatest = omega (arith, ints)
-    least false greatest = omega (arith, ints)
+    least signed greatest = grind (arith, ints)
 
 -- Digits that begin with a zero and have no needless one are that zero.
 one_zero : (digits rest more : List ℕ) → IsNumeral 10 digits → IsFalse (has_needless_zero digits)
@@ -76,8 +75,7 @@ BeginsWithoutZero text = (is_negative : Bool) (rest : List ℕ) → text ≢ min
 
 negative_range : (signed : Bool) (greatest n : ℕ) → n ≢ 0 → cond signed (neg_ℤ (pos (greatest + 1))) (pos 0) ≤ℤ neg_ℤ (pos n)
     → (signed ≡ true) × (n ≤ greatest + 1)
-negative_range true greatest n some least = (refl, omega (arith, ints))
-negative_range false greatest n some least = absurd (omega (arith, ints))
+negative_range signed greatest n some least = grind (arith, ints)
 
 no_needless : (digits : List ℕ) → ((rest : List ℕ) → digits ≢ 48 ∷ rest) → IsFalse (has_needless_zero digits)
 no_needless [] other = refl
@@ -86,9 +84,7 @@ no_needless (digit ∷ next ∷ more) other = ne_eqb digit 48 (λ same. other (n
 
 -- The sign that a type without a plus can have.
 minus_bytes : (sign : SignMark) → (is_plus sign ≡ true → false ≡ true) → sign_bytes sign ≡ minus_if (is_minus sign)
-minus_bytes no_sign none = refl
-minus_bytes plus none = absurd (cc (none refl))
-minus_bytes minus none = refl
+minus_bytes sign none = grind arith
 
 module _ {int : IntType} where
   signed_text : DecimalTexts int → (is_negative : Bool) (digits : List ℕ) → IsNumeral 10 digits → IsFalse (has_needless_zero digits)

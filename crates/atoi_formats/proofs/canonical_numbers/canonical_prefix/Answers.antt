@@ -1,7 +1,6 @@
 -- The prefix that a parse finds is the only candidate, and is accepted exactly if it has no needless byte.
-use Rattle.std.proofs.Common.{◌≡◌, false, length, take, refl, sym, ◌∙◌, rules}
+use Rattle.std.proofs.Common.{◌≡◌, false, length, take, refl, sym, ◌∙◌, rules, take-append-drop}
 use Rattle.std.proofs.lemmas.Bool.{both_ways}
-use Rattle.std.proofs.lemmas.List.{take-append-drop}
 use Rattle.atoi_core.specs.Laws.{looked_for}
 use Rattle.atoi_formats.specs.Formats.{IsCanonical, has_needless_byte}
 use Rattle.atoi_formats.proofs.lemmas.Outcomes.{accepted, refused}

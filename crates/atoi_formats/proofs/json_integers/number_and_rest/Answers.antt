@@ -1,6 +1,5 @@
 -- A zero is read alone. Any other number is the prefix that a parse finds.
-use Rattle.std.proofs.Common.{[], ◌∷◌, ◌++◌, length, refl, sym, ◌∙◌, append_assoc, false, rules}
-use Rattle.std.proofs.lemmas.List.{take-append-drop}
+use Rattle.std.proofs.Common.{[], ◌∷◌, ◌++◌, length, refl, sym, ◌∙◌, append_assoc, false, rules, take-append-drop}
 use Rattle.atoi_core.specs.Laws.{looked_for}
 use Rattle.atoi_formats.specs.Formats.{IsJsonInteger, minus_if}
 use Rattle.atoi_formats.proofs.lemmas.Outcomes.{accepted, refused}

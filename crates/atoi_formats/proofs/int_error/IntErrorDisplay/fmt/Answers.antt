@@ -4,7 +4,6 @@ use Rattle.std.proofs.lemmas.Str.{IsUtf8-from_ascii}
 use Rattle.atoi_formats.specs.Ascii.{int_error_text}
 use Rattle.atoi_formats.proofs.lemmas.Written.{written_both}
 use Rattle.atoi_formats.proofs.int_error.IntErrorDisplay.fmt.Goals as goal
-use Rattle.atoi_formats.proofs.int_error.IntErrorDisplay.fmt.Goals.{in-Empty, in-UnexpectedByte}
 
 pub unwrap-requires : goal.unwrap-requires
 unwrap-requires g c = search (rules, IsUtf8-from_ascii)
@@ -15,5 +14,5 @@ returns-clause-styled g c = λ flush ok.
     let both = written_both g.W.Write.write_str_gives _ _ _ _ _ first (c.write_str-3.ensures.styled first.flush ok) in
     let digits : c.unwrap.result.now ≡ decimal c.args.self.now.offset = search rules in
     let text : int_error_text c.args.self.now ≡ c.match-self.what.now ++ c.unwrap.result.now =
-    rw digits (elim c.match-self.branch [ in-Empty w ↦ grind arith | in-UnexpectedByte w ↦ grind arith ]) in
+    rw digits (elim c.match-self.branch [ goal.in-Empty w ↦ grind arith | goal.in-UnexpectedByte w ↦ grind arith ]) in
     rw text both
