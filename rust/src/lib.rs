@@ -23,7 +23,8 @@
 //!
 //! Without the flag `SKIP_ZEROES` of `parse`, leading zeros are accepted too, but they count as digits, and
 //! some calls limit the number of digits ([`AtoiSimdError::Size`]). The [`guide`] has more: flags, errors,
-//! files, embedded systems, debug builds and platforms. The [`recipes`] have code for common jobs.
+//! files, embedded systems, debug builds and platforms. The [`recipes`] have code for common jobs. Links to
+//! docs.rs work from the first release on.
 //!
 //! # In place of `atoi_simd`
 //!
