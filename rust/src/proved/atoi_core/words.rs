@@ -65,21 +65,13 @@ impl Engine for Words {
 }
 
 /// Returns the word of the first 8 bytes of `s`. A missing byte is 0.
-// #[tactic(auto, using(std::proofs::lemmas::List::take_all, crate::proofs::lemmas::LoadedWords::word_of_first))]
+// #[tactic(auto, using(std::proofs::lemmas::List::take_all, crate::proofs::lemmas::LoadedWords::word_of_first, crate::proofs::lemmas::LoadedWords::word_from_eight))]
 #[inline] pub fn load_8(s: &[u8]) -> u64
     // ensures { result ≡ word_of (take 8 s.now) }
 {
-    match s.first_chunk::<8>() {
-        Some(bytes) => u64::from_le_bytes(*bytes),
-        None => load_part(s),
+    if let Some(bytes) = s.first_chunk::<8>() {
+        return u64::from_le_bytes(*bytes);
     }
-}
-
-// #[tactic(auto, using(crate::proofs::lemmas::LoadedWords::word_from_eight))]
-#[inline] fn load_part(s: &[u8]) -> u64
-    // requires { length s.now < 8 }
-    // ensures { result ≡ word_of s.now }
-{
     match (s.first_chunk::<4>(), s.last_chunk::<4>()) {
         (Some(first), Some(last)) => {
             let low = u64::from(u32::from_le_bytes(*first));
