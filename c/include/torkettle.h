@@ -1587,7 +1587,7 @@ TK_INLINE tk_option_pair_i8_size tk_digit_prefix_i8(tk_bytes s)
 
 /*
  * Returns the number at the start of a slice and its length, if that is one digit or two, or, in a slice of at least
- * 16 bytes, fewer than 16 bytes. Others may be `None`, too. A minus before more digits needs no branch.
+ * 16 bytes, fewer than 16 bytes. Others may be `None`, too.
  */
 /* atoi_fast/src/quick.rt:50 */
 TK_INLINE tk_option_pair_i8_size tk_quick_prefix_i8(tk_bytes s)

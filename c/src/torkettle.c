@@ -1625,7 +1625,7 @@ TK_INLINE tk_option_i8 tk_slice_of_two_words_i8(tk_bytes s)
     return tk_number_in_range_i8(TK_MOST_IN_TWO_WORDS, minus, magnitude);
 }
 
-/* Returns the number of a slice of 2 to 15 bytes, if all are digits after at most a minus, which needs no branch. */
+/* Returns the number of a slice of 2 to 15 bytes, if all are digits after at most a minus. */
 /* atoi_fast/src/quick.rt:25 */
 TK_INLINE tk_option_i8 tk_quick_slice_i8(tk_bytes s)
 {
@@ -2817,7 +2817,8 @@ TK_INLINE tk_result_i8 tk_atoi_core_parse_text_i8(bool skip, bool skip_plus, tk_
     return tk_whole_with_sign_i8(minus, skip, body);
 }
 
-/* atoi_fast/src/called.rt:16 */
+/* `atoi_core::parse_text`, with at most one load more. */
+/* atoi_fast/src/called.rt:17 */
 TK_INLINE tk_result_i8 tk_called_parse_text_i8(bool skip, bool skip_plus, tk_bytes s)
 {
     if (s.len == 1 && '0' <= s.at[0] && s.at[0] <= '9') {
@@ -2874,7 +2875,7 @@ TK_INLINE tk_result_u8 tk_atoi_core_parse_text_u8(bool skip, bool skip_plus, tk_
     return tk_whole_with_sign_u8(minus, skip, body);
 }
 
-/* atoi_fast/src/called.rt:16 */
+/* atoi_fast/src/called.rt:17 */
 TK_INLINE tk_result_u8 tk_called_parse_text_u8(bool skip, bool skip_plus, tk_bytes s)
 {
     if (s.len == 1 && '0' <= s.at[0] && s.at[0] <= '9') {
@@ -2931,7 +2932,7 @@ TK_INLINE tk_result_i16 tk_atoi_core_parse_text_i16(bool skip, bool skip_plus, t
     return tk_whole_with_sign_i16(minus, skip, body);
 }
 
-/* atoi_fast/src/called.rt:16 */
+/* atoi_fast/src/called.rt:17 */
 TK_INLINE tk_result_i16 tk_called_parse_text_i16(bool skip, bool skip_plus, tk_bytes s)
 {
     if (s.len == 1 && '0' <= s.at[0] && s.at[0] <= '9') {
@@ -2988,7 +2989,7 @@ TK_INLINE tk_result_u16 tk_atoi_core_parse_text_u16(bool skip, bool skip_plus, t
     return tk_whole_with_sign_u16(minus, skip, body);
 }
 
-/* atoi_fast/src/called.rt:16 */
+/* atoi_fast/src/called.rt:17 */
 TK_INLINE tk_result_u16 tk_called_parse_text_u16(bool skip, bool skip_plus, tk_bytes s)
 {
     if (s.len == 1 && '0' <= s.at[0] && s.at[0] <= '9') {
@@ -3045,7 +3046,7 @@ TK_INLINE tk_result_i32 tk_atoi_core_parse_text_i32(bool skip, bool skip_plus, t
     return tk_whole_with_sign_i32(minus, skip, body);
 }
 
-/* atoi_fast/src/called.rt:16 */
+/* atoi_fast/src/called.rt:17 */
 TK_INLINE tk_result_i32 tk_called_parse_text_i32(bool skip, bool skip_plus, tk_bytes s)
 {
     if (s.len == 1 && '0' <= s.at[0] && s.at[0] <= '9') {
@@ -3102,7 +3103,7 @@ TK_INLINE tk_result_u32 tk_atoi_core_parse_text_u32(bool skip, bool skip_plus, t
     return tk_whole_with_sign_u32(minus, skip, body);
 }
 
-/* atoi_fast/src/called.rt:16 */
+/* atoi_fast/src/called.rt:17 */
 TK_INLINE tk_result_u32 tk_called_parse_text_u32(bool skip, bool skip_plus, tk_bytes s)
 {
     if (s.len == 1 && '0' <= s.at[0] && s.at[0] <= '9') {
@@ -3160,7 +3161,7 @@ TK_INLINE tk_result_i64 tk_atoi_core_parse_text_i64(bool skip, bool skip_plus, t
     return tk_whole_with_sign_i64(minus, skip, body);
 }
 
-/* atoi_fast/src/called.rt:16 */
+/* atoi_fast/src/called.rt:17 */
 TK_INLINE tk_result_i64 tk_called_parse_text_i64(bool skip, bool skip_plus, tk_bytes s)
 {
     if (s.len == 1 && '0' <= s.at[0] && s.at[0] <= '9') {
@@ -3218,7 +3219,7 @@ TK_INLINE tk_result_u64 tk_atoi_core_parse_text_u64(bool skip, bool skip_plus, t
     return tk_whole_with_sign_u64(minus, skip, body);
 }
 
-/* atoi_fast/src/called.rt:16 */
+/* atoi_fast/src/called.rt:17 */
 TK_INLINE tk_result_u64 tk_called_parse_text_u64(bool skip, bool skip_plus, tk_bytes s)
 {
     if (s.len == 1 && '0' <= s.at[0] && s.at[0] <= '9') {
@@ -3277,7 +3278,7 @@ TK_INLINE tk_result_i128 tk_atoi_core_parse_text_i128(bool skip, bool skip_plus,
     return tk_whole_with_sign_i128(minus, skip, body);
 }
 
-/* atoi_fast/src/called.rt:16 */
+/* atoi_fast/src/called.rt:17 */
 TK_INLINE tk_result_i128 tk_called_parse_text_i128(bool skip, bool skip_plus, tk_bytes s)
 {
     if (s.len == 1 && '0' <= s.at[0] && s.at[0] <= '9') {
@@ -3336,7 +3337,7 @@ TK_INLINE tk_result_u128 tk_atoi_core_parse_text_u128(bool skip, bool skip_plus,
     return tk_whole_with_sign_u128(minus, skip, body);
 }
 
-/* atoi_fast/src/called.rt:16 */
+/* atoi_fast/src/called.rt:17 */
 TK_INLINE tk_result_u128 tk_called_parse_text_u128(bool skip, bool skip_plus, tk_bytes s)
 {
     if (s.len == 1 && '0' <= s.at[0] && s.at[0] <= '9') {
@@ -3474,7 +3475,8 @@ TK_INLINE tk_result_pair_i8_size tk_atoi_core_parse_prefix_text_i8(bool skip, bo
     return tk_ok_pair_i8_size(tk_new_pair_i8_size(number, len + (s.len - body.len)));
 }
 
-/* atoi_fast/src/called.rt:40 */
+/* `atoi_core::parse_prefix_text`, with at most one load more. */
+/* atoi_fast/src/called.rt:42 */
 TK_INLINE tk_result_pair_i8_size tk_called_parse_prefix_text_i8(bool skip, bool skip_plus, tk_bytes s)
 {
     if (s.len >= 16) {
@@ -3552,7 +3554,7 @@ TK_INLINE tk_result_pair_u8_size tk_atoi_core_parse_prefix_text_u8(bool skip, bo
     return tk_ok_pair_u8_size(tk_new_pair_u8_size(number, len + (s.len - body.len)));
 }
 
-/* atoi_fast/src/called.rt:40 */
+/* atoi_fast/src/called.rt:42 */
 TK_INLINE tk_result_pair_u8_size tk_called_parse_prefix_text_u8(bool skip, bool skip_plus, tk_bytes s)
 {
     if (s.len >= 16) {
@@ -3613,7 +3615,7 @@ TK_INLINE tk_result_pair_i16_size tk_atoi_core_parse_prefix_text_i16(bool skip, 
     return tk_ok_pair_i16_size(tk_new_pair_i16_size(number, len + (s.len - body.len)));
 }
 
-/* atoi_fast/src/called.rt:40 */
+/* atoi_fast/src/called.rt:42 */
 TK_INLINE tk_result_pair_i16_size tk_called_parse_prefix_text_i16(bool skip, bool skip_plus, tk_bytes s)
 {
     if (s.len >= 16) {
@@ -3691,7 +3693,7 @@ TK_INLINE tk_result_pair_u16_size tk_atoi_core_parse_prefix_text_u16(bool skip, 
     return tk_ok_pair_u16_size(tk_new_pair_u16_size(number, len + (s.len - body.len)));
 }
 
-/* atoi_fast/src/called.rt:40 */
+/* atoi_fast/src/called.rt:42 */
 TK_INLINE tk_result_pair_u16_size tk_called_parse_prefix_text_u16(bool skip, bool skip_plus, tk_bytes s)
 {
     if (s.len >= 16) {
@@ -3752,7 +3754,7 @@ TK_INLINE tk_result_pair_i32_size tk_atoi_core_parse_prefix_text_i32(bool skip, 
     return tk_ok_pair_i32_size(tk_new_pair_i32_size(number, len + (s.len - body.len)));
 }
 
-/* atoi_fast/src/called.rt:40 */
+/* atoi_fast/src/called.rt:42 */
 TK_INLINE tk_result_pair_i32_size tk_called_parse_prefix_text_i32(bool skip, bool skip_plus, tk_bytes s)
 {
     if (s.len >= 16) {
@@ -3830,7 +3832,7 @@ TK_INLINE tk_result_pair_u32_size tk_atoi_core_parse_prefix_text_u32(bool skip, 
     return tk_ok_pair_u32_size(tk_new_pair_u32_size(number, len + (s.len - body.len)));
 }
 
-/* atoi_fast/src/called.rt:40 */
+/* atoi_fast/src/called.rt:42 */
 TK_INLINE tk_result_pair_u32_size tk_called_parse_prefix_text_u32(bool skip, bool skip_plus, tk_bytes s)
 {
     if (s.len >= 16) {
@@ -3892,7 +3894,7 @@ TK_INLINE tk_result_pair_i64_size tk_atoi_core_parse_prefix_text_i64(bool skip, 
     return tk_ok_pair_i64_size(tk_new_pair_i64_size(number, len + (s.len - body.len)));
 }
 
-/* atoi_fast/src/called.rt:40 */
+/* atoi_fast/src/called.rt:42 */
 TK_INLINE tk_result_pair_i64_size tk_called_parse_prefix_text_i64(bool skip, bool skip_plus, tk_bytes s)
 {
     if (s.len >= 16) {
@@ -3971,7 +3973,7 @@ TK_INLINE tk_result_pair_u64_size tk_atoi_core_parse_prefix_text_u64(bool skip, 
     return tk_ok_pair_u64_size(tk_new_pair_u64_size(number, len + (s.len - body.len)));
 }
 
-/* atoi_fast/src/called.rt:40 */
+/* atoi_fast/src/called.rt:42 */
 TK_INLINE tk_result_pair_u64_size tk_called_parse_prefix_text_u64(bool skip, bool skip_plus, tk_bytes s)
 {
     if (s.len >= 16) {
@@ -4034,7 +4036,7 @@ TK_INLINE tk_result_pair_i128_size tk_atoi_core_parse_prefix_text_i128(bool skip
     return tk_ok_pair_i128_size(tk_new_pair_i128_size(number, len + (s.len - body.len)));
 }
 
-/* atoi_fast/src/called.rt:40 */
+/* atoi_fast/src/called.rt:42 */
 TK_INLINE tk_result_pair_i128_size tk_called_parse_prefix_text_i128(bool skip, bool skip_plus, tk_bytes s)
 {
     if (s.len >= 16) {
@@ -4114,7 +4116,7 @@ TK_INLINE tk_result_pair_u128_size tk_atoi_core_parse_prefix_text_u128(bool skip
     return tk_ok_pair_u128_size(tk_new_pair_u128_size(number, len + (s.len - body.len)));
 }
 
-/* atoi_fast/src/called.rt:40 */
+/* atoi_fast/src/called.rt:42 */
 TK_INLINE tk_result_pair_u128_size tk_called_parse_prefix_text_u128(bool skip, bool skip_plus, tk_bytes s)
 {
     if (s.len >= 16) {
@@ -4152,7 +4154,8 @@ TK_INLINE tk_result_i8 tk_atoi_core_whole_pos_i8(bool skip, tk_bytes s)
     return tk_whole_with_sign_i8(false, skip, s);
 }
 
-/* atoi_fast/src/called.rt:68 */
+/* `atoi_core::whole_pos`, with at most one load more. */
+/* atoi_fast/src/called.rt:71 */
 TK_INLINE tk_result_i8 tk_called_whole_pos_i8(bool skip, tk_bytes s)
 {
     if (s.len >= 2 && '0' <= s.at[0] && s.at[0] <= '9' && s.len < 16) {
@@ -4177,7 +4180,7 @@ TK_INLINE tk_result_u8 tk_atoi_core_whole_pos_u8(bool skip, tk_bytes s)
     return tk_whole_with_sign_u8(false, skip, s);
 }
 
-/* atoi_fast/src/called.rt:68 */
+/* atoi_fast/src/called.rt:71 */
 TK_INLINE tk_result_u8 tk_called_whole_pos_u8(bool skip, tk_bytes s)
 {
     if (s.len >= 2 && '0' <= s.at[0] && s.at[0] <= '9' && s.len < 16) {
@@ -4202,7 +4205,7 @@ TK_INLINE tk_result_i16 tk_atoi_core_whole_pos_i16(bool skip, tk_bytes s)
     return tk_whole_with_sign_i16(false, skip, s);
 }
 
-/* atoi_fast/src/called.rt:68 */
+/* atoi_fast/src/called.rt:71 */
 TK_INLINE tk_result_i16 tk_called_whole_pos_i16(bool skip, tk_bytes s)
 {
     if (s.len >= 2 && '0' <= s.at[0] && s.at[0] <= '9' && s.len < 16) {
@@ -4227,7 +4230,7 @@ TK_INLINE tk_result_u16 tk_atoi_core_whole_pos_u16(bool skip, tk_bytes s)
     return tk_whole_with_sign_u16(false, skip, s);
 }
 
-/* atoi_fast/src/called.rt:68 */
+/* atoi_fast/src/called.rt:71 */
 TK_INLINE tk_result_u16 tk_called_whole_pos_u16(bool skip, tk_bytes s)
 {
     if (s.len >= 2 && '0' <= s.at[0] && s.at[0] <= '9' && s.len < 16) {
@@ -4252,7 +4255,7 @@ TK_INLINE tk_result_i32 tk_atoi_core_whole_pos_i32(bool skip, tk_bytes s)
     return tk_whole_with_sign_i32(false, skip, s);
 }
 
-/* atoi_fast/src/called.rt:68 */
+/* atoi_fast/src/called.rt:71 */
 TK_INLINE tk_result_i32 tk_called_whole_pos_i32(bool skip, tk_bytes s)
 {
     if (s.len >= 2 && '0' <= s.at[0] && s.at[0] <= '9' && s.len < 16) {
@@ -4277,7 +4280,7 @@ TK_INLINE tk_result_u32 tk_atoi_core_whole_pos_u32(bool skip, tk_bytes s)
     return tk_whole_with_sign_u32(false, skip, s);
 }
 
-/* atoi_fast/src/called.rt:68 */
+/* atoi_fast/src/called.rt:71 */
 TK_INLINE tk_result_u32 tk_called_whole_pos_u32(bool skip, tk_bytes s)
 {
     if (s.len >= 2 && '0' <= s.at[0] && s.at[0] <= '9' && s.len < 16) {
@@ -4302,7 +4305,7 @@ TK_INLINE tk_result_i64 tk_atoi_core_whole_pos_i64(bool skip, tk_bytes s)
     return tk_whole_with_sign_i64(false, skip, s);
 }
 
-/* atoi_fast/src/called.rt:68 */
+/* atoi_fast/src/called.rt:71 */
 TK_INLINE tk_result_i64 tk_called_whole_pos_i64(bool skip, tk_bytes s)
 {
     if (s.len >= 2 && '0' <= s.at[0] && s.at[0] <= '9' && s.len < 16) {
@@ -4327,7 +4330,7 @@ TK_INLINE tk_result_u64 tk_atoi_core_whole_pos_u64(bool skip, tk_bytes s)
     return tk_whole_with_sign_u64(false, skip, s);
 }
 
-/* atoi_fast/src/called.rt:68 */
+/* atoi_fast/src/called.rt:71 */
 TK_INLINE tk_result_u64 tk_called_whole_pos_u64(bool skip, tk_bytes s)
 {
     if (s.len >= 2 && '0' <= s.at[0] && s.at[0] <= '9' && s.len < 16) {
@@ -4352,7 +4355,7 @@ TK_INLINE tk_result_i128 tk_atoi_core_whole_pos_i128(bool skip, tk_bytes s)
     return tk_whole_with_sign_i128(false, skip, s);
 }
 
-/* atoi_fast/src/called.rt:68 */
+/* atoi_fast/src/called.rt:71 */
 TK_INLINE tk_result_i128 tk_called_whole_pos_i128(bool skip, tk_bytes s)
 {
     if (s.len >= 2 && '0' <= s.at[0] && s.at[0] <= '9' && s.len < 16) {
@@ -4377,7 +4380,7 @@ TK_INLINE tk_result_u128 tk_atoi_core_whole_pos_u128(bool skip, tk_bytes s)
     return tk_whole_with_sign_u128(false, skip, s);
 }
 
-/* atoi_fast/src/called.rt:68 */
+/* atoi_fast/src/called.rt:71 */
 TK_INLINE tk_result_u128 tk_called_whole_pos_u128(bool skip, tk_bytes s)
 {
     if (s.len >= 2 && '0' <= s.at[0] && s.at[0] <= '9' && s.len < 16) {
@@ -4430,7 +4433,8 @@ TK_INLINE tk_result_pair_i8_size tk_atoi_core_prefix_pos_i8(bool skip, tk_bytes 
     return tk_prefix_with_sign_i8(false, skip, s);
 }
 
-/* atoi_fast/src/called.rt:90 */
+/* `atoi_core::prefix_pos`, with at most one load more. */
+/* atoi_fast/src/called.rt:94 */
 TK_NOINLINE tk_result_pair_i8_size tk_called_prefix_pos_i8(bool skip, tk_bytes s)
 {
     if (s.len >= 1 && '0' <= s.at[0] && s.at[0] <= '9' && s.len >= 16) {
@@ -4461,7 +4465,7 @@ TK_INLINE tk_result_pair_u8_size tk_atoi_core_prefix_pos_u8(bool skip, tk_bytes 
     return tk_prefix_with_sign_u8(false, skip, s);
 }
 
-/* atoi_fast/src/called.rt:90 */
+/* atoi_fast/src/called.rt:94 */
 TK_NOINLINE tk_result_pair_u8_size tk_called_prefix_pos_u8(bool skip, tk_bytes s)
 {
     if (s.len >= 1 && '0' <= s.at[0] && s.at[0] <= '9' && s.len >= 16) {
@@ -4509,7 +4513,7 @@ TK_INLINE tk_result_pair_i16_size tk_atoi_core_prefix_pos_i16(bool skip, tk_byte
     return tk_prefix_with_sign_i16(false, skip, s);
 }
 
-/* atoi_fast/src/called.rt:90 */
+/* atoi_fast/src/called.rt:94 */
 TK_NOINLINE tk_result_pair_i16_size tk_called_prefix_pos_i16(bool skip, tk_bytes s)
 {
     if (s.len >= 1 && '0' <= s.at[0] && s.at[0] <= '9' && s.len >= 16) {
@@ -4540,7 +4544,7 @@ TK_INLINE tk_result_pair_u16_size tk_atoi_core_prefix_pos_u16(bool skip, tk_byte
     return tk_prefix_with_sign_u16(false, skip, s);
 }
 
-/* atoi_fast/src/called.rt:90 */
+/* atoi_fast/src/called.rt:94 */
 TK_NOINLINE tk_result_pair_u16_size tk_called_prefix_pos_u16(bool skip, tk_bytes s)
 {
     if (s.len >= 1 && '0' <= s.at[0] && s.at[0] <= '9' && s.len >= 16) {
@@ -4588,7 +4592,7 @@ TK_INLINE tk_result_pair_i32_size tk_atoi_core_prefix_pos_i32(bool skip, tk_byte
     return tk_prefix_with_sign_i32(false, skip, s);
 }
 
-/* atoi_fast/src/called.rt:90 */
+/* atoi_fast/src/called.rt:94 */
 TK_INLINE tk_result_pair_i32_size tk_called_prefix_pos_i32(bool skip, tk_bytes s)
 {
     if (s.len >= 1 && '0' <= s.at[0] && s.at[0] <= '9' && s.len >= 16) {
@@ -4619,7 +4623,7 @@ TK_INLINE tk_result_pair_u32_size tk_atoi_core_prefix_pos_u32(bool skip, tk_byte
     return tk_prefix_with_sign_u32(false, skip, s);
 }
 
-/* atoi_fast/src/called.rt:90 */
+/* atoi_fast/src/called.rt:94 */
 TK_INLINE tk_result_pair_u32_size tk_called_prefix_pos_u32(bool skip, tk_bytes s)
 {
     if (s.len >= 1 && '0' <= s.at[0] && s.at[0] <= '9' && s.len >= 16) {
@@ -4667,7 +4671,7 @@ TK_INLINE tk_result_pair_i64_size tk_atoi_core_prefix_pos_i64(bool skip, tk_byte
     return tk_prefix_with_sign_i64(false, skip, s);
 }
 
-/* atoi_fast/src/called.rt:90 */
+/* atoi_fast/src/called.rt:94 */
 TK_INLINE tk_result_pair_i64_size tk_called_prefix_pos_i64(bool skip, tk_bytes s)
 {
     if (s.len >= 1 && '0' <= s.at[0] && s.at[0] <= '9' && s.len >= 16) {
@@ -4698,7 +4702,7 @@ TK_INLINE tk_result_pair_u64_size tk_atoi_core_prefix_pos_u64(bool skip, tk_byte
     return tk_prefix_with_sign_u64(false, skip, s);
 }
 
-/* atoi_fast/src/called.rt:90 */
+/* atoi_fast/src/called.rt:94 */
 TK_INLINE tk_result_pair_u64_size tk_called_prefix_pos_u64(bool skip, tk_bytes s)
 {
     if (s.len >= 1 && '0' <= s.at[0] && s.at[0] <= '9' && s.len >= 16) {
@@ -4746,7 +4750,7 @@ TK_INLINE tk_result_pair_i128_size tk_atoi_core_prefix_pos_i128(bool skip, tk_by
     return tk_prefix_with_sign_i128(false, skip, s);
 }
 
-/* atoi_fast/src/called.rt:90 */
+/* atoi_fast/src/called.rt:94 */
 TK_NOINLINE tk_result_pair_i128_size tk_called_prefix_pos_i128(bool skip, tk_bytes s)
 {
     if (s.len >= 1 && '0' <= s.at[0] && s.at[0] <= '9' && s.len >= 16) {
@@ -4777,7 +4781,7 @@ TK_INLINE tk_result_pair_u128_size tk_atoi_core_prefix_pos_u128(bool skip, tk_by
     return tk_prefix_with_sign_u128(false, skip, s);
 }
 
-/* atoi_fast/src/called.rt:90 */
+/* atoi_fast/src/called.rt:94 */
 TK_NOINLINE tk_result_pair_u128_size tk_called_prefix_pos_u128(bool skip, tk_bytes s)
 {
     if (s.len >= 1 && '0' <= s.at[0] && s.at[0] <= '9' && s.len >= 16) {

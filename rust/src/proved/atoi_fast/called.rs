@@ -1,5 +1,5 @@
-/* Made by .ci/translate from crates/atoi_fast/src/called.rt. Do not edit. */ //! The parses that C has in place of the parses in `calls`. To take little code, each reads most numbers itself and
-//! calls the parse of its name in `atoi_core` for the others. Answers are the same, with at most one load more.
+/* Made by .ci/translate from crates/atoi_fast/src/called.rt. Do not edit. */ //! The parses that C has in place of the parses in `calls`. To take little code, each reads most numbers and
+//! calls the parse of its name in `atoi_core` for the others. Answers are the same.
 // ghost use Rattle.std.specs.Prelude.{◌≡◌, ◌+◌, ◌≤◌, false, IfOk, length};
 // ghost use Rattle.atoi_core.specs.Answer.{typed_answer, typed_prefix_answer, text_answer, text_prefix_answer, whole_answer, prefix_answer};
 // ghost use Rattle.atoi_core.specs.Digit.{decimal_table};
@@ -12,6 +12,7 @@ use crate::proved::atoi_fast::short_prefix::{loaded_prefix, short_prefix};
 use crate::proved::atoi_fast::short_slice::{loaded_digit, loaded_slice};
 use crate::proved::atoi_core::{AtoiSimdError, Engine, Number, Steps};
 
+/// `atoi_core::parse_text`, with at most one load more.
 #[inline(always)]
 pub fn parse_text<'a, E: Engine, T: Number>(
     skip: bool,
@@ -36,6 +37,7 @@ pub fn parse_text<'a, E: Engine, T: Number>(
     crate::proved::atoi_core::parse_text::<E, T>(skip, skip_plus, s, steps)
 }
 
+/// `atoi_core::parse_prefix_text`, with at most one load more.
 #[inline(always)]
 pub fn parse_prefix_text<'a, E: Engine, T: Number>(
     skip: bool,
@@ -64,6 +66,7 @@ pub fn parse_prefix_text<'a, E: Engine, T: Number>(
     crate::proved::atoi_core::parse_prefix_text::<E, T>(skip, skip_plus, s, steps)
 }
 
+/// `atoi_core::whole_pos`, with at most one load more.
 #[inline(always)]
 pub fn whole_pos<'a, E: Engine, T: Number>(
     skip: bool,
@@ -86,6 +89,7 @@ pub fn whole_pos<'a, E: Engine, T: Number>(
     crate::proved::atoi_core::whole_pos::<E, T>(skip, s, steps)
 }
 
+/// `atoi_core::prefix_pos`, with at most one load more.
 #[inline(always)]
 pub fn prefix_pos<'a, E: Engine, T: Number>(
     skip: bool,

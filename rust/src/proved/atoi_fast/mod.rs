@@ -1,5 +1,5 @@
 /* Made by .ci/translate from crates/atoi_fast/src/lib.rt. Do not edit. */ //! Two fast engines for the parsers of `atoi_core`: `Swar` reads words, and `Vectors` reads vectors of
-//! sixteen bytes. They have parsers of 64 and 128 bits of their own. All are tuned for rustc's build.
+//! sixteen bytes.
 // #![tactic(auto)]
 
 mod after_16;

@@ -20,7 +20,7 @@ pub fn one_digit<T: Number>(s: &[u8]) -> Option<T>
     }
 }
 
-/// Returns the number of a slice of 2 to 15 bytes, if all are digits after at most a minus, which needs no branch.
+/// Returns the number of a slice of 2 to 15 bytes, if all are digits after at most a minus.
 #[inline(always)]
 pub fn quick_slice<T: Number>(s: &[u8]) -> Option<T>
     // ensures { IfSome result (λ number. IsNumber T.int_type s.now (T.number number)) }
@@ -45,7 +45,7 @@ pub fn long_slice<T: Number>(s: &[u8]) -> Option<T>
 }
 
 /// Returns the number at the start of a slice and its length, if that is one digit or two, or, in a slice of at least
-/// 16 bytes, fewer than 16 bytes. Others may be `None`, too. A minus before more digits needs no branch.
+/// 16 bytes, fewer than 16 bytes. Others may be `None`, too.
 #[inline(always)]
 pub fn quick_prefix<T: Number>(s: &[u8]) -> Option<(T, usize)>
     // ensures { IfSome result (λ found. BeginsWithNumber T.int_type s.now (T.number found.0) found.1) }
