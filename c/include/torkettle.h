@@ -1478,43 +1478,6 @@ TK_INLINE tk_option_pair_u64_size tk_prefix_of_two_words_u64(bool minus, uint64_
     return tk_some_pair_u64_size(tk_new_pair_u64_size(number, 8 + TK_CAST(size_t, more)));
 }
 
-/* atoi_fast/src/short_prefix.rt:46 */
-TK_INLINE tk_option_pair_u64_size tk_prefix_of_words_u64(tk_bytes s)
-{
-    uint64_t word = tk_load_full(s);
-    /* A `-` borrows from the next byte, so that a `0` there looks like no digit. */
-    uint64_t above = word + UINT64_C(0x4646464646464646);
-    uint64_t below = word - TK_ZEROS;
-    uint64_t marks = (above | below) & UINT64_C(0x8080808080808000);
-    if ((marks & 0x8000) != 0) {
-        /*
-         * Most numbers of many texts have one digit: the processor guesses that, and the next load waits
-         * for nothing.
-         */
-        uint8_t digit = tk_lowest_byte(below);
-        if (digit > 9) {
-            return tk_none_pair_u64_size();
-        }
-        return tk_some_pair_u64_size(tk_new_pair_u64_size(tk_from_parts_u64(false, tk_u128_of(digit)), 1));
-    }
-    bool minus = false & (tk_lowest_byte(word) == '-');
-    /* The digit of a `-` is 0, and takes the borrow back. */
-    uint64_t digits = below + 3 * tk_bit(minus);
-    if (tk_lowest_byte(digits) > 9) {
-        return tk_none_pair_u64_size();
-    }
-    if (marks == 0) {
-        return tk_prefix_of_two_words_u64(minus, tk_sum_of(digits), s);
-    }
-    uint32_t len = tk_u64_trailing_zeros(marks) / 8;
-    tk_option_u64 number_found = tk_number_in_range_u64(TK_MOST_IN_WORD, minus, tk_value_by_product(digits, len));
-    if (!number_found.is_some) {
-        return tk_none_pair_u64_size();
-    }
-    uint64_t number = number_found.value;
-    return tk_some_pair_u64_size(tk_new_pair_u64_size(number, TK_CAST(size_t, len)));
-}
-
 /* atoi_fast/src/short_prefix.rt:87 */
 TK_INLINE tk_option_pair_i8_size tk_prefix_of_two_words_i8(bool minus, uint64_t high, tk_bytes s)
 {
@@ -1571,7 +1534,7 @@ TK_INLINE tk_option_pair_i8_size tk_prefix_of_words_i8(tk_bytes s)
 }
 
 /* The number of one digit at the start of a slice. */
-/* atoi_fast/src/quick.rt:66 */
+/* atoi_fast/src/quick.rt:69 */
 TK_INLINE tk_option_pair_i8_size tk_digit_prefix_i8(tk_bytes s)
 {
     if (s.len >= 2 && '0' <= s.at[1] && s.at[1] <= '9') {
@@ -1624,36 +1587,13 @@ TK_INLINE tk_option_pair_u8_size tk_prefix_of_two_words_u8(bool minus, uint64_t 
     return tk_some_pair_u8_size(tk_new_pair_u8_size(number, 8 + TK_CAST(size_t, more)));
 }
 
-/* atoi_fast/src/short_prefix.rt:46 */
-TK_INLINE tk_option_pair_u8_size tk_prefix_of_words_u8(tk_bytes s)
+/* The number of a slice whose first word begins with `len` digits. */
+/* atoi_fast/src/short_prefix.rt:192 */
+TK_INLINE tk_option_pair_u8_size tk_prefix_in_word_u8(uint64_t word, uint32_t len, tk_bytes s)
 {
-    uint64_t word = tk_load_full(s);
-    /* A `-` borrows from the next byte, so that a `0` there looks like no digit. */
-    uint64_t above = word + UINT64_C(0x4646464646464646);
-    uint64_t below = word - TK_ZEROS;
-    uint64_t marks = (above | below) & UINT64_C(0x8080808080808000);
-    if ((marks & 0x8000) != 0) {
-        /*
-         * Most numbers of many texts have one digit: the processor guesses that, and the next load waits
-         * for nothing.
-         */
-        uint8_t digit = tk_lowest_byte(below);
-        if (digit > 9) {
-            return tk_none_pair_u8_size();
-        }
-        return tk_some_pair_u8_size(tk_new_pair_u8_size(tk_from_parts_u8(false, tk_u128_of(digit)), 1));
-    }
-    bool minus = false & (tk_lowest_byte(word) == '-');
-    /* The digit of a `-` is 0, and takes the borrow back. */
-    uint64_t digits = below + 3 * tk_bit(minus);
-    if (tk_lowest_byte(digits) > 9) {
-        return tk_none_pair_u8_size();
-    }
-    if (marks == 0) {
-        return tk_prefix_of_two_words_u8(minus, tk_sum_of(digits), s);
-    }
-    uint32_t len = tk_u64_trailing_zeros(marks) / 8;
-    tk_option_u8 number_found = tk_number_in_range_u8(TK_MOST_IN_WORD, minus, tk_value_by_product(digits, len));
+    (void)s;
+    uint64_t magnitude = tk_value_by_product(word - TK_ZEROS, len);
+    tk_option_u8 number_found = tk_number_in_range_u8(TK_MOST_IN_WORD, false, magnitude);
     if (!number_found.is_some) {
         return tk_none_pair_u8_size();
     }
@@ -1661,7 +1601,44 @@ TK_INLINE tk_option_pair_u8_size tk_prefix_of_words_u8(tk_bytes s)
     return tk_some_pair_u8_size(tk_new_pair_u8_size(number, TK_CAST(size_t, len)));
 }
 
-/* atoi_fast/src/quick.rt:66 */
+/*
+ * `prefix_of_words` for an unsigned type. It branches on one, two and three digits: if the processor guesses
+ * the length, the next load waits for nothing.
+ */
+/* atoi_fast/src/short_prefix.rt:146 */
+TK_INLINE tk_option_pair_u8_size tk_prefix_by_length_u8(tk_bytes s)
+{
+    uint64_t word = tk_load_full(s);
+    uint64_t digits = word - TK_ZEROS;
+    /* As in `leading_digits`. */
+    uint64_t marks = ((word + UINT64_C(0x4646464646464646)) | digits) & UINT64_C(0x8080808080808080);
+    if ((marks & 0xFF) != 0) {
+        return tk_none_pair_u8_size();
+    }
+    uint64_t first = TK_CAST(uint64_t, tk_lowest_byte(digits));
+    if ((marks & 0xFFFF) != 0) {
+        return tk_some_pair_u8_size(tk_new_pair_u8_size(tk_from_parts_u8(false, tk_u128_of(first)), 1));
+    }
+    uint64_t two = 10 * first + TK_CAST(uint64_t, tk_lowest_byte(digits >> 8));
+    if ((marks & 0xFFFFFF) != 0) {
+        return tk_some_pair_u8_size(tk_new_pair_u8_size(tk_from_parts_u8(false, tk_u128_of(two)), 2));
+    }
+    if ((marks & UINT64_C(0xFFFFFFFF)) != 0) {
+        uint64_t three = 10 * two + TK_CAST(uint64_t, tk_lowest_byte(digits >> 16));
+        tk_option_u8 number_found = tk_number_in_range_u8(TK_MOST_IN_WORD, false, three);
+        if (!number_found.is_some) {
+            return tk_none_pair_u8_size();
+        }
+        uint8_t number = number_found.value;
+        return tk_some_pair_u8_size(tk_new_pair_u8_size(number, 3));
+    }
+    if (marks == 0) {
+        return tk_prefix_of_two_words_u8(false, tk_sum_of(digits), s);
+    }
+    return tk_prefix_in_word_u8(word, tk_u64_trailing_zeros(marks) / 8, s);
+}
+
+/* atoi_fast/src/quick.rt:69 */
 TK_INLINE tk_option_pair_u8_size tk_digit_prefix_u8(tk_bytes s)
 {
     if (s.len >= 2 && '0' <= s.at[1] && s.at[1] <= '9') {
@@ -1678,8 +1655,8 @@ TK_INLINE tk_option_pair_u8_size tk_digit_prefix_u8(tk_bytes s)
 /* atoi_fast/src/quick.rt:50 */
 TK_INLINE tk_option_pair_u8_size tk_quick_prefix_u8(tk_bytes s)
 {
-    if (s.len >= 3 && '0' <= s.at[1] && s.at[1] <= '9' && '0' <= s.at[2] && s.at[2] <= '9' && s.len >= 16) {
-        return tk_prefix_of_words_u8(s);
+    if (s.len >= 16) {
+        return tk_prefix_by_length_u8(s);
     }
     if (s.len >= 3 && '0' <= s.at[0] && s.at[0] <= '9' && '0' <= s.at[1] && s.at[1] <= '9'
         && !tk_u8_is_digit(s.at[2])) {
@@ -1747,7 +1724,7 @@ TK_INLINE tk_option_pair_i16_size tk_prefix_of_words_i16(tk_bytes s)
     return tk_some_pair_i16_size(tk_new_pair_i16_size(number, TK_CAST(size_t, len)));
 }
 
-/* atoi_fast/src/quick.rt:66 */
+/* atoi_fast/src/quick.rt:69 */
 TK_INLINE tk_option_pair_i16_size tk_digit_prefix_i16(tk_bytes s)
 {
     if (s.len >= 2 && '0' <= s.at[1] && s.at[1] <= '9') {
@@ -1796,36 +1773,12 @@ TK_INLINE tk_option_pair_u16_size tk_prefix_of_two_words_u16(bool minus, uint64_
     return tk_some_pair_u16_size(tk_new_pair_u16_size(number, 8 + TK_CAST(size_t, more)));
 }
 
-/* atoi_fast/src/short_prefix.rt:46 */
-TK_INLINE tk_option_pair_u16_size tk_prefix_of_words_u16(tk_bytes s)
+/* atoi_fast/src/short_prefix.rt:192 */
+TK_INLINE tk_option_pair_u16_size tk_prefix_in_word_u16(uint64_t word, uint32_t len, tk_bytes s)
 {
-    uint64_t word = tk_load_full(s);
-    /* A `-` borrows from the next byte, so that a `0` there looks like no digit. */
-    uint64_t above = word + UINT64_C(0x4646464646464646);
-    uint64_t below = word - TK_ZEROS;
-    uint64_t marks = (above | below) & UINT64_C(0x8080808080808000);
-    if ((marks & 0x8000) != 0) {
-        /*
-         * Most numbers of many texts have one digit: the processor guesses that, and the next load waits
-         * for nothing.
-         */
-        uint8_t digit = tk_lowest_byte(below);
-        if (digit > 9) {
-            return tk_none_pair_u16_size();
-        }
-        return tk_some_pair_u16_size(tk_new_pair_u16_size(tk_from_parts_u16(false, tk_u128_of(digit)), 1));
-    }
-    bool minus = false & (tk_lowest_byte(word) == '-');
-    /* The digit of a `-` is 0, and takes the borrow back. */
-    uint64_t digits = below + 3 * tk_bit(minus);
-    if (tk_lowest_byte(digits) > 9) {
-        return tk_none_pair_u16_size();
-    }
-    if (marks == 0) {
-        return tk_prefix_of_two_words_u16(minus, tk_sum_of(digits), s);
-    }
-    uint32_t len = tk_u64_trailing_zeros(marks) / 8;
-    tk_option_u16 number_found = tk_number_in_range_u16(TK_MOST_IN_WORD, minus, tk_value_by_product(digits, len));
+    (void)s;
+    uint64_t magnitude = tk_value_by_product(word - TK_ZEROS, len);
+    tk_option_u16 number_found = tk_number_in_range_u16(TK_MOST_IN_WORD, false, magnitude);
     if (!number_found.is_some) {
         return tk_none_pair_u16_size();
     }
@@ -1833,7 +1786,40 @@ TK_INLINE tk_option_pair_u16_size tk_prefix_of_words_u16(tk_bytes s)
     return tk_some_pair_u16_size(tk_new_pair_u16_size(number, TK_CAST(size_t, len)));
 }
 
-/* atoi_fast/src/quick.rt:66 */
+/* atoi_fast/src/short_prefix.rt:146 */
+TK_INLINE tk_option_pair_u16_size tk_prefix_by_length_u16(tk_bytes s)
+{
+    uint64_t word = tk_load_full(s);
+    uint64_t digits = word - TK_ZEROS;
+    /* As in `leading_digits`. */
+    uint64_t marks = ((word + UINT64_C(0x4646464646464646)) | digits) & UINT64_C(0x8080808080808080);
+    if ((marks & 0xFF) != 0) {
+        return tk_none_pair_u16_size();
+    }
+    uint64_t first = TK_CAST(uint64_t, tk_lowest_byte(digits));
+    if ((marks & 0xFFFF) != 0) {
+        return tk_some_pair_u16_size(tk_new_pair_u16_size(tk_from_parts_u16(false, tk_u128_of(first)), 1));
+    }
+    uint64_t two = 10 * first + TK_CAST(uint64_t, tk_lowest_byte(digits >> 8));
+    if ((marks & 0xFFFFFF) != 0) {
+        return tk_some_pair_u16_size(tk_new_pair_u16_size(tk_from_parts_u16(false, tk_u128_of(two)), 2));
+    }
+    if ((marks & UINT64_C(0xFFFFFFFF)) != 0) {
+        uint64_t three = 10 * two + TK_CAST(uint64_t, tk_lowest_byte(digits >> 16));
+        tk_option_u16 number_found = tk_number_in_range_u16(TK_MOST_IN_WORD, false, three);
+        if (!number_found.is_some) {
+            return tk_none_pair_u16_size();
+        }
+        uint16_t number = number_found.value;
+        return tk_some_pair_u16_size(tk_new_pair_u16_size(number, 3));
+    }
+    if (marks == 0) {
+        return tk_prefix_of_two_words_u16(false, tk_sum_of(digits), s);
+    }
+    return tk_prefix_in_word_u16(word, tk_u64_trailing_zeros(marks) / 8, s);
+}
+
+/* atoi_fast/src/quick.rt:69 */
 TK_INLINE tk_option_pair_u16_size tk_digit_prefix_u16(tk_bytes s)
 {
     if (s.len >= 2 && '0' <= s.at[1] && s.at[1] <= '9') {
@@ -1850,8 +1836,8 @@ TK_INLINE tk_option_pair_u16_size tk_digit_prefix_u16(tk_bytes s)
 /* atoi_fast/src/quick.rt:50 */
 TK_INLINE tk_option_pair_u16_size tk_quick_prefix_u16(tk_bytes s)
 {
-    if (s.len >= 3 && '0' <= s.at[1] && s.at[1] <= '9' && '0' <= s.at[2] && s.at[2] <= '9' && s.len >= 16) {
-        return tk_prefix_of_words_u16(s);
+    if (s.len >= 16) {
+        return tk_prefix_by_length_u16(s);
     }
     if (s.len >= 3 && '0' <= s.at[0] && s.at[0] <= '9' && '0' <= s.at[1] && s.at[1] <= '9'
         && !tk_u8_is_digit(s.at[2])) {
@@ -1919,7 +1905,7 @@ TK_INLINE tk_option_pair_i32_size tk_prefix_of_words_i32(tk_bytes s)
     return tk_some_pair_i32_size(tk_new_pair_i32_size(number, TK_CAST(size_t, len)));
 }
 
-/* atoi_fast/src/quick.rt:66 */
+/* atoi_fast/src/quick.rt:69 */
 TK_INLINE tk_option_pair_i32_size tk_digit_prefix_i32(tk_bytes s)
 {
     if (s.len >= 2 && '0' <= s.at[1] && s.at[1] <= '9') {
@@ -1968,36 +1954,12 @@ TK_INLINE tk_option_pair_u32_size tk_prefix_of_two_words_u32(bool minus, uint64_
     return tk_some_pair_u32_size(tk_new_pair_u32_size(number, 8 + TK_CAST(size_t, more)));
 }
 
-/* atoi_fast/src/short_prefix.rt:46 */
-TK_INLINE tk_option_pair_u32_size tk_prefix_of_words_u32(tk_bytes s)
+/* atoi_fast/src/short_prefix.rt:192 */
+TK_INLINE tk_option_pair_u32_size tk_prefix_in_word_u32(uint64_t word, uint32_t len, tk_bytes s)
 {
-    uint64_t word = tk_load_full(s);
-    /* A `-` borrows from the next byte, so that a `0` there looks like no digit. */
-    uint64_t above = word + UINT64_C(0x4646464646464646);
-    uint64_t below = word - TK_ZEROS;
-    uint64_t marks = (above | below) & UINT64_C(0x8080808080808000);
-    if ((marks & 0x8000) != 0) {
-        /*
-         * Most numbers of many texts have one digit: the processor guesses that, and the next load waits
-         * for nothing.
-         */
-        uint8_t digit = tk_lowest_byte(below);
-        if (digit > 9) {
-            return tk_none_pair_u32_size();
-        }
-        return tk_some_pair_u32_size(tk_new_pair_u32_size(tk_from_parts_u32(false, tk_u128_of(digit)), 1));
-    }
-    bool minus = false & (tk_lowest_byte(word) == '-');
-    /* The digit of a `-` is 0, and takes the borrow back. */
-    uint64_t digits = below + 3 * tk_bit(minus);
-    if (tk_lowest_byte(digits) > 9) {
-        return tk_none_pair_u32_size();
-    }
-    if (marks == 0) {
-        return tk_prefix_of_two_words_u32(minus, tk_sum_of(digits), s);
-    }
-    uint32_t len = tk_u64_trailing_zeros(marks) / 8;
-    tk_option_u32 number_found = tk_number_in_range_u32(TK_MOST_IN_WORD, minus, tk_value_by_product(digits, len));
+    (void)s;
+    uint64_t magnitude = tk_value_by_product(word - TK_ZEROS, len);
+    tk_option_u32 number_found = tk_number_in_range_u32(TK_MOST_IN_WORD, false, magnitude);
     if (!number_found.is_some) {
         return tk_none_pair_u32_size();
     }
@@ -2005,7 +1967,40 @@ TK_INLINE tk_option_pair_u32_size tk_prefix_of_words_u32(tk_bytes s)
     return tk_some_pair_u32_size(tk_new_pair_u32_size(number, TK_CAST(size_t, len)));
 }
 
-/* atoi_fast/src/quick.rt:66 */
+/* atoi_fast/src/short_prefix.rt:146 */
+TK_INLINE tk_option_pair_u32_size tk_prefix_by_length_u32(tk_bytes s)
+{
+    uint64_t word = tk_load_full(s);
+    uint64_t digits = word - TK_ZEROS;
+    /* As in `leading_digits`. */
+    uint64_t marks = ((word + UINT64_C(0x4646464646464646)) | digits) & UINT64_C(0x8080808080808080);
+    if ((marks & 0xFF) != 0) {
+        return tk_none_pair_u32_size();
+    }
+    uint64_t first = TK_CAST(uint64_t, tk_lowest_byte(digits));
+    if ((marks & 0xFFFF) != 0) {
+        return tk_some_pair_u32_size(tk_new_pair_u32_size(tk_from_parts_u32(false, tk_u128_of(first)), 1));
+    }
+    uint64_t two = 10 * first + TK_CAST(uint64_t, tk_lowest_byte(digits >> 8));
+    if ((marks & 0xFFFFFF) != 0) {
+        return tk_some_pair_u32_size(tk_new_pair_u32_size(tk_from_parts_u32(false, tk_u128_of(two)), 2));
+    }
+    if ((marks & UINT64_C(0xFFFFFFFF)) != 0) {
+        uint64_t three = 10 * two + TK_CAST(uint64_t, tk_lowest_byte(digits >> 16));
+        tk_option_u32 number_found = tk_number_in_range_u32(TK_MOST_IN_WORD, false, three);
+        if (!number_found.is_some) {
+            return tk_none_pair_u32_size();
+        }
+        uint32_t number = number_found.value;
+        return tk_some_pair_u32_size(tk_new_pair_u32_size(number, 3));
+    }
+    if (marks == 0) {
+        return tk_prefix_of_two_words_u32(false, tk_sum_of(digits), s);
+    }
+    return tk_prefix_in_word_u32(word, tk_u64_trailing_zeros(marks) / 8, s);
+}
+
+/* atoi_fast/src/quick.rt:69 */
 TK_INLINE tk_option_pair_u32_size tk_digit_prefix_u32(tk_bytes s)
 {
     if (s.len >= 2 && '0' <= s.at[1] && s.at[1] <= '9') {
@@ -2022,8 +2017,8 @@ TK_INLINE tk_option_pair_u32_size tk_digit_prefix_u32(tk_bytes s)
 /* atoi_fast/src/quick.rt:50 */
 TK_INLINE tk_option_pair_u32_size tk_quick_prefix_u32(tk_bytes s)
 {
-    if (s.len >= 3 && '0' <= s.at[1] && s.at[1] <= '9' && '0' <= s.at[2] && s.at[2] <= '9' && s.len >= 16) {
-        return tk_prefix_of_words_u32(s);
+    if (s.len >= 16) {
+        return tk_prefix_by_length_u32(s);
     }
     if (s.len >= 3 && '0' <= s.at[0] && s.at[0] <= '9' && '0' <= s.at[1] && s.at[1] <= '9'
         && !tk_u8_is_digit(s.at[2])) {
@@ -2036,7 +2031,7 @@ TK_INLINE tk_option_pair_u32_size tk_quick_prefix_u32(tk_bytes s)
     return tk_digit_prefix_u32(s);
 }
 
-/* atoi_fast/src/quick.rt:66 */
+/* atoi_fast/src/quick.rt:69 */
 TK_INLINE tk_option_pair_i64_size tk_digit_prefix_i64(tk_bytes s)
 {
     if (s.len >= 2 && '0' <= s.at[1] && s.at[1] <= '9') {
@@ -2067,7 +2062,53 @@ TK_INLINE tk_option_pair_i64_size tk_quick_prefix_i64(tk_bytes s)
     return tk_digit_prefix_i64(s);
 }
 
-/* atoi_fast/src/quick.rt:66 */
+/* atoi_fast/src/short_prefix.rt:192 */
+TK_INLINE tk_option_pair_u64_size tk_prefix_in_word_u64(uint64_t word, uint32_t len, tk_bytes s)
+{
+    (void)s;
+    uint64_t magnitude = tk_value_by_product(word - TK_ZEROS, len);
+    tk_option_u64 number_found = tk_number_in_range_u64(TK_MOST_IN_WORD, false, magnitude);
+    if (!number_found.is_some) {
+        return tk_none_pair_u64_size();
+    }
+    uint64_t number = number_found.value;
+    return tk_some_pair_u64_size(tk_new_pair_u64_size(number, TK_CAST(size_t, len)));
+}
+
+/* atoi_fast/src/short_prefix.rt:146 */
+TK_INLINE tk_option_pair_u64_size tk_prefix_by_length_u64(tk_bytes s)
+{
+    uint64_t word = tk_load_full(s);
+    uint64_t digits = word - TK_ZEROS;
+    /* As in `leading_digits`. */
+    uint64_t marks = ((word + UINT64_C(0x4646464646464646)) | digits) & UINT64_C(0x8080808080808080);
+    if ((marks & 0xFF) != 0) {
+        return tk_none_pair_u64_size();
+    }
+    uint64_t first = TK_CAST(uint64_t, tk_lowest_byte(digits));
+    if ((marks & 0xFFFF) != 0) {
+        return tk_some_pair_u64_size(tk_new_pair_u64_size(tk_from_parts_u64(false, tk_u128_of(first)), 1));
+    }
+    uint64_t two = 10 * first + TK_CAST(uint64_t, tk_lowest_byte(digits >> 8));
+    if ((marks & 0xFFFFFF) != 0) {
+        return tk_some_pair_u64_size(tk_new_pair_u64_size(tk_from_parts_u64(false, tk_u128_of(two)), 2));
+    }
+    if ((marks & UINT64_C(0xFFFFFFFF)) != 0) {
+        uint64_t three = 10 * two + TK_CAST(uint64_t, tk_lowest_byte(digits >> 16));
+        tk_option_u64 number_found = tk_number_in_range_u64(TK_MOST_IN_WORD, false, three);
+        if (!number_found.is_some) {
+            return tk_none_pair_u64_size();
+        }
+        uint64_t number = number_found.value;
+        return tk_some_pair_u64_size(tk_new_pair_u64_size(number, 3));
+    }
+    if (marks == 0) {
+        return tk_prefix_of_two_words_u64(false, tk_sum_of(digits), s);
+    }
+    return tk_prefix_in_word_u64(word, tk_u64_trailing_zeros(marks) / 8, s);
+}
+
+/* atoi_fast/src/quick.rt:69 */
 TK_INLINE tk_option_pair_u64_size tk_digit_prefix_u64(tk_bytes s)
 {
     if (s.len >= 2 && '0' <= s.at[1] && s.at[1] <= '9') {
@@ -2084,8 +2125,8 @@ TK_INLINE tk_option_pair_u64_size tk_digit_prefix_u64(tk_bytes s)
 /* atoi_fast/src/quick.rt:50 */
 TK_INLINE tk_option_pair_u64_size tk_quick_prefix_u64(tk_bytes s)
 {
-    if (s.len >= 3 && '0' <= s.at[1] && s.at[1] <= '9' && '0' <= s.at[2] && s.at[2] <= '9' && s.len >= 16) {
-        return tk_prefix_of_words_u64(s);
+    if (s.len >= 16) {
+        return tk_prefix_by_length_u64(s);
     }
     if (s.len >= 3 && '0' <= s.at[0] && s.at[0] <= '9' && '0' <= s.at[1] && s.at[1] <= '9'
         && !tk_u8_is_digit(s.at[2])) {
@@ -2153,7 +2194,7 @@ TK_INLINE tk_option_pair_i128_size tk_prefix_of_words_i128(tk_bytes s)
     return tk_some_pair_i128_size(tk_new_pair_i128_size(number, TK_CAST(size_t, len)));
 }
 
-/* atoi_fast/src/quick.rt:66 */
+/* atoi_fast/src/quick.rt:69 */
 TK_INLINE tk_option_pair_i128_size tk_digit_prefix_i128(tk_bytes s)
 {
     if (s.len >= 2 && '0' <= s.at[1] && s.at[1] <= '9') {
@@ -2202,36 +2243,12 @@ TK_INLINE tk_option_pair_u128_size tk_prefix_of_two_words_u128(bool minus, uint6
     return tk_some_pair_u128_size(tk_new_pair_u128_size(number, 8 + TK_CAST(size_t, more)));
 }
 
-/* atoi_fast/src/short_prefix.rt:46 */
-TK_INLINE tk_option_pair_u128_size tk_prefix_of_words_u128(tk_bytes s)
+/* atoi_fast/src/short_prefix.rt:192 */
+TK_INLINE tk_option_pair_u128_size tk_prefix_in_word_u128(uint64_t word, uint32_t len, tk_bytes s)
 {
-    uint64_t word = tk_load_full(s);
-    /* A `-` borrows from the next byte, so that a `0` there looks like no digit. */
-    uint64_t above = word + UINT64_C(0x4646464646464646);
-    uint64_t below = word - TK_ZEROS;
-    uint64_t marks = (above | below) & UINT64_C(0x8080808080808000);
-    if ((marks & 0x8000) != 0) {
-        /*
-         * Most numbers of many texts have one digit: the processor guesses that, and the next load waits
-         * for nothing.
-         */
-        uint8_t digit = tk_lowest_byte(below);
-        if (digit > 9) {
-            return tk_none_pair_u128_size();
-        }
-        return tk_some_pair_u128_size(tk_new_pair_u128_size(tk_from_parts_u128(false, tk_u128_of(digit)), 1));
-    }
-    bool minus = false & (tk_lowest_byte(word) == '-');
-    /* The digit of a `-` is 0, and takes the borrow back. */
-    uint64_t digits = below + 3 * tk_bit(minus);
-    if (tk_lowest_byte(digits) > 9) {
-        return tk_none_pair_u128_size();
-    }
-    if (marks == 0) {
-        return tk_prefix_of_two_words_u128(minus, tk_sum_of(digits), s);
-    }
-    uint32_t len = tk_u64_trailing_zeros(marks) / 8;
-    tk_option_u128 number_found = tk_number_in_range_u128(TK_MOST_IN_WORD, minus, tk_value_by_product(digits, len));
+    (void)s;
+    uint64_t magnitude = tk_value_by_product(word - TK_ZEROS, len);
+    tk_option_u128 number_found = tk_number_in_range_u128(TK_MOST_IN_WORD, false, magnitude);
     if (!number_found.is_some) {
         return tk_none_pair_u128_size();
     }
@@ -2239,7 +2256,40 @@ TK_INLINE tk_option_pair_u128_size tk_prefix_of_words_u128(tk_bytes s)
     return tk_some_pair_u128_size(tk_new_pair_u128_size(number, TK_CAST(size_t, len)));
 }
 
-/* atoi_fast/src/quick.rt:66 */
+/* atoi_fast/src/short_prefix.rt:146 */
+TK_INLINE tk_option_pair_u128_size tk_prefix_by_length_u128(tk_bytes s)
+{
+    uint64_t word = tk_load_full(s);
+    uint64_t digits = word - TK_ZEROS;
+    /* As in `leading_digits`. */
+    uint64_t marks = ((word + UINT64_C(0x4646464646464646)) | digits) & UINT64_C(0x8080808080808080);
+    if ((marks & 0xFF) != 0) {
+        return tk_none_pair_u128_size();
+    }
+    uint64_t first = TK_CAST(uint64_t, tk_lowest_byte(digits));
+    if ((marks & 0xFFFF) != 0) {
+        return tk_some_pair_u128_size(tk_new_pair_u128_size(tk_from_parts_u128(false, tk_u128_of(first)), 1));
+    }
+    uint64_t two = 10 * first + TK_CAST(uint64_t, tk_lowest_byte(digits >> 8));
+    if ((marks & 0xFFFFFF) != 0) {
+        return tk_some_pair_u128_size(tk_new_pair_u128_size(tk_from_parts_u128(false, tk_u128_of(two)), 2));
+    }
+    if ((marks & UINT64_C(0xFFFFFFFF)) != 0) {
+        uint64_t three = 10 * two + TK_CAST(uint64_t, tk_lowest_byte(digits >> 16));
+        tk_option_u128 number_found = tk_number_in_range_u128(TK_MOST_IN_WORD, false, three);
+        if (!number_found.is_some) {
+            return tk_none_pair_u128_size();
+        }
+        tk_u128 number = number_found.value;
+        return tk_some_pair_u128_size(tk_new_pair_u128_size(number, 3));
+    }
+    if (marks == 0) {
+        return tk_prefix_of_two_words_u128(false, tk_sum_of(digits), s);
+    }
+    return tk_prefix_in_word_u128(word, tk_u64_trailing_zeros(marks) / 8, s);
+}
+
+/* atoi_fast/src/quick.rt:69 */
 TK_INLINE tk_option_pair_u128_size tk_digit_prefix_u128(tk_bytes s)
 {
     if (s.len >= 2 && '0' <= s.at[1] && s.at[1] <= '9') {
@@ -2256,8 +2306,8 @@ TK_INLINE tk_option_pair_u128_size tk_digit_prefix_u128(tk_bytes s)
 /* atoi_fast/src/quick.rt:50 */
 TK_INLINE tk_option_pair_u128_size tk_quick_prefix_u128(tk_bytes s)
 {
-    if (s.len >= 3 && '0' <= s.at[1] && s.at[1] <= '9' && '0' <= s.at[2] && s.at[2] <= '9' && s.len >= 16) {
-        return tk_prefix_of_words_u128(s);
+    if (s.len >= 16) {
+        return tk_prefix_by_length_u128(s);
     }
     if (s.len >= 3 && '0' <= s.at[0] && s.at[0] <= '9' && '0' <= s.at[1] && s.at[1] <= '9'
         && !tk_u8_is_digit(s.at[2])) {

@@ -2132,6 +2132,43 @@ TK_FAR tk_option_pair_u64_size tk_prefix_of_three_words_u64(bool minus, uint64_t
     return tk_some_pair_u64_size(tk_new_pair_u64_size(number, 16 + TK_CAST(size_t, more)));
 }
 
+/* atoi_fast/src/short_prefix.rt:46 */
+TK_INLINE tk_option_pair_u64_size tk_prefix_of_words_u64(tk_bytes s)
+{
+    uint64_t word = tk_load_full(s);
+    /* A `-` borrows from the next byte, so that a `0` there looks like no digit. */
+    uint64_t above = word + UINT64_C(0x4646464646464646);
+    uint64_t below = word - TK_ZEROS;
+    uint64_t marks = (above | below) & UINT64_C(0x8080808080808000);
+    if ((marks & 0x8000) != 0) {
+        /*
+         * Most numbers of many texts have one digit: the processor guesses that, and the next load waits
+         * for nothing.
+         */
+        uint8_t digit = tk_lowest_byte(below);
+        if (digit > 9) {
+            return tk_none_pair_u64_size();
+        }
+        return tk_some_pair_u64_size(tk_new_pair_u64_size(tk_from_parts_u64(false, tk_u128_of(digit)), 1));
+    }
+    bool minus = false & (tk_lowest_byte(word) == '-');
+    /* The digit of a `-` is 0, and takes the borrow back. */
+    uint64_t digits = below + 3 * tk_bit(minus);
+    if (tk_lowest_byte(digits) > 9) {
+        return tk_none_pair_u64_size();
+    }
+    if (marks == 0) {
+        return tk_prefix_of_two_words_u64(minus, tk_sum_of(digits), s);
+    }
+    uint32_t len = tk_u64_trailing_zeros(marks) / 8;
+    tk_option_u64 number_found = tk_number_in_range_u64(TK_MOST_IN_WORD, minus, tk_value_by_product(digits, len));
+    if (!number_found.is_some) {
+        return tk_none_pair_u64_size();
+    }
+    uint64_t number = number_found.value;
+    return tk_some_pair_u64_size(tk_new_pair_u64_size(number, TK_CAST(size_t, len)));
+}
+
 /* atoi_fast/src/quick.rt:37 */
 TK_INLINE tk_option_u64 tk_long_slice_u64(tk_bytes s)
 {
@@ -3504,7 +3541,7 @@ TK_NOINLINE tk_result_pair_i8_size tk_atoi_simd_parse_prefix_i8(tk_bytes s, bool
     return tk_called_parse_prefix_text_i8(skip, skip_plus, s);
 }
 
-/* atoi_fast/src/short_prefix.rt:144 */
+/* atoi_fast/src/short_prefix.rt:177 */
 TK_INLINE tk_option_pair_u8_size tk_unsigned_prefix_u8(tk_bytes s)
 {
     uint64_t word = tk_load_full(s);
@@ -3512,13 +3549,7 @@ TK_INLINE tk_option_pair_u8_size tk_unsigned_prefix_u8(tk_bytes s)
     if (len == 0 || len == 8) {
         return tk_none_pair_u8_size();
     }
-    uint64_t magnitude = tk_value_by_product(word - TK_ZEROS, len);
-    tk_option_u8 number_found = tk_number_in_range_u8(TK_MOST_IN_WORD, false, magnitude);
-    if (!number_found.is_some) {
-        return tk_none_pair_u8_size();
-    }
-    uint8_t number = number_found.value;
-    return tk_some_pair_u8_size(tk_new_pair_u8_size(number, TK_CAST(size_t, len)));
+    return tk_prefix_in_word_u8(word, len, s);
 }
 
 /* atoi_fast/src/short_prefix.rt:17 */
@@ -3643,7 +3674,7 @@ TK_NOINLINE tk_result_pair_i16_size tk_atoi_simd_parse_prefix_i16(tk_bytes s, bo
     return tk_called_parse_prefix_text_i16(skip, skip_plus, s);
 }
 
-/* atoi_fast/src/short_prefix.rt:144 */
+/* atoi_fast/src/short_prefix.rt:177 */
 TK_INLINE tk_option_pair_u16_size tk_unsigned_prefix_u16(tk_bytes s)
 {
     uint64_t word = tk_load_full(s);
@@ -3651,13 +3682,7 @@ TK_INLINE tk_option_pair_u16_size tk_unsigned_prefix_u16(tk_bytes s)
     if (len == 0 || len == 8) {
         return tk_none_pair_u16_size();
     }
-    uint64_t magnitude = tk_value_by_product(word - TK_ZEROS, len);
-    tk_option_u16 number_found = tk_number_in_range_u16(TK_MOST_IN_WORD, false, magnitude);
-    if (!number_found.is_some) {
-        return tk_none_pair_u16_size();
-    }
-    uint16_t number = number_found.value;
-    return tk_some_pair_u16_size(tk_new_pair_u16_size(number, TK_CAST(size_t, len)));
+    return tk_prefix_in_word_u16(word, len, s);
 }
 
 /* atoi_fast/src/short_prefix.rt:17 */
@@ -3782,7 +3807,7 @@ TK_NOINLINE tk_result_pair_i32_size tk_atoi_simd_parse_prefix_i32(tk_bytes s, bo
     return tk_called_parse_prefix_text_i32(skip, skip_plus, s);
 }
 
-/* atoi_fast/src/short_prefix.rt:144 */
+/* atoi_fast/src/short_prefix.rt:177 */
 TK_INLINE tk_option_pair_u32_size tk_unsigned_prefix_u32(tk_bytes s)
 {
     uint64_t word = tk_load_full(s);
@@ -3790,13 +3815,7 @@ TK_INLINE tk_option_pair_u32_size tk_unsigned_prefix_u32(tk_bytes s)
     if (len == 0 || len == 8) {
         return tk_none_pair_u32_size();
     }
-    uint64_t magnitude = tk_value_by_product(word - TK_ZEROS, len);
-    tk_option_u32 number_found = tk_number_in_range_u32(TK_MOST_IN_WORD, false, magnitude);
-    if (!number_found.is_some) {
-        return tk_none_pair_u32_size();
-    }
-    uint32_t number = number_found.value;
-    return tk_some_pair_u32_size(tk_new_pair_u32_size(number, TK_CAST(size_t, len)));
+    return tk_prefix_in_word_u32(word, len, s);
 }
 
 /* atoi_fast/src/short_prefix.rt:17 */
@@ -3922,7 +3941,7 @@ TK_NOINLINE tk_result_pair_i64_size tk_atoi_simd_parse_prefix_i64(tk_bytes s, bo
     return tk_called_parse_prefix_text_i64(skip, skip_plus, s);
 }
 
-/* atoi_fast/src/short_prefix.rt:144 */
+/* atoi_fast/src/short_prefix.rt:177 */
 TK_INLINE tk_option_pair_u64_size tk_unsigned_prefix_u64(tk_bytes s)
 {
     uint64_t word = tk_load_full(s);
@@ -3930,13 +3949,7 @@ TK_INLINE tk_option_pair_u64_size tk_unsigned_prefix_u64(tk_bytes s)
     if (len == 0 || len == 8) {
         return tk_none_pair_u64_size();
     }
-    uint64_t magnitude = tk_value_by_product(word - TK_ZEROS, len);
-    tk_option_u64 number_found = tk_number_in_range_u64(TK_MOST_IN_WORD, false, magnitude);
-    if (!number_found.is_some) {
-        return tk_none_pair_u64_size();
-    }
-    uint64_t number = number_found.value;
-    return tk_some_pair_u64_size(tk_new_pair_u64_size(number, TK_CAST(size_t, len)));
+    return tk_prefix_in_word_u64(word, len, s);
 }
 
 /* atoi_fast/src/short_prefix.rt:17 */
@@ -4064,7 +4077,7 @@ TK_NOINLINE tk_result_pair_i128_size tk_atoi_simd_parse_prefix_i128(tk_bytes s, 
     return tk_called_parse_prefix_text_i128(skip, skip_plus, s);
 }
 
-/* atoi_fast/src/short_prefix.rt:144 */
+/* atoi_fast/src/short_prefix.rt:177 */
 TK_INLINE tk_option_pair_u128_size tk_unsigned_prefix_u128(tk_bytes s)
 {
     uint64_t word = tk_load_full(s);
@@ -4072,13 +4085,7 @@ TK_INLINE tk_option_pair_u128_size tk_unsigned_prefix_u128(tk_bytes s)
     if (len == 0 || len == 8) {
         return tk_none_pair_u128_size();
     }
-    uint64_t magnitude = tk_value_by_product(word - TK_ZEROS, len);
-    tk_option_u128 number_found = tk_number_in_range_u128(TK_MOST_IN_WORD, false, magnitude);
-    if (!number_found.is_some) {
-        return tk_none_pair_u128_size();
-    }
-    tk_u128 number = number_found.value;
-    return tk_some_pair_u128_size(tk_new_pair_u128_size(number, TK_CAST(size_t, len)));
+    return tk_prefix_in_word_u128(word, len, s);
 }
 
 /* atoi_fast/src/short_prefix.rt:17 */
@@ -4399,14 +4406,10 @@ TK_INLINE tk_result_u128 tk_atoi_simd_parse_pos_u128(tk_bytes s, bool skip)
     return tk_called_whole_pos_u128(skip, s);
 }
 
-/* atoi_fast/src/short_prefix.rt:144 */
-TK_INLINE tk_option_pair_i8_size tk_unsigned_prefix_i8(tk_bytes s)
+/* atoi_fast/src/short_prefix.rt:192 */
+TK_INLINE tk_option_pair_i8_size tk_prefix_in_word_i8(uint64_t word, uint32_t len, tk_bytes s)
 {
-    uint64_t word = tk_load_full(s);
-    uint32_t len = tk_leading_digits(word);
-    if (len == 0 || len == 8) {
-        return tk_none_pair_i8_size();
-    }
+    (void)s;
     uint64_t magnitude = tk_value_by_product(word - TK_ZEROS, len);
     tk_option_i8 number_found = tk_number_in_range_i8(TK_MOST_IN_WORD, false, magnitude);
     if (!number_found.is_some) {
@@ -4414,6 +4417,17 @@ TK_INLINE tk_option_pair_i8_size tk_unsigned_prefix_i8(tk_bytes s)
     }
     int8_t number = number_found.value;
     return tk_some_pair_i8_size(tk_new_pair_i8_size(number, TK_CAST(size_t, len)));
+}
+
+/* atoi_fast/src/short_prefix.rt:177 */
+TK_INLINE tk_option_pair_i8_size tk_unsigned_prefix_i8(tk_bytes s)
+{
+    uint64_t word = tk_load_full(s);
+    uint32_t len = tk_leading_digits(word);
+    if (len == 0 || len == 8) {
+        return tk_none_pair_i8_size();
+    }
+    return tk_prefix_in_word_i8(word, len, s);
 }
 
 /* `unsigned_prefix`, which counts its load. */
@@ -4484,14 +4498,10 @@ TK_INLINE tk_result_pair_u8_size tk_atoi_simd_parse_prefix_pos_u8(tk_bytes s, bo
     return tk_called_prefix_pos_u8(skip, s);
 }
 
-/* atoi_fast/src/short_prefix.rt:144 */
-TK_INLINE tk_option_pair_i16_size tk_unsigned_prefix_i16(tk_bytes s)
+/* atoi_fast/src/short_prefix.rt:192 */
+TK_INLINE tk_option_pair_i16_size tk_prefix_in_word_i16(uint64_t word, uint32_t len, tk_bytes s)
 {
-    uint64_t word = tk_load_full(s);
-    uint32_t len = tk_leading_digits(word);
-    if (len == 0 || len == 8) {
-        return tk_none_pair_i16_size();
-    }
+    (void)s;
     uint64_t magnitude = tk_value_by_product(word - TK_ZEROS, len);
     tk_option_i16 number_found = tk_number_in_range_i16(TK_MOST_IN_WORD, false, magnitude);
     if (!number_found.is_some) {
@@ -4499,6 +4509,17 @@ TK_INLINE tk_option_pair_i16_size tk_unsigned_prefix_i16(tk_bytes s)
     }
     int16_t number = number_found.value;
     return tk_some_pair_i16_size(tk_new_pair_i16_size(number, TK_CAST(size_t, len)));
+}
+
+/* atoi_fast/src/short_prefix.rt:177 */
+TK_INLINE tk_option_pair_i16_size tk_unsigned_prefix_i16(tk_bytes s)
+{
+    uint64_t word = tk_load_full(s);
+    uint32_t len = tk_leading_digits(word);
+    if (len == 0 || len == 8) {
+        return tk_none_pair_i16_size();
+    }
+    return tk_prefix_in_word_i16(word, len, s);
 }
 
 /* atoi_fast/src/short_prefix.rt:33 */
@@ -4563,14 +4584,10 @@ TK_INLINE tk_result_pair_u16_size tk_atoi_simd_parse_prefix_pos_u16(tk_bytes s, 
     return tk_called_prefix_pos_u16(skip, s);
 }
 
-/* atoi_fast/src/short_prefix.rt:144 */
-TK_INLINE tk_option_pair_i32_size tk_unsigned_prefix_i32(tk_bytes s)
+/* atoi_fast/src/short_prefix.rt:192 */
+TK_INLINE tk_option_pair_i32_size tk_prefix_in_word_i32(uint64_t word, uint32_t len, tk_bytes s)
 {
-    uint64_t word = tk_load_full(s);
-    uint32_t len = tk_leading_digits(word);
-    if (len == 0 || len == 8) {
-        return tk_none_pair_i32_size();
-    }
+    (void)s;
     uint64_t magnitude = tk_value_by_product(word - TK_ZEROS, len);
     tk_option_i32 number_found = tk_number_in_range_i32(TK_MOST_IN_WORD, false, magnitude);
     if (!number_found.is_some) {
@@ -4578,6 +4595,17 @@ TK_INLINE tk_option_pair_i32_size tk_unsigned_prefix_i32(tk_bytes s)
     }
     int32_t number = number_found.value;
     return tk_some_pair_i32_size(tk_new_pair_i32_size(number, TK_CAST(size_t, len)));
+}
+
+/* atoi_fast/src/short_prefix.rt:177 */
+TK_INLINE tk_option_pair_i32_size tk_unsigned_prefix_i32(tk_bytes s)
+{
+    uint64_t word = tk_load_full(s);
+    uint32_t len = tk_leading_digits(word);
+    if (len == 0 || len == 8) {
+        return tk_none_pair_i32_size();
+    }
+    return tk_prefix_in_word_i32(word, len, s);
 }
 
 /* atoi_fast/src/short_prefix.rt:33 */
@@ -4642,14 +4670,10 @@ TK_INLINE tk_result_pair_u32_size tk_atoi_simd_parse_prefix_pos_u32(tk_bytes s, 
     return tk_called_prefix_pos_u32(skip, s);
 }
 
-/* atoi_fast/src/short_prefix.rt:144 */
-TK_INLINE tk_option_pair_i64_size tk_unsigned_prefix_i64(tk_bytes s)
+/* atoi_fast/src/short_prefix.rt:192 */
+TK_INLINE tk_option_pair_i64_size tk_prefix_in_word_i64(uint64_t word, uint32_t len, tk_bytes s)
 {
-    uint64_t word = tk_load_full(s);
-    uint32_t len = tk_leading_digits(word);
-    if (len == 0 || len == 8) {
-        return tk_none_pair_i64_size();
-    }
+    (void)s;
     uint64_t magnitude = tk_value_by_product(word - TK_ZEROS, len);
     tk_option_i64 number_found = tk_number_in_range_i64(TK_MOST_IN_WORD, false, magnitude);
     if (!number_found.is_some) {
@@ -4657,6 +4681,17 @@ TK_INLINE tk_option_pair_i64_size tk_unsigned_prefix_i64(tk_bytes s)
     }
     int64_t number = number_found.value;
     return tk_some_pair_i64_size(tk_new_pair_i64_size(number, TK_CAST(size_t, len)));
+}
+
+/* atoi_fast/src/short_prefix.rt:177 */
+TK_INLINE tk_option_pair_i64_size tk_unsigned_prefix_i64(tk_bytes s)
+{
+    uint64_t word = tk_load_full(s);
+    uint32_t len = tk_leading_digits(word);
+    if (len == 0 || len == 8) {
+        return tk_none_pair_i64_size();
+    }
+    return tk_prefix_in_word_i64(word, len, s);
 }
 
 /* atoi_fast/src/short_prefix.rt:33 */
@@ -4721,14 +4756,10 @@ TK_INLINE tk_result_pair_u64_size tk_atoi_simd_parse_prefix_pos_u64(tk_bytes s, 
     return tk_called_prefix_pos_u64(skip, s);
 }
 
-/* atoi_fast/src/short_prefix.rt:144 */
-TK_INLINE tk_option_pair_i128_size tk_unsigned_prefix_i128(tk_bytes s)
+/* atoi_fast/src/short_prefix.rt:192 */
+TK_INLINE tk_option_pair_i128_size tk_prefix_in_word_i128(uint64_t word, uint32_t len, tk_bytes s)
 {
-    uint64_t word = tk_load_full(s);
-    uint32_t len = tk_leading_digits(word);
-    if (len == 0 || len == 8) {
-        return tk_none_pair_i128_size();
-    }
+    (void)s;
     uint64_t magnitude = tk_value_by_product(word - TK_ZEROS, len);
     tk_option_i128 number_found = tk_number_in_range_i128(TK_MOST_IN_WORD, false, magnitude);
     if (!number_found.is_some) {
@@ -4736,6 +4767,17 @@ TK_INLINE tk_option_pair_i128_size tk_unsigned_prefix_i128(tk_bytes s)
     }
     tk_i128 number = number_found.value;
     return tk_some_pair_i128_size(tk_new_pair_i128_size(number, TK_CAST(size_t, len)));
+}
+
+/* atoi_fast/src/short_prefix.rt:177 */
+TK_INLINE tk_option_pair_i128_size tk_unsigned_prefix_i128(tk_bytes s)
+{
+    uint64_t word = tk_load_full(s);
+    uint32_t len = tk_leading_digits(word);
+    if (len == 0 || len == 8) {
+        return tk_none_pair_i128_size();
+    }
+    return tk_prefix_in_word_i128(word, len, s);
 }
 
 /* atoi_fast/src/short_prefix.rt:33 */

@@ -1,8 +1,8 @@
 //! Prefixes of few digits: their sign is read together with the digits, from one word.
-ghost use Rattle.std.specs.Prelude.{◌≡◌, ◌+◌, ◌%◌, ◌≤◌, IfSome, length, take, drop, true};
+ghost use Rattle.std.specs.Prelude.{◌≡◌, ◌+◌, ◌%◌, ◌<◌, ◌≤◌, IfSome, length, take, drop, true};
 ghost use Rattle.atoi_core.specs.Digit.{decimal_table};
 ghost use Rattle.atoi_core.specs.Run.{run_len, value};
-ghost use Rattle.atoi_core.specs.Words.{word_of};
+ghost use Rattle.atoi_core.specs.Words.{low_bytes, word_of};
 ghost use Rattle.atoi_fast.specs.Short.{BeginsWithNumber, HasMinus, zero_for_minus};
 
 use crate::digits::{ZEROS, four_by_product, leading_digits, sum_of, value_by_product};
@@ -140,6 +140,39 @@ fn prefix_of_three_words<T: Number>(
     Some((number, 16 + more as usize))
 }
 
+/// `prefix_of_words` for an unsigned type. It branches on one, two and three digits: if the processor guesses
+/// the length, the next load waits for nothing.
+#[inline(always)]
+pub(crate) fn prefix_by_length<T: Number>(s: &[u8]) -> Option<(T, usize)>
+    requires { 16 ≤ length s.now }
+    ensures { IfSome result (λ found. BeginsWithNumber T.int_type s.now (T.number found.0) found.1) }
+{
+    let word = load_full(s);
+    let digits = word.wrapping_sub(ZEROS);
+    // As in `leading_digits`.
+    let marks = (word.wrapping_add(0x4646_4646_4646_4646) | digits) & 0x8080_8080_8080_8080;
+    if marks & 0xFF != 0 {
+        return None;
+    }
+    let first = u64::from(lowest_byte(digits));
+    if marks & 0xFFFF != 0 {
+        return Some((T::from_parts(false, u128::from(first)), 1));
+    }
+    let two = 10 * first + u64::from(lowest_byte(digits >> 8));
+    if marks & 0xFF_FFFF != 0 {
+        return Some((T::from_parts(false, u128::from(two)), 2));
+    }
+    if marks & 0xFFFF_FFFF != 0 {
+        let three = 10 * two + u64::from(lowest_byte(digits >> 16));
+        let number = number_in_range::<T>(MOST_IN_WORD, false, three)?;
+        return Some((number, 3));
+    }
+    if marks == 0 {
+        return prefix_of_two_words(false, sum_of(digits), s);
+    }
+    prefix_in_word(word, marks.trailing_zeros() / 8, s)
+}
+
 #[inline(always)]
 fn unsigned_prefix<T: Number>(s: &[u8]) -> Option<(T, usize)>
     requires { 16 ≤ length s.now }
@@ -151,6 +184,20 @@ fn unsigned_prefix<T: Number>(s: &[u8]) -> Option<(T, usize)>
     if len == 0 || len == 8 {
         return None;
     }
+    prefix_in_word(word, len, s)
+}
+
+// The number of a slice whose first word begins with `len` digits.
+#[inline(always)]
+fn prefix_in_word<T: Number>(word: u64, len: u32, s: &[u8]) -> Option<(T, usize)>
+    requires enough { 16 ≤ length s.now }
+    requires word { word ≡ word_of (take 8 s.now) }
+    requires some { 1 ≤ len }
+    requires few { len < 8 }
+    requires len { len ≡ run_len decimal_table (low_bytes 8 word) }
+    ensures answer { IfSome result (λ found. BeginsWithNumber T.int_type s.now (T.number found.0) found.1) }
+    ensures short { IfSome result (λ found. found.1 ≤ 20) }
+{
     let magnitude = value_by_product(word.wrapping_sub(ZEROS), len);
     let number = number_in_range::<T>(MOST_IN_WORD, false, magnitude)?;
     Some((number, len as usize))

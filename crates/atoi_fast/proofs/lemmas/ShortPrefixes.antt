@@ -50,6 +50,14 @@ module _ (minus : Bool) (s : List ℕ) (some : 0 < length s) (fits : (i : ℕ) �
       prefix_is int minus s len number (has_minus int.signed signed) more (omega (arith, sixteen_fit int)) (omega (arith, zeroed_run))
       (number_is ∙ zeroed_value len (omega arith)) in_range
 
+-- The same for a type without a sign.
+pub unsigned_word_prefix : (int : IntType) (s : List ℕ) → 0 < length s → ((i : ℕ) → get_or s i 0 < 256) → (word len number : ℕ)
+    → word ≡ word_of (take 8 s) → len ≡ run_len decimal_table (low_bytes 8 word) → 0 < len → len < 8
+    → number ≡ low_value (low_bytes len word) → number ≤ bound_of int false → BeginsWithNumber int s (with_sign false number) len
+unsigned_word_prefix int s some fits word len number word_is len_is more few number_is in_range =
+    one_word_prefix false s some fits word word_is (λ no. absurd (cc no)) int len number (λ no. absurd (cc no)) (rw add-zero len_is)
+    more few (rw add-zero number_is) in_range
+
 -- A word after the first `front` bytes, which are digits, with a zero for a minus.
 module _ (minus : Bool) (s : List ℕ) (front : ℕ) (some : 0 < front) (fits : (i : ℕ) → get_or s i 0 < 256)
     (full : front ≤ run_len decimal_table (zero_for_minus minus s)) (next : ℕ) (next_is : next ≡ word_of (take 8 (drop front s))) where

@@ -1,8 +1,8 @@
 -- Words whose first byte may be a minus.
-use Rattle.std.proofs.Common.{◌≡◌, ℕ, zero, suc, ◌+◌, ◌-◌, ◌*◌, ◌/◌, ◌%◌, ◌^◌, ◌<◌, ◌≤◌, Bool, true, false, ◌==◌, ◌&&◌, nat_le, refl, sym, ap, ap₂, ◌∙◌, arith, lit<, mod-lt, eqb-true, ◌≢◌, if◌then◌else◌, List, [], ◌∷◌, length, take, get_or, suc-mul, add-zero, get_or-drop, length-drop}
+use Rattle.std.proofs.Common.{◌≡◌, ℕ, zero, suc, ◌+◌, ◌-◌, ◌*◌, ◌/◌, ◌%◌, ◌^◌, ◌<◌, ◌≤◌, Bool, true, false, ◌==◌, ◌&&◌, nat_le, refl, sym, ap, ap₂, ◌∙◌, arith, lit<, mod-lt, eqb-true, ◌≢◌, if◌then◌else◌, List, [], ◌∷◌, length, take, get_or, suc-mul, add-zero, get_or-drop, length-drop, eq-zero-or-pos, inl, inr}
 use Rattle.std.proofs.lemmas.Bool.{agree_below_at}
 use Rattle.std.proofs.lemmas.Bool.Decides.{nat_tests}
-use Rattle.std.proofs.lemmas.Nat.{mod-pow-add, and_block, shr_split, and_shr, and_mod, or_shr, or_mod, and_assoc}
+use Rattle.std.proofs.lemmas.Nat.{mod-pow-add, and_mask, and_block, shr_split, and_shr, and_mod, or_shr, or_mod, and_assoc}
 use Rattle.std.specs.Simd.Lanes.{digits_l}
 use Rattle.std.specs.Int.Count.{count_trailing_zeros}
 use Rattle.std.specs.Int.Bits.{bit_and, bit_or, and_zero_r}
@@ -217,3 +217,92 @@ to_signed minus word back digits is_minus back_is digits_are small none =
     let low : 48 ≤ zeroed minus word % 256 = omega arith in
     let high : zeroed minus word % 256 ≤ 57 = omega arith in
     record { is_minus = is_minus; starts = grind (arith, nat_tests); digits_are = same; goes_on = none }
+
+-- ---- Digits before the first mark
+
+-- None of the lowest bits is set, or one is.
+lowest_clear : (marks a b : ℕ) → marks % 2 ^ a ≡ 0 → a ≤ count_trailing_zeros (a + b) marks
+lowest_clear marks a b none = omega (arith, zero_field a b marks none)
+
+some_set : (marks mask a : ℕ) → bit_and marks mask ≡ marks % 2 ^ a → bit_and marks mask ≢ 0 → 0 < marks % 2 ^ a
+some_set marks mask a same some = elim (eq-zero-or-pos (marks % 2 ^ a)) [
+  | inl none ↦ absurd (some (same ∙ none))
+  | inr pos ↦ pos
+]
+
+module _ (word : ℕ) where
+  abbrev all : ℕ
+  all = marks_in 8 word
+
+  abbrev run : ℕ
+  run = run_len decimal_table (low_bytes 8 word)
+
+  pub run_of_one : bit_and all 0xFF ≡ 0 → bit_and all 0xFFFF ≢ 0 → run ≡ 1
+  run_of_one none some =
+      omega (
+        arith,
+        marks_of_8 word,
+        lowest_clear all 8 56 (sym (and_mask all 8) ∙ none),
+        stopping_field 16 48 all (some_set all 0xFFFF 16 (and_mask all 16) some),
+      )
+
+  pub run_of_two : bit_and all 0xFFFF ≡ 0 → bit_and all 0xFF_FFFF ≢ 0 → run ≡ 2
+  run_of_two none some =
+      omega (
+        arith,
+        marks_of_8 word,
+        lowest_clear all 16 48 (sym (and_mask all 16) ∙ none),
+        stopping_field 24 40 all (some_set all 0xFF_FFFF 24 (and_mask all 24) some),
+      )
+
+  pub run_of_three : bit_and all 0xFF_FFFF ≡ 0 → bit_and all 0xFFFF_FFFF ≢ 0 → run ≡ 3
+  run_of_three none some =
+      omega (
+        arith,
+        marks_of_8 word,
+        lowest_clear all 24 40 (sym (and_mask all 24) ∙ none),
+        stopping_field 32 32 all (some_set all 0xFFFF_FFFF 32 (and_mask all 32) some),
+      )
+
+  pub run_of_more : bit_and all 0xFFFF_FFFF ≡ 0 → 4 ≤ count_trailing_zeros 64 all / 8
+  run_of_more none = omega (arith, lowest_clear all 32 32 (sym (and_mask all 32) ∙ none))
+
+-- The bytes of a run are digits.
+module _ (word : ℕ) where
+  abbrev lowered_word : ℕ
+  lowered_word = (word + without_48 8) % 2 ^ 64
+
+  digit_at_0 : 1 ≤ run_len decimal_table (low_bytes 8 word) → (48 ≤ word % 256) × (word % 256 ≤ 57)
+  unfolding low_bytes
+  digit_at_0 some = grind (arith, nat_tests)
+
+  digit_at_1 : 2 ≤ run_len decimal_table (low_bytes 8 word) → (48 ≤ word / 256 % 256) × (word / 256 % 256 ≤ 57)
+  unfolding low_bytes
+  digit_at_1 some = grind (arith, nat_tests)
+
+  digit_at_2 : 3 ≤ run_len decimal_table (low_bytes 8 word) → (48 ≤ word / 256 / 256 % 256) × (word / 256 / 256 % 256 ≤ 57)
+  unfolding low_bytes
+  digit_at_2 some = grind (arith, nat_tests)
+
+  pub value_of_one : 1 ≤ run_len decimal_table (low_bytes 8 word) → (lowered_word % 256 ≡ low_value (low_bytes 1 word)) × (lowered_word % 256 ≤ 9)
+  unfolding low_bytes
+  value_of_one some =
+      let first = digit_at_0 some in
+      (omega (arith, first), omega (arith, first))
+
+  pub value_of_two : 2 ≤ run_len decimal_table (low_bytes 8 word) → let number = 10 * (lowered_word % 256) + lowered_word / 2 ^ 8 % 256 in
+      (number ≡ low_value (low_bytes 2 word)) × (number ≤ 99)
+  unfolding low_bytes
+  value_of_two some =
+      let first = digit_at_0 (omega (arith, some)) in
+      let second = digit_at_1 some in
+      (omega (arith, first, second), omega (arith, first, second))
+
+  pub value_of_three : 3 ≤ run_len decimal_table (low_bytes 8 word)
+      → 10 * (10 * (lowered_word % 256) + lowered_word / 2 ^ 8 % 256) + lowered_word / 2 ^ 16 % 256 ≡ low_value (low_bytes 3 word)
+  unfolding low_bytes
+  value_of_three some =
+      let first = digit_at_0 (omega (arith, some)) in
+      let second = digit_at_1 (omega (arith, some)) in
+      let third = digit_at_2 some in
+      omega (arith, first, second, third)

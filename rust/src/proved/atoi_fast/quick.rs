@@ -2,7 +2,7 @@
 // ghost use Rattle.std.specs.Prelude.{◌≡◌, IfSome};
 // ghost use Rattle.atoi_fast.specs.Short.{BeginsWithNumber, IsNumber};
 
-use crate::proved::atoi_fast::short_prefix::prefix_of_words;
+use crate::proved::atoi_fast::short_prefix::{prefix_by_length, prefix_of_words};
 use crate::proved::atoi_fast::short_slice::{short_slice, slice_of_two_words};
 use crate::proved::atoi_core::Number;
 
@@ -50,8 +50,11 @@ pub fn long_slice<T: Number>(s: &[u8]) -> Option<T>
 pub fn quick_prefix<T: Number>(s: &[u8]) -> Option<(T, usize)>
     // ensures { IfSome result (λ found. BeginsWithNumber T.int_type s.now (T.number found.0) found.1) }
 {
+    if !T::SIGNED && s.len() >= 16 {
+        return prefix_by_length(s);
+    }
     match s {
-        [_, b'0'..=b'9', b'0'..=b'9', ..] if s.len() >= 16 => prefix_of_words(s),
+        [_, b'0'..=b'9', b'0'..=b'9', ..] if T::SIGNED && s.len() >= 16 => prefix_of_words(s),
         [first @ b'0'..=b'9', second @ b'0'..=b'9', third, ..] if !third.is_ascii_digit() => {
             let tens = u32::from(*first - b'0');
             let number = 10 * tens + u32::from(*second - b'0');
