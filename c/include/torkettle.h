@@ -1045,7 +1045,7 @@ TK_CONSTEXPR int8_t tk_from_parts_i8(bool minus, tk_u128 magnitude)
 }
 
 /* Returns the number of a slice of one digit. */
-/* atoi_fast/src/quick.rt:11 */
+/* atoi_fast/src/quick.rt:14 */
 TK_INLINE tk_option_i8 tk_one_digit_i8(tk_bytes s)
 {
     if (s.len == 1 && '0' <= s.at[0] && s.at[0] <= '9') {
@@ -1063,7 +1063,7 @@ TK_CONSTEXPR uint8_t tk_from_parts_u8(bool minus, tk_u128 magnitude)
     return TK_CAST(uint8_t, tk_u128_low(magnitude));
 }
 
-/* atoi_fast/src/quick.rt:11 */
+/* atoi_fast/src/quick.rt:14 */
 TK_INLINE tk_option_u8 tk_one_digit_u8(tk_bytes s)
 {
     if (s.len == 1 && '0' <= s.at[0] && s.at[0] <= '9') {
@@ -1080,7 +1080,7 @@ TK_CONSTEXPR int16_t tk_from_parts_i16(bool minus, tk_u128 magnitude)
     return TK_CAST(int16_t, tk_i128_low(tk_with_sign_64(minus, tk_u128_low(magnitude))));
 }
 
-/* atoi_fast/src/quick.rt:11 */
+/* atoi_fast/src/quick.rt:14 */
 TK_INLINE tk_option_i16 tk_one_digit_i16(tk_bytes s)
 {
     if (s.len == 1 && '0' <= s.at[0] && s.at[0] <= '9') {
@@ -1098,7 +1098,7 @@ TK_CONSTEXPR uint16_t tk_from_parts_u16(bool minus, tk_u128 magnitude)
     return TK_CAST(uint16_t, tk_u128_low(magnitude));
 }
 
-/* atoi_fast/src/quick.rt:11 */
+/* atoi_fast/src/quick.rt:14 */
 TK_INLINE tk_option_u16 tk_one_digit_u16(tk_bytes s)
 {
     if (s.len == 1 && '0' <= s.at[0] && s.at[0] <= '9') {
@@ -1115,7 +1115,7 @@ TK_CONSTEXPR int32_t tk_from_parts_i32(bool minus, tk_u128 magnitude)
     return TK_CAST(int32_t, tk_i128_low(tk_with_sign_64(minus, tk_u128_low(magnitude))));
 }
 
-/* atoi_fast/src/quick.rt:11 */
+/* atoi_fast/src/quick.rt:14 */
 TK_INLINE tk_option_i32 tk_one_digit_i32(tk_bytes s)
 {
     if (s.len == 1 && '0' <= s.at[0] && s.at[0] <= '9') {
@@ -1133,7 +1133,7 @@ TK_CONSTEXPR uint32_t tk_from_parts_u32(bool minus, tk_u128 magnitude)
     return TK_CAST(uint32_t, tk_u128_low(magnitude));
 }
 
-/* atoi_fast/src/quick.rt:11 */
+/* atoi_fast/src/quick.rt:14 */
 TK_INLINE tk_option_u32 tk_one_digit_u32(tk_bytes s)
 {
     if (s.len == 1 && '0' <= s.at[0] && s.at[0] <= '9') {
@@ -1150,7 +1150,7 @@ TK_CONSTEXPR int64_t tk_from_parts_i64(bool minus, tk_u128 magnitude)
     return TK_CAST(int64_t, tk_i128_low(tk_with_sign_64(minus, tk_u128_low(magnitude))));
 }
 
-/* atoi_fast/src/quick.rt:11 */
+/* atoi_fast/src/quick.rt:14 */
 TK_INLINE tk_option_i64 tk_one_digit_i64(tk_bytes s)
 {
     if (s.len == 1 && '0' <= s.at[0] && s.at[0] <= '9') {
@@ -1168,7 +1168,7 @@ TK_CONSTEXPR uint64_t tk_from_parts_u64(bool minus, tk_u128 magnitude)
     return tk_u128_low(magnitude);
 }
 
-/* atoi_fast/src/quick.rt:11 */
+/* atoi_fast/src/quick.rt:14 */
 TK_INLINE tk_option_u64 tk_one_digit_u64(tk_bytes s)
 {
     if (s.len == 1 && '0' <= s.at[0] && s.at[0] <= '9') {
@@ -1191,7 +1191,7 @@ TK_CONSTEXPR tk_i128 tk_from_parts_i128(bool minus, tk_u128 magnitude)
     return tk_i128_negate(tk_u128_as_i128(magnitude));
 }
 
-/* atoi_fast/src/quick.rt:11 */
+/* atoi_fast/src/quick.rt:14 */
 TK_INLINE tk_option_i128 tk_one_digit_i128(tk_bytes s)
 {
     if (s.len == 1 && '0' <= s.at[0] && s.at[0] <= '9') {
@@ -1209,7 +1209,7 @@ TK_CONSTEXPR tk_u128 tk_from_parts_u128(bool minus, tk_u128 magnitude)
     return magnitude;
 }
 
-/* atoi_fast/src/quick.rt:11 */
+/* atoi_fast/src/quick.rt:14 */
 TK_INLINE tk_option_u128 tk_one_digit_u128(tk_bytes s)
 {
     if (s.len == 1 && '0' <= s.at[0] && s.at[0] <= '9') {
@@ -1220,11 +1220,8 @@ TK_INLINE tk_option_u128 tk_one_digit_u128(tk_bytes s)
     return tk_none_u128();
 }
 
-/*
- * What `sum_of` returns, after its first product. The two sums of four digits are joined by one small
- * product, which needs no 64-bit constant.
- */
-/* atoi_fast/src/digits.rt:124 */
+/* `sum_of` after its first product. A small product joins the two sums of four digits. */
+/* atoi_fast/src/digits.rt:123 */
 TK_HINTED uint64_t tk_sum_of_product(uint64_t product)
 {
     uint64_t tens = (product >> 8) & UINT64_C(0x00FF00FF00FF00FF);
@@ -1374,24 +1371,21 @@ TK_INLINE tk_option_u128 tk_number_in_range_u128(uint64_t most, bool minus, uint
     return tk_some_u128(tk_from_parts_u128(minus, tk_u128_of(magnitude)));
 }
 
-/* atoi_fast/src/short_prefix.rt:79 */
+/* atoi_fast/src/short_prefix.rt:78 */
 TK_HINTED uint8_t tk_lowest_byte(uint64_t word)
 {
     return TK_CAST(uint8_t, word & 0xFF);
 }
 
-/*
- * Returns the number of the lowest `len` bytes of `digits`, which are digits minus 48. One product by
- * a factor from a table takes the place of a shift and a product.
- */
-/* atoi_fast/src/digits.rt:147 */
+/* Returns the number of the lowest `len` bytes of `digits`, which are digits minus 48. */
+/* atoi_fast/src/digits.rt:145 */
 TK_HINTED uint64_t tk_value_by_product(uint64_t digits, uint32_t len)
 {
     return tk_sum_of_product(digits * tk_factors[tk_index(TK_CAST(size_t, len), 8)]);
 }
 
 /* The number of 8 to 15 bytes, of which the first eight spell `high`, with a zero for a minus. */
-/* atoi_fast/src/short_prefix.rt:87 */
+/* atoi_fast/src/short_prefix.rt:86 */
 TK_INLINE tk_option_pair_i64_size tk_prefix_of_two_words_i64(bool minus, uint64_t high, tk_bytes s)
 {
     uint64_t next = tk_load_full(tk_bytes_from(s, 8));
@@ -1427,10 +1421,7 @@ TK_INLINE tk_option_pair_i64_size tk_prefix_of_words_i64(tk_bytes s)
     uint64_t below = word - TK_ZEROS;
     uint64_t marks = (above | below) & UINT64_C(0x8080808080808000);
     if ((marks & 0x8000) != 0) {
-        /*
-         * Most numbers of many texts have one digit: the processor guesses that, and the next load waits
-         * for nothing.
-         */
+        /* Many texts have mostly one digit: the next load waits for nothing. */
         uint8_t digit = tk_lowest_byte(below);
         if (digit > 9) {
             return tk_none_pair_i64_size();
@@ -1455,7 +1446,7 @@ TK_INLINE tk_option_pair_i64_size tk_prefix_of_words_i64(tk_bytes s)
     return tk_some_pair_i64_size(tk_new_pair_i64_size(number, TK_CAST(size_t, len)));
 }
 
-/* atoi_fast/src/short_prefix.rt:87 */
+/* atoi_fast/src/short_prefix.rt:86 */
 TK_INLINE tk_option_pair_u64_size tk_prefix_of_two_words_u64(bool minus, uint64_t high, tk_bytes s)
 {
     uint64_t next = tk_load_full(tk_bytes_from(s, 8));
@@ -1478,7 +1469,99 @@ TK_INLINE tk_option_pair_u64_size tk_prefix_of_two_words_u64(bool minus, uint64_
     return tk_some_pair_u64_size(tk_new_pair_u64_size(number, 8 + TK_CAST(size_t, more)));
 }
 
-/* atoi_fast/src/short_prefix.rt:87 */
+/* atoi_fast/src/short_prefix.rt:46 */
+TK_INLINE tk_option_pair_u64_size tk_prefix_of_words_u64(tk_bytes s)
+{
+    uint64_t word = tk_load_full(s);
+    /* A `-` borrows from the next byte, so that a `0` there looks like no digit. */
+    uint64_t above = word + UINT64_C(0x4646464646464646);
+    uint64_t below = word - TK_ZEROS;
+    uint64_t marks = (above | below) & UINT64_C(0x8080808080808000);
+    if ((marks & 0x8000) != 0) {
+        /* Many texts have mostly one digit: the next load waits for nothing. */
+        uint8_t digit = tk_lowest_byte(below);
+        if (digit > 9) {
+            return tk_none_pair_u64_size();
+        }
+        return tk_some_pair_u64_size(tk_new_pair_u64_size(tk_from_parts_u64(false, tk_u128_of(digit)), 1));
+    }
+    bool minus = false & (tk_lowest_byte(word) == '-');
+    /* The digit of a `-` is 0, and takes the borrow back. */
+    uint64_t digits = below + 3 * tk_bit(minus);
+    if (tk_lowest_byte(digits) > 9) {
+        return tk_none_pair_u64_size();
+    }
+    if (marks == 0) {
+        return tk_prefix_of_two_words_u64(minus, tk_sum_of(digits), s);
+    }
+    uint32_t len = tk_u64_trailing_zeros(marks) / 8;
+    tk_option_u64 number_found = tk_number_in_range_u64(TK_MOST_IN_WORD, minus, tk_value_by_product(digits, len));
+    if (!number_found.is_some) {
+        return tk_none_pair_u64_size();
+    }
+    uint64_t number = number_found.value;
+    return tk_some_pair_u64_size(tk_new_pair_u64_size(number, TK_CAST(size_t, len)));
+}
+
+/* atoi_fast/src/quick.rt:131 */
+TK_HINTED tk_option_u64 tk_digit_of(uint8_t byte)
+{
+    if ('0' <= byte && byte <= '9') {
+        return tk_some_u64(TK_CAST(uint64_t, TK_CAST(uint8_t, byte - '0')));
+    }
+    return tk_none_u64();
+}
+
+/* One to three digits before a separator: their value and length. */
+/* atoi_fast/src/quick.rt:109 */
+TK_INLINE tk_option_pair_u64_size tk_few_digits(tk_bytes s, uint8_t separator)
+{
+    if (s.len >= 2 && s.at[1] == separator) {
+        uint8_t first = s.at[0];
+        tk_option_u64 found = tk_digit_of(first);
+        if (!found.is_some) {
+            return tk_none_pair_u64_size();
+        }
+        return tk_some_pair_u64_size(tk_new_pair_u64_size(found.value, 1));
+    }
+    if (s.len >= 3 && s.at[2] == separator) {
+        uint8_t first = s.at[0];
+        uint8_t second = s.at[1];
+        tk_option_u64 tens_found = tk_digit_of(first);
+        if (!tens_found.is_some) {
+            return tk_none_pair_u64_size();
+        }
+        uint64_t tens = tens_found.value;
+        tk_option_u64 found = tk_digit_of(second);
+        if (!found.is_some) {
+            return tk_none_pair_u64_size();
+        }
+        return tk_some_pair_u64_size(tk_new_pair_u64_size(10 * tens + found.value, 2));
+    }
+    if (s.len >= 4 && s.at[3] == separator) {
+        uint8_t first = s.at[0];
+        uint8_t second = s.at[1];
+        uint8_t third = s.at[2];
+        tk_option_u64 hundreds_found = tk_digit_of(first);
+        if (!hundreds_found.is_some) {
+            return tk_none_pair_u64_size();
+        }
+        uint64_t hundreds = hundreds_found.value;
+        tk_option_u64 tens_found = tk_digit_of(second);
+        if (!tens_found.is_some) {
+            return tk_none_pair_u64_size();
+        }
+        uint64_t tens = tens_found.value;
+        tk_option_u64 found = tk_digit_of(third);
+        if (!found.is_some) {
+            return tk_none_pair_u64_size();
+        }
+        return tk_some_pair_u64_size(tk_new_pair_u64_size(100 * hundreds + 10 * tens + found.value, 3));
+    }
+    return tk_none_pair_u64_size();
+}
+
+/* atoi_fast/src/short_prefix.rt:86 */
 TK_INLINE tk_option_pair_i8_size tk_prefix_of_two_words_i8(bool minus, uint64_t high, tk_bytes s)
 {
     uint64_t next = tk_load_full(tk_bytes_from(s, 8));
@@ -1505,10 +1588,7 @@ TK_INLINE tk_option_pair_i8_size tk_prefix_of_words_i8(tk_bytes s)
     uint64_t below = word - TK_ZEROS;
     uint64_t marks = (above | below) & UINT64_C(0x8080808080808000);
     if ((marks & 0x8000) != 0) {
-        /*
-         * Most numbers of many texts have one digit: the processor guesses that, and the next load waits
-         * for nothing.
-         */
+        /* Many texts have mostly one digit: the next load waits for nothing. */
         uint8_t digit = tk_lowest_byte(below);
         if (digit > 9) {
             return tk_none_pair_i8_size();
@@ -1533,43 +1613,37 @@ TK_INLINE tk_option_pair_i8_size tk_prefix_of_words_i8(tk_bytes s)
     return tk_some_pair_i8_size(tk_new_pair_i8_size(number, TK_CAST(size_t, len)));
 }
 
-/* The number of one digit at the start of a slice. */
-/* atoi_fast/src/quick.rt:69 */
-TK_INLINE tk_option_pair_i8_size tk_digit_prefix_i8(tk_bytes s)
+/* Like `quick_prefix`, but finds only a number before this separator, also of three digits in a short slice. */
+/* atoi_fast/src/quick.rt:87 */
+TK_INLINE tk_option_pair_i8_size tk_quick_field_i8(tk_bytes s, uint8_t separator)
 {
-    if (s.len >= 2 && '0' <= s.at[1] && s.at[1] <= '9') {
+    tk_option_pair_u64_size found = tk_few_digits(s, separator);
+    if (found.is_some) {
+        uint64_t magnitude = found.value.first;
+        size_t len = found.value.second;
+        tk_option_i8 number_found = tk_number_in_range_i8(999, false, magnitude);
+        if (!number_found.is_some) {
+            return tk_none_pair_i8_size();
+        }
+        int8_t number = number_found.value;
+        return tk_some_pair_i8_size(tk_new_pair_i8_size(number, len));
+    }
+    if (s.len < 16) {
         return tk_none_pair_i8_size();
     }
-    if (s.len >= 1 && '0' <= s.at[0] && s.at[0] <= '9') {
-        uint8_t digit = s.at[0];
-        tk_u128 number = tk_u128_of(TK_CAST(uint8_t, digit - '0'));
-        return tk_some_pair_i8_size(tk_new_pair_i8_size(tk_from_parts_i8(false, number), 1));
+    tk_option_pair_i8_size found_2 = tk_prefix_of_words_i8(s);
+    if (!found_2.is_some) {
+        return tk_none_pair_i8_size();
+    }
+    int8_t number = found_2.value.first;
+    size_t len = found_2.value.second;
+    if (len < s.len && s.at[tk_index(len, s.len)] == separator) {
+        return tk_some_pair_i8_size(tk_new_pair_i8_size(number, len));
     }
     return tk_none_pair_i8_size();
 }
 
-/*
- * Returns the number at the start of a slice and its length, if that is one digit or two, or, in a slice of at least
- * 16 bytes, fewer than 16 bytes. Others may be `None`, too.
- */
-/* atoi_fast/src/quick.rt:50 */
-TK_INLINE tk_option_pair_i8_size tk_quick_prefix_i8(tk_bytes s)
-{
-    if (s.len >= 3 && '0' <= s.at[1] && s.at[1] <= '9' && '0' <= s.at[2] && s.at[2] <= '9' && s.len >= 16) {
-        return tk_prefix_of_words_i8(s);
-    }
-    if (s.len >= 3 && '0' <= s.at[0] && s.at[0] <= '9' && '0' <= s.at[1] && s.at[1] <= '9'
-        && !tk_u8_is_digit(s.at[2])) {
-        uint8_t first = s.at[0];
-        uint8_t second = s.at[1];
-        uint32_t tens = TK_CAST(uint32_t, TK_CAST(uint8_t, first - '0'));
-        uint32_t number = 10 * tens + TK_CAST(uint32_t, TK_CAST(uint8_t, second - '0'));
-        return tk_some_pair_i8_size(tk_new_pair_i8_size(tk_from_parts_i8(false, tk_u128_of(number)), 2));
-    }
-    return tk_digit_prefix_i8(s);
-}
-
-/* atoi_fast/src/short_prefix.rt:87 */
+/* atoi_fast/src/short_prefix.rt:86 */
 TK_INLINE tk_option_pair_u8_size tk_prefix_of_two_words_u8(bool minus, uint64_t high, tk_bytes s)
 {
     uint64_t next = tk_load_full(tk_bytes_from(s, 8));
@@ -1587,8 +1661,651 @@ TK_INLINE tk_option_pair_u8_size tk_prefix_of_two_words_u8(bool minus, uint64_t 
     return tk_some_pair_u8_size(tk_new_pair_u8_size(number, 8 + TK_CAST(size_t, more)));
 }
 
-/* The number of a slice whose first word begins with `len` digits. */
-/* atoi_fast/src/short_prefix.rt:192 */
+/* atoi_fast/src/short_prefix.rt:46 */
+TK_INLINE tk_option_pair_u8_size tk_prefix_of_words_u8(tk_bytes s)
+{
+    uint64_t word = tk_load_full(s);
+    /* A `-` borrows from the next byte, so that a `0` there looks like no digit. */
+    uint64_t above = word + UINT64_C(0x4646464646464646);
+    uint64_t below = word - TK_ZEROS;
+    uint64_t marks = (above | below) & UINT64_C(0x8080808080808000);
+    if ((marks & 0x8000) != 0) {
+        /* Many texts have mostly one digit: the next load waits for nothing. */
+        uint8_t digit = tk_lowest_byte(below);
+        if (digit > 9) {
+            return tk_none_pair_u8_size();
+        }
+        return tk_some_pair_u8_size(tk_new_pair_u8_size(tk_from_parts_u8(false, tk_u128_of(digit)), 1));
+    }
+    bool minus = false & (tk_lowest_byte(word) == '-');
+    /* The digit of a `-` is 0, and takes the borrow back. */
+    uint64_t digits = below + 3 * tk_bit(minus);
+    if (tk_lowest_byte(digits) > 9) {
+        return tk_none_pair_u8_size();
+    }
+    if (marks == 0) {
+        return tk_prefix_of_two_words_u8(minus, tk_sum_of(digits), s);
+    }
+    uint32_t len = tk_u64_trailing_zeros(marks) / 8;
+    tk_option_u8 number_found = tk_number_in_range_u8(TK_MOST_IN_WORD, minus, tk_value_by_product(digits, len));
+    if (!number_found.is_some) {
+        return tk_none_pair_u8_size();
+    }
+    uint8_t number = number_found.value;
+    return tk_some_pair_u8_size(tk_new_pair_u8_size(number, TK_CAST(size_t, len)));
+}
+
+/* atoi_fast/src/quick.rt:87 */
+TK_INLINE tk_option_pair_u8_size tk_quick_field_u8(tk_bytes s, uint8_t separator)
+{
+    tk_option_pair_u64_size found = tk_few_digits(s, separator);
+    if (found.is_some) {
+        uint64_t magnitude = found.value.first;
+        size_t len = found.value.second;
+        tk_option_u8 number_found = tk_number_in_range_u8(999, false, magnitude);
+        if (!number_found.is_some) {
+            return tk_none_pair_u8_size();
+        }
+        uint8_t number = number_found.value;
+        return tk_some_pair_u8_size(tk_new_pair_u8_size(number, len));
+    }
+    if (s.len < 16) {
+        return tk_none_pair_u8_size();
+    }
+    tk_option_pair_u8_size found_2 = tk_prefix_of_words_u8(s);
+    if (!found_2.is_some) {
+        return tk_none_pair_u8_size();
+    }
+    uint8_t number = found_2.value.first;
+    size_t len = found_2.value.second;
+    if (len < s.len && s.at[tk_index(len, s.len)] == separator) {
+        return tk_some_pair_u8_size(tk_new_pair_u8_size(number, len));
+    }
+    return tk_none_pair_u8_size();
+}
+
+/* atoi_fast/src/short_prefix.rt:86 */
+TK_INLINE tk_option_pair_i16_size tk_prefix_of_two_words_i16(bool minus, uint64_t high, tk_bytes s)
+{
+    uint64_t next = tk_load_full(tk_bytes_from(s, 8));
+    uint32_t more = tk_leading_digits(next);
+    if (more == 8) {
+        return tk_none_pair_i16_size();
+    }
+    uint64_t low = tk_value_by_product(next - TK_ZEROS, more);
+    uint64_t magnitude = high * tk_power_of_ten(more) + low;
+    tk_option_i16 number_found = tk_number_in_range_i16(TK_MOST_IN_TWO_WORDS, minus, magnitude);
+    if (!number_found.is_some) {
+        return tk_none_pair_i16_size();
+    }
+    int16_t number = number_found.value;
+    return tk_some_pair_i16_size(tk_new_pair_i16_size(number, 8 + TK_CAST(size_t, more)));
+}
+
+/* atoi_fast/src/short_prefix.rt:46 */
+TK_INLINE tk_option_pair_i16_size tk_prefix_of_words_i16(tk_bytes s)
+{
+    uint64_t word = tk_load_full(s);
+    /* A `-` borrows from the next byte, so that a `0` there looks like no digit. */
+    uint64_t above = word + UINT64_C(0x4646464646464646);
+    uint64_t below = word - TK_ZEROS;
+    uint64_t marks = (above | below) & UINT64_C(0x8080808080808000);
+    if ((marks & 0x8000) != 0) {
+        /* Many texts have mostly one digit: the next load waits for nothing. */
+        uint8_t digit = tk_lowest_byte(below);
+        if (digit > 9) {
+            return tk_none_pair_i16_size();
+        }
+        return tk_some_pair_i16_size(tk_new_pair_i16_size(tk_from_parts_i16(false, tk_u128_of(digit)), 1));
+    }
+    bool minus = true & (tk_lowest_byte(word) == '-');
+    /* The digit of a `-` is 0, and takes the borrow back. */
+    uint64_t digits = below + 3 * tk_bit(minus);
+    if (tk_lowest_byte(digits) > 9) {
+        return tk_none_pair_i16_size();
+    }
+    if (marks == 0) {
+        return tk_prefix_of_two_words_i16(minus, tk_sum_of(digits), s);
+    }
+    uint32_t len = tk_u64_trailing_zeros(marks) / 8;
+    tk_option_i16 number_found = tk_number_in_range_i16(TK_MOST_IN_WORD, minus, tk_value_by_product(digits, len));
+    if (!number_found.is_some) {
+        return tk_none_pair_i16_size();
+    }
+    int16_t number = number_found.value;
+    return tk_some_pair_i16_size(tk_new_pair_i16_size(number, TK_CAST(size_t, len)));
+}
+
+/* atoi_fast/src/quick.rt:87 */
+TK_INLINE tk_option_pair_i16_size tk_quick_field_i16(tk_bytes s, uint8_t separator)
+{
+    tk_option_pair_u64_size found = tk_few_digits(s, separator);
+    if (found.is_some) {
+        uint64_t magnitude = found.value.first;
+        size_t len = found.value.second;
+        tk_option_i16 number_found = tk_number_in_range_i16(999, false, magnitude);
+        if (!number_found.is_some) {
+            return tk_none_pair_i16_size();
+        }
+        int16_t number = number_found.value;
+        return tk_some_pair_i16_size(tk_new_pair_i16_size(number, len));
+    }
+    if (s.len < 16) {
+        return tk_none_pair_i16_size();
+    }
+    tk_option_pair_i16_size found_2 = tk_prefix_of_words_i16(s);
+    if (!found_2.is_some) {
+        return tk_none_pair_i16_size();
+    }
+    int16_t number = found_2.value.first;
+    size_t len = found_2.value.second;
+    if (len < s.len && s.at[tk_index(len, s.len)] == separator) {
+        return tk_some_pair_i16_size(tk_new_pair_i16_size(number, len));
+    }
+    return tk_none_pair_i16_size();
+}
+
+/* atoi_fast/src/short_prefix.rt:86 */
+TK_INLINE tk_option_pair_u16_size tk_prefix_of_two_words_u16(bool minus, uint64_t high, tk_bytes s)
+{
+    uint64_t next = tk_load_full(tk_bytes_from(s, 8));
+    uint32_t more = tk_leading_digits(next);
+    if (more == 8) {
+        return tk_none_pair_u16_size();
+    }
+    uint64_t low = tk_value_by_product(next - TK_ZEROS, more);
+    uint64_t magnitude = high * tk_power_of_ten(more) + low;
+    tk_option_u16 number_found = tk_number_in_range_u16(TK_MOST_IN_TWO_WORDS, minus, magnitude);
+    if (!number_found.is_some) {
+        return tk_none_pair_u16_size();
+    }
+    uint16_t number = number_found.value;
+    return tk_some_pair_u16_size(tk_new_pair_u16_size(number, 8 + TK_CAST(size_t, more)));
+}
+
+/* atoi_fast/src/short_prefix.rt:46 */
+TK_INLINE tk_option_pair_u16_size tk_prefix_of_words_u16(tk_bytes s)
+{
+    uint64_t word = tk_load_full(s);
+    /* A `-` borrows from the next byte, so that a `0` there looks like no digit. */
+    uint64_t above = word + UINT64_C(0x4646464646464646);
+    uint64_t below = word - TK_ZEROS;
+    uint64_t marks = (above | below) & UINT64_C(0x8080808080808000);
+    if ((marks & 0x8000) != 0) {
+        /* Many texts have mostly one digit: the next load waits for nothing. */
+        uint8_t digit = tk_lowest_byte(below);
+        if (digit > 9) {
+            return tk_none_pair_u16_size();
+        }
+        return tk_some_pair_u16_size(tk_new_pair_u16_size(tk_from_parts_u16(false, tk_u128_of(digit)), 1));
+    }
+    bool minus = false & (tk_lowest_byte(word) == '-');
+    /* The digit of a `-` is 0, and takes the borrow back. */
+    uint64_t digits = below + 3 * tk_bit(minus);
+    if (tk_lowest_byte(digits) > 9) {
+        return tk_none_pair_u16_size();
+    }
+    if (marks == 0) {
+        return tk_prefix_of_two_words_u16(minus, tk_sum_of(digits), s);
+    }
+    uint32_t len = tk_u64_trailing_zeros(marks) / 8;
+    tk_option_u16 number_found = tk_number_in_range_u16(TK_MOST_IN_WORD, minus, tk_value_by_product(digits, len));
+    if (!number_found.is_some) {
+        return tk_none_pair_u16_size();
+    }
+    uint16_t number = number_found.value;
+    return tk_some_pair_u16_size(tk_new_pair_u16_size(number, TK_CAST(size_t, len)));
+}
+
+/* atoi_fast/src/quick.rt:87 */
+TK_INLINE tk_option_pair_u16_size tk_quick_field_u16(tk_bytes s, uint8_t separator)
+{
+    tk_option_pair_u64_size found = tk_few_digits(s, separator);
+    if (found.is_some) {
+        uint64_t magnitude = found.value.first;
+        size_t len = found.value.second;
+        tk_option_u16 number_found = tk_number_in_range_u16(999, false, magnitude);
+        if (!number_found.is_some) {
+            return tk_none_pair_u16_size();
+        }
+        uint16_t number = number_found.value;
+        return tk_some_pair_u16_size(tk_new_pair_u16_size(number, len));
+    }
+    if (s.len < 16) {
+        return tk_none_pair_u16_size();
+    }
+    tk_option_pair_u16_size found_2 = tk_prefix_of_words_u16(s);
+    if (!found_2.is_some) {
+        return tk_none_pair_u16_size();
+    }
+    uint16_t number = found_2.value.first;
+    size_t len = found_2.value.second;
+    if (len < s.len && s.at[tk_index(len, s.len)] == separator) {
+        return tk_some_pair_u16_size(tk_new_pair_u16_size(number, len));
+    }
+    return tk_none_pair_u16_size();
+}
+
+/* atoi_fast/src/short_prefix.rt:86 */
+TK_INLINE tk_option_pair_i32_size tk_prefix_of_two_words_i32(bool minus, uint64_t high, tk_bytes s)
+{
+    uint64_t next = tk_load_full(tk_bytes_from(s, 8));
+    uint32_t more = tk_leading_digits(next);
+    if (more == 8) {
+        return tk_none_pair_i32_size();
+    }
+    uint64_t low = tk_value_by_product(next - TK_ZEROS, more);
+    uint64_t magnitude = high * tk_power_of_ten(more) + low;
+    tk_option_i32 number_found = tk_number_in_range_i32(TK_MOST_IN_TWO_WORDS, minus, magnitude);
+    if (!number_found.is_some) {
+        return tk_none_pair_i32_size();
+    }
+    int32_t number = number_found.value;
+    return tk_some_pair_i32_size(tk_new_pair_i32_size(number, 8 + TK_CAST(size_t, more)));
+}
+
+/* atoi_fast/src/short_prefix.rt:46 */
+TK_INLINE tk_option_pair_i32_size tk_prefix_of_words_i32(tk_bytes s)
+{
+    uint64_t word = tk_load_full(s);
+    /* A `-` borrows from the next byte, so that a `0` there looks like no digit. */
+    uint64_t above = word + UINT64_C(0x4646464646464646);
+    uint64_t below = word - TK_ZEROS;
+    uint64_t marks = (above | below) & UINT64_C(0x8080808080808000);
+    if ((marks & 0x8000) != 0) {
+        /* Many texts have mostly one digit: the next load waits for nothing. */
+        uint8_t digit = tk_lowest_byte(below);
+        if (digit > 9) {
+            return tk_none_pair_i32_size();
+        }
+        return tk_some_pair_i32_size(tk_new_pair_i32_size(tk_from_parts_i32(false, tk_u128_of(digit)), 1));
+    }
+    bool minus = true & (tk_lowest_byte(word) == '-');
+    /* The digit of a `-` is 0, and takes the borrow back. */
+    uint64_t digits = below + 3 * tk_bit(minus);
+    if (tk_lowest_byte(digits) > 9) {
+        return tk_none_pair_i32_size();
+    }
+    if (marks == 0) {
+        return tk_prefix_of_two_words_i32(minus, tk_sum_of(digits), s);
+    }
+    uint32_t len = tk_u64_trailing_zeros(marks) / 8;
+    tk_option_i32 number_found = tk_number_in_range_i32(TK_MOST_IN_WORD, minus, tk_value_by_product(digits, len));
+    if (!number_found.is_some) {
+        return tk_none_pair_i32_size();
+    }
+    int32_t number = number_found.value;
+    return tk_some_pair_i32_size(tk_new_pair_i32_size(number, TK_CAST(size_t, len)));
+}
+
+/* atoi_fast/src/quick.rt:87 */
+TK_INLINE tk_option_pair_i32_size tk_quick_field_i32(tk_bytes s, uint8_t separator)
+{
+    tk_option_pair_u64_size found = tk_few_digits(s, separator);
+    if (found.is_some) {
+        uint64_t magnitude = found.value.first;
+        size_t len = found.value.second;
+        tk_option_i32 number_found = tk_number_in_range_i32(999, false, magnitude);
+        if (!number_found.is_some) {
+            return tk_none_pair_i32_size();
+        }
+        int32_t number = number_found.value;
+        return tk_some_pair_i32_size(tk_new_pair_i32_size(number, len));
+    }
+    if (s.len < 16) {
+        return tk_none_pair_i32_size();
+    }
+    tk_option_pair_i32_size found_2 = tk_prefix_of_words_i32(s);
+    if (!found_2.is_some) {
+        return tk_none_pair_i32_size();
+    }
+    int32_t number = found_2.value.first;
+    size_t len = found_2.value.second;
+    if (len < s.len && s.at[tk_index(len, s.len)] == separator) {
+        return tk_some_pair_i32_size(tk_new_pair_i32_size(number, len));
+    }
+    return tk_none_pair_i32_size();
+}
+
+/* atoi_fast/src/short_prefix.rt:86 */
+TK_INLINE tk_option_pair_u32_size tk_prefix_of_two_words_u32(bool minus, uint64_t high, tk_bytes s)
+{
+    uint64_t next = tk_load_full(tk_bytes_from(s, 8));
+    uint32_t more = tk_leading_digits(next);
+    if (more == 8) {
+        return tk_none_pair_u32_size();
+    }
+    uint64_t low = tk_value_by_product(next - TK_ZEROS, more);
+    uint64_t magnitude = high * tk_power_of_ten(more) + low;
+    tk_option_u32 number_found = tk_number_in_range_u32(TK_MOST_IN_TWO_WORDS, minus, magnitude);
+    if (!number_found.is_some) {
+        return tk_none_pair_u32_size();
+    }
+    uint32_t number = number_found.value;
+    return tk_some_pair_u32_size(tk_new_pair_u32_size(number, 8 + TK_CAST(size_t, more)));
+}
+
+/* atoi_fast/src/short_prefix.rt:46 */
+TK_INLINE tk_option_pair_u32_size tk_prefix_of_words_u32(tk_bytes s)
+{
+    uint64_t word = tk_load_full(s);
+    /* A `-` borrows from the next byte, so that a `0` there looks like no digit. */
+    uint64_t above = word + UINT64_C(0x4646464646464646);
+    uint64_t below = word - TK_ZEROS;
+    uint64_t marks = (above | below) & UINT64_C(0x8080808080808000);
+    if ((marks & 0x8000) != 0) {
+        /* Many texts have mostly one digit: the next load waits for nothing. */
+        uint8_t digit = tk_lowest_byte(below);
+        if (digit > 9) {
+            return tk_none_pair_u32_size();
+        }
+        return tk_some_pair_u32_size(tk_new_pair_u32_size(tk_from_parts_u32(false, tk_u128_of(digit)), 1));
+    }
+    bool minus = false & (tk_lowest_byte(word) == '-');
+    /* The digit of a `-` is 0, and takes the borrow back. */
+    uint64_t digits = below + 3 * tk_bit(minus);
+    if (tk_lowest_byte(digits) > 9) {
+        return tk_none_pair_u32_size();
+    }
+    if (marks == 0) {
+        return tk_prefix_of_two_words_u32(minus, tk_sum_of(digits), s);
+    }
+    uint32_t len = tk_u64_trailing_zeros(marks) / 8;
+    tk_option_u32 number_found = tk_number_in_range_u32(TK_MOST_IN_WORD, minus, tk_value_by_product(digits, len));
+    if (!number_found.is_some) {
+        return tk_none_pair_u32_size();
+    }
+    uint32_t number = number_found.value;
+    return tk_some_pair_u32_size(tk_new_pair_u32_size(number, TK_CAST(size_t, len)));
+}
+
+/* atoi_fast/src/quick.rt:87 */
+TK_INLINE tk_option_pair_u32_size tk_quick_field_u32(tk_bytes s, uint8_t separator)
+{
+    tk_option_pair_u64_size found = tk_few_digits(s, separator);
+    if (found.is_some) {
+        uint64_t magnitude = found.value.first;
+        size_t len = found.value.second;
+        tk_option_u32 number_found = tk_number_in_range_u32(999, false, magnitude);
+        if (!number_found.is_some) {
+            return tk_none_pair_u32_size();
+        }
+        uint32_t number = number_found.value;
+        return tk_some_pair_u32_size(tk_new_pair_u32_size(number, len));
+    }
+    if (s.len < 16) {
+        return tk_none_pair_u32_size();
+    }
+    tk_option_pair_u32_size found_2 = tk_prefix_of_words_u32(s);
+    if (!found_2.is_some) {
+        return tk_none_pair_u32_size();
+    }
+    uint32_t number = found_2.value.first;
+    size_t len = found_2.value.second;
+    if (len < s.len && s.at[tk_index(len, s.len)] == separator) {
+        return tk_some_pair_u32_size(tk_new_pair_u32_size(number, len));
+    }
+    return tk_none_pair_u32_size();
+}
+
+/* atoi_fast/src/quick.rt:87 */
+TK_INLINE tk_option_pair_i64_size tk_quick_field_i64(tk_bytes s, uint8_t separator)
+{
+    tk_option_pair_u64_size found = tk_few_digits(s, separator);
+    if (found.is_some) {
+        uint64_t magnitude = found.value.first;
+        size_t len = found.value.second;
+        tk_option_i64 number_found = tk_number_in_range_i64(999, false, magnitude);
+        if (!number_found.is_some) {
+            return tk_none_pair_i64_size();
+        }
+        int64_t number = number_found.value;
+        return tk_some_pair_i64_size(tk_new_pair_i64_size(number, len));
+    }
+    if (s.len < 16) {
+        return tk_none_pair_i64_size();
+    }
+    tk_option_pair_i64_size found_2 = tk_prefix_of_words_i64(s);
+    if (!found_2.is_some) {
+        return tk_none_pair_i64_size();
+    }
+    int64_t number = found_2.value.first;
+    size_t len = found_2.value.second;
+    if (len < s.len && s.at[tk_index(len, s.len)] == separator) {
+        return tk_some_pair_i64_size(tk_new_pair_i64_size(number, len));
+    }
+    return tk_none_pair_i64_size();
+}
+
+/* atoi_fast/src/quick.rt:87 */
+TK_INLINE tk_option_pair_u64_size tk_quick_field_u64(tk_bytes s, uint8_t separator)
+{
+    tk_option_pair_u64_size found = tk_few_digits(s, separator);
+    if (found.is_some) {
+        uint64_t magnitude = found.value.first;
+        size_t len = found.value.second;
+        tk_option_u64 number_found = tk_number_in_range_u64(999, false, magnitude);
+        if (!number_found.is_some) {
+            return tk_none_pair_u64_size();
+        }
+        uint64_t number = number_found.value;
+        return tk_some_pair_u64_size(tk_new_pair_u64_size(number, len));
+    }
+    if (s.len < 16) {
+        return tk_none_pair_u64_size();
+    }
+    tk_option_pair_u64_size found_2 = tk_prefix_of_words_u64(s);
+    if (!found_2.is_some) {
+        return tk_none_pair_u64_size();
+    }
+    uint64_t number = found_2.value.first;
+    size_t len = found_2.value.second;
+    if (len < s.len && s.at[tk_index(len, s.len)] == separator) {
+        return tk_some_pair_u64_size(tk_new_pair_u64_size(number, len));
+    }
+    return tk_none_pair_u64_size();
+}
+
+/* atoi_fast/src/short_prefix.rt:86 */
+TK_INLINE tk_option_pair_i128_size tk_prefix_of_two_words_i128(bool minus, uint64_t high, tk_bytes s)
+{
+    uint64_t next = tk_load_full(tk_bytes_from(s, 8));
+    uint32_t more = tk_leading_digits(next);
+    if (more == 8) {
+        return tk_none_pair_i128_size();
+    }
+    uint64_t low = tk_value_by_product(next - TK_ZEROS, more);
+    uint64_t magnitude = high * tk_power_of_ten(more) + low;
+    tk_option_i128 number_found = tk_number_in_range_i128(TK_MOST_IN_TWO_WORDS, minus, magnitude);
+    if (!number_found.is_some) {
+        return tk_none_pair_i128_size();
+    }
+    tk_i128 number = number_found.value;
+    return tk_some_pair_i128_size(tk_new_pair_i128_size(number, 8 + TK_CAST(size_t, more)));
+}
+
+/* atoi_fast/src/short_prefix.rt:46 */
+TK_INLINE tk_option_pair_i128_size tk_prefix_of_words_i128(tk_bytes s)
+{
+    uint64_t word = tk_load_full(s);
+    /* A `-` borrows from the next byte, so that a `0` there looks like no digit. */
+    uint64_t above = word + UINT64_C(0x4646464646464646);
+    uint64_t below = word - TK_ZEROS;
+    uint64_t marks = (above | below) & UINT64_C(0x8080808080808000);
+    if ((marks & 0x8000) != 0) {
+        /* Many texts have mostly one digit: the next load waits for nothing. */
+        uint8_t digit = tk_lowest_byte(below);
+        if (digit > 9) {
+            return tk_none_pair_i128_size();
+        }
+        return tk_some_pair_i128_size(tk_new_pair_i128_size(tk_from_parts_i128(false, tk_u128_of(digit)), 1));
+    }
+    bool minus = true & (tk_lowest_byte(word) == '-');
+    /* The digit of a `-` is 0, and takes the borrow back. */
+    uint64_t digits = below + 3 * tk_bit(minus);
+    if (tk_lowest_byte(digits) > 9) {
+        return tk_none_pair_i128_size();
+    }
+    if (marks == 0) {
+        return tk_prefix_of_two_words_i128(minus, tk_sum_of(digits), s);
+    }
+    uint32_t len = tk_u64_trailing_zeros(marks) / 8;
+    tk_option_i128 number_found = tk_number_in_range_i128(TK_MOST_IN_WORD, minus, tk_value_by_product(digits, len));
+    if (!number_found.is_some) {
+        return tk_none_pair_i128_size();
+    }
+    tk_i128 number = number_found.value;
+    return tk_some_pair_i128_size(tk_new_pair_i128_size(number, TK_CAST(size_t, len)));
+}
+
+/* atoi_fast/src/quick.rt:87 */
+TK_INLINE tk_option_pair_i128_size tk_quick_field_i128(tk_bytes s, uint8_t separator)
+{
+    tk_option_pair_u64_size found = tk_few_digits(s, separator);
+    if (found.is_some) {
+        uint64_t magnitude = found.value.first;
+        size_t len = found.value.second;
+        tk_option_i128 number_found = tk_number_in_range_i128(999, false, magnitude);
+        if (!number_found.is_some) {
+            return tk_none_pair_i128_size();
+        }
+        tk_i128 number = number_found.value;
+        return tk_some_pair_i128_size(tk_new_pair_i128_size(number, len));
+    }
+    if (s.len < 16) {
+        return tk_none_pair_i128_size();
+    }
+    tk_option_pair_i128_size found_2 = tk_prefix_of_words_i128(s);
+    if (!found_2.is_some) {
+        return tk_none_pair_i128_size();
+    }
+    tk_i128 number = found_2.value.first;
+    size_t len = found_2.value.second;
+    if (len < s.len && s.at[tk_index(len, s.len)] == separator) {
+        return tk_some_pair_i128_size(tk_new_pair_i128_size(number, len));
+    }
+    return tk_none_pair_i128_size();
+}
+
+/* atoi_fast/src/short_prefix.rt:86 */
+TK_INLINE tk_option_pair_u128_size tk_prefix_of_two_words_u128(bool minus, uint64_t high, tk_bytes s)
+{
+    uint64_t next = tk_load_full(tk_bytes_from(s, 8));
+    uint32_t more = tk_leading_digits(next);
+    if (more == 8) {
+        return tk_none_pair_u128_size();
+    }
+    uint64_t low = tk_value_by_product(next - TK_ZEROS, more);
+    uint64_t magnitude = high * tk_power_of_ten(more) + low;
+    tk_option_u128 number_found = tk_number_in_range_u128(TK_MOST_IN_TWO_WORDS, minus, magnitude);
+    if (!number_found.is_some) {
+        return tk_none_pair_u128_size();
+    }
+    tk_u128 number = number_found.value;
+    return tk_some_pair_u128_size(tk_new_pair_u128_size(number, 8 + TK_CAST(size_t, more)));
+}
+
+/* atoi_fast/src/short_prefix.rt:46 */
+TK_INLINE tk_option_pair_u128_size tk_prefix_of_words_u128(tk_bytes s)
+{
+    uint64_t word = tk_load_full(s);
+    /* A `-` borrows from the next byte, so that a `0` there looks like no digit. */
+    uint64_t above = word + UINT64_C(0x4646464646464646);
+    uint64_t below = word - TK_ZEROS;
+    uint64_t marks = (above | below) & UINT64_C(0x8080808080808000);
+    if ((marks & 0x8000) != 0) {
+        /* Many texts have mostly one digit: the next load waits for nothing. */
+        uint8_t digit = tk_lowest_byte(below);
+        if (digit > 9) {
+            return tk_none_pair_u128_size();
+        }
+        return tk_some_pair_u128_size(tk_new_pair_u128_size(tk_from_parts_u128(false, tk_u128_of(digit)), 1));
+    }
+    bool minus = false & (tk_lowest_byte(word) == '-');
+    /* The digit of a `-` is 0, and takes the borrow back. */
+    uint64_t digits = below + 3 * tk_bit(minus);
+    if (tk_lowest_byte(digits) > 9) {
+        return tk_none_pair_u128_size();
+    }
+    if (marks == 0) {
+        return tk_prefix_of_two_words_u128(minus, tk_sum_of(digits), s);
+    }
+    uint32_t len = tk_u64_trailing_zeros(marks) / 8;
+    tk_option_u128 number_found = tk_number_in_range_u128(TK_MOST_IN_WORD, minus, tk_value_by_product(digits, len));
+    if (!number_found.is_some) {
+        return tk_none_pair_u128_size();
+    }
+    tk_u128 number = number_found.value;
+    return tk_some_pair_u128_size(tk_new_pair_u128_size(number, TK_CAST(size_t, len)));
+}
+
+/* atoi_fast/src/quick.rt:87 */
+TK_INLINE tk_option_pair_u128_size tk_quick_field_u128(tk_bytes s, uint8_t separator)
+{
+    tk_option_pair_u64_size found = tk_few_digits(s, separator);
+    if (found.is_some) {
+        uint64_t magnitude = found.value.first;
+        size_t len = found.value.second;
+        tk_option_u128 number_found = tk_number_in_range_u128(999, false, magnitude);
+        if (!number_found.is_some) {
+            return tk_none_pair_u128_size();
+        }
+        tk_u128 number = number_found.value;
+        return tk_some_pair_u128_size(tk_new_pair_u128_size(number, len));
+    }
+    if (s.len < 16) {
+        return tk_none_pair_u128_size();
+    }
+    tk_option_pair_u128_size found_2 = tk_prefix_of_words_u128(s);
+    if (!found_2.is_some) {
+        return tk_none_pair_u128_size();
+    }
+    tk_u128 number = found_2.value.first;
+    size_t len = found_2.value.second;
+    if (len < s.len && s.at[tk_index(len, s.len)] == separator) {
+        return tk_some_pair_u128_size(tk_new_pair_u128_size(number, len));
+    }
+    return tk_none_pair_u128_size();
+}
+
+/* The number of one digit at the start of a slice. */
+/* atoi_fast/src/quick.rt:72 */
+TK_INLINE tk_option_pair_i8_size tk_digit_prefix_i8(tk_bytes s)
+{
+    if (s.len >= 2 && '0' <= s.at[1] && s.at[1] <= '9') {
+        return tk_none_pair_i8_size();
+    }
+    if (s.len >= 1 && '0' <= s.at[0] && s.at[0] <= '9') {
+        uint8_t digit = s.at[0];
+        tk_u128 number = tk_u128_of(TK_CAST(uint8_t, digit - '0'));
+        return tk_some_pair_i8_size(tk_new_pair_i8_size(tk_from_parts_i8(false, number), 1));
+    }
+    return tk_none_pair_i8_size();
+}
+
+/*
+ * Returns the number at the start of a slice and its length, if that is one digit or two, or, in a slice of at least
+ * 16 bytes, fewer than 16 bytes. Others may be `None`, too.
+ */
+/* atoi_fast/src/quick.rt:53 */
+TK_INLINE tk_option_pair_i8_size tk_quick_prefix_i8(tk_bytes s)
+{
+    if (s.len >= 3 && '0' <= s.at[1] && s.at[1] <= '9' && '0' <= s.at[2] && s.at[2] <= '9' && s.len >= 16) {
+        return tk_prefix_of_words_i8(s);
+    }
+    if (s.len >= 3 && '0' <= s.at[0] && s.at[0] <= '9' && '0' <= s.at[1] && s.at[1] <= '9'
+        && !tk_u8_is_digit(s.at[2])) {
+        uint8_t first = s.at[0];
+        uint8_t second = s.at[1];
+        uint32_t tens = TK_CAST(uint32_t, TK_CAST(uint8_t, first - '0'));
+        uint32_t number = 10 * tens + TK_CAST(uint32_t, TK_CAST(uint8_t, second - '0'));
+        return tk_some_pair_i8_size(tk_new_pair_i8_size(tk_from_parts_i8(false, tk_u128_of(number)), 2));
+    }
+    return tk_digit_prefix_i8(s);
+}
+
+/* The first word begins with `len` digits. */
+/* atoi_fast/src/short_prefix.rt:189 */
 TK_INLINE tk_option_pair_u8_size tk_prefix_in_word_u8(uint64_t word, uint32_t len, tk_bytes s)
 {
     (void)s;
@@ -1601,16 +2318,12 @@ TK_INLINE tk_option_pair_u8_size tk_prefix_in_word_u8(uint64_t word, uint32_t le
     return tk_some_pair_u8_size(tk_new_pair_u8_size(number, TK_CAST(size_t, len)));
 }
 
-/*
- * `prefix_of_words` for an unsigned type. It branches on one, two and three digits: if the processor guesses
- * the length, the next load waits for nothing.
- */
-/* atoi_fast/src/short_prefix.rt:146 */
+/* `prefix_of_words` for an unsigned type. If the processor guesses the length, the next load waits for nothing. */
+/* atoi_fast/src/short_prefix.rt:144 */
 TK_INLINE tk_option_pair_u8_size tk_prefix_by_length_u8(tk_bytes s)
 {
     uint64_t word = tk_load_full(s);
     uint64_t digits = word - TK_ZEROS;
-    /* As in `leading_digits`. */
     uint64_t marks = ((word + UINT64_C(0x4646464646464646)) | digits) & UINT64_C(0x8080808080808080);
     if ((marks & 0xFF) != 0) {
         return tk_none_pair_u8_size();
@@ -1638,7 +2351,7 @@ TK_INLINE tk_option_pair_u8_size tk_prefix_by_length_u8(tk_bytes s)
     return tk_prefix_in_word_u8(word, tk_u64_trailing_zeros(marks) / 8, s);
 }
 
-/* atoi_fast/src/quick.rt:69 */
+/* atoi_fast/src/quick.rt:72 */
 TK_INLINE tk_option_pair_u8_size tk_digit_prefix_u8(tk_bytes s)
 {
     if (s.len >= 2 && '0' <= s.at[1] && s.at[1] <= '9') {
@@ -1652,7 +2365,7 @@ TK_INLINE tk_option_pair_u8_size tk_digit_prefix_u8(tk_bytes s)
     return tk_none_pair_u8_size();
 }
 
-/* atoi_fast/src/quick.rt:50 */
+/* atoi_fast/src/quick.rt:53 */
 TK_INLINE tk_option_pair_u8_size tk_quick_prefix_u8(tk_bytes s)
 {
     if (s.len >= 16) {
@@ -1669,62 +2382,7 @@ TK_INLINE tk_option_pair_u8_size tk_quick_prefix_u8(tk_bytes s)
     return tk_digit_prefix_u8(s);
 }
 
-/* atoi_fast/src/short_prefix.rt:87 */
-TK_INLINE tk_option_pair_i16_size tk_prefix_of_two_words_i16(bool minus, uint64_t high, tk_bytes s)
-{
-    uint64_t next = tk_load_full(tk_bytes_from(s, 8));
-    uint32_t more = tk_leading_digits(next);
-    if (more == 8) {
-        return tk_none_pair_i16_size();
-    }
-    uint64_t low = tk_value_by_product(next - TK_ZEROS, more);
-    uint64_t magnitude = high * tk_power_of_ten(more) + low;
-    tk_option_i16 number_found = tk_number_in_range_i16(TK_MOST_IN_TWO_WORDS, minus, magnitude);
-    if (!number_found.is_some) {
-        return tk_none_pair_i16_size();
-    }
-    int16_t number = number_found.value;
-    return tk_some_pair_i16_size(tk_new_pair_i16_size(number, 8 + TK_CAST(size_t, more)));
-}
-
-/* atoi_fast/src/short_prefix.rt:46 */
-TK_INLINE tk_option_pair_i16_size tk_prefix_of_words_i16(tk_bytes s)
-{
-    uint64_t word = tk_load_full(s);
-    /* A `-` borrows from the next byte, so that a `0` there looks like no digit. */
-    uint64_t above = word + UINT64_C(0x4646464646464646);
-    uint64_t below = word - TK_ZEROS;
-    uint64_t marks = (above | below) & UINT64_C(0x8080808080808000);
-    if ((marks & 0x8000) != 0) {
-        /*
-         * Most numbers of many texts have one digit: the processor guesses that, and the next load waits
-         * for nothing.
-         */
-        uint8_t digit = tk_lowest_byte(below);
-        if (digit > 9) {
-            return tk_none_pair_i16_size();
-        }
-        return tk_some_pair_i16_size(tk_new_pair_i16_size(tk_from_parts_i16(false, tk_u128_of(digit)), 1));
-    }
-    bool minus = true & (tk_lowest_byte(word) == '-');
-    /* The digit of a `-` is 0, and takes the borrow back. */
-    uint64_t digits = below + 3 * tk_bit(minus);
-    if (tk_lowest_byte(digits) > 9) {
-        return tk_none_pair_i16_size();
-    }
-    if (marks == 0) {
-        return tk_prefix_of_two_words_i16(minus, tk_sum_of(digits), s);
-    }
-    uint32_t len = tk_u64_trailing_zeros(marks) / 8;
-    tk_option_i16 number_found = tk_number_in_range_i16(TK_MOST_IN_WORD, minus, tk_value_by_product(digits, len));
-    if (!number_found.is_some) {
-        return tk_none_pair_i16_size();
-    }
-    int16_t number = number_found.value;
-    return tk_some_pair_i16_size(tk_new_pair_i16_size(number, TK_CAST(size_t, len)));
-}
-
-/* atoi_fast/src/quick.rt:69 */
+/* atoi_fast/src/quick.rt:72 */
 TK_INLINE tk_option_pair_i16_size tk_digit_prefix_i16(tk_bytes s)
 {
     if (s.len >= 2 && '0' <= s.at[1] && s.at[1] <= '9') {
@@ -1738,7 +2396,7 @@ TK_INLINE tk_option_pair_i16_size tk_digit_prefix_i16(tk_bytes s)
     return tk_none_pair_i16_size();
 }
 
-/* atoi_fast/src/quick.rt:50 */
+/* atoi_fast/src/quick.rt:53 */
 TK_INLINE tk_option_pair_i16_size tk_quick_prefix_i16(tk_bytes s)
 {
     if (s.len >= 3 && '0' <= s.at[1] && s.at[1] <= '9' && '0' <= s.at[2] && s.at[2] <= '9' && s.len >= 16) {
@@ -1755,25 +2413,7 @@ TK_INLINE tk_option_pair_i16_size tk_quick_prefix_i16(tk_bytes s)
     return tk_digit_prefix_i16(s);
 }
 
-/* atoi_fast/src/short_prefix.rt:87 */
-TK_INLINE tk_option_pair_u16_size tk_prefix_of_two_words_u16(bool minus, uint64_t high, tk_bytes s)
-{
-    uint64_t next = tk_load_full(tk_bytes_from(s, 8));
-    uint32_t more = tk_leading_digits(next);
-    if (more == 8) {
-        return tk_none_pair_u16_size();
-    }
-    uint64_t low = tk_value_by_product(next - TK_ZEROS, more);
-    uint64_t magnitude = high * tk_power_of_ten(more) + low;
-    tk_option_u16 number_found = tk_number_in_range_u16(TK_MOST_IN_TWO_WORDS, minus, magnitude);
-    if (!number_found.is_some) {
-        return tk_none_pair_u16_size();
-    }
-    uint16_t number = number_found.value;
-    return tk_some_pair_u16_size(tk_new_pair_u16_size(number, 8 + TK_CAST(size_t, more)));
-}
-
-/* atoi_fast/src/short_prefix.rt:192 */
+/* atoi_fast/src/short_prefix.rt:189 */
 TK_INLINE tk_option_pair_u16_size tk_prefix_in_word_u16(uint64_t word, uint32_t len, tk_bytes s)
 {
     (void)s;
@@ -1786,12 +2426,11 @@ TK_INLINE tk_option_pair_u16_size tk_prefix_in_word_u16(uint64_t word, uint32_t 
     return tk_some_pair_u16_size(tk_new_pair_u16_size(number, TK_CAST(size_t, len)));
 }
 
-/* atoi_fast/src/short_prefix.rt:146 */
+/* atoi_fast/src/short_prefix.rt:144 */
 TK_INLINE tk_option_pair_u16_size tk_prefix_by_length_u16(tk_bytes s)
 {
     uint64_t word = tk_load_full(s);
     uint64_t digits = word - TK_ZEROS;
-    /* As in `leading_digits`. */
     uint64_t marks = ((word + UINT64_C(0x4646464646464646)) | digits) & UINT64_C(0x8080808080808080);
     if ((marks & 0xFF) != 0) {
         return tk_none_pair_u16_size();
@@ -1819,7 +2458,7 @@ TK_INLINE tk_option_pair_u16_size tk_prefix_by_length_u16(tk_bytes s)
     return tk_prefix_in_word_u16(word, tk_u64_trailing_zeros(marks) / 8, s);
 }
 
-/* atoi_fast/src/quick.rt:69 */
+/* atoi_fast/src/quick.rt:72 */
 TK_INLINE tk_option_pair_u16_size tk_digit_prefix_u16(tk_bytes s)
 {
     if (s.len >= 2 && '0' <= s.at[1] && s.at[1] <= '9') {
@@ -1833,7 +2472,7 @@ TK_INLINE tk_option_pair_u16_size tk_digit_prefix_u16(tk_bytes s)
     return tk_none_pair_u16_size();
 }
 
-/* atoi_fast/src/quick.rt:50 */
+/* atoi_fast/src/quick.rt:53 */
 TK_INLINE tk_option_pair_u16_size tk_quick_prefix_u16(tk_bytes s)
 {
     if (s.len >= 16) {
@@ -1850,62 +2489,7 @@ TK_INLINE tk_option_pair_u16_size tk_quick_prefix_u16(tk_bytes s)
     return tk_digit_prefix_u16(s);
 }
 
-/* atoi_fast/src/short_prefix.rt:87 */
-TK_INLINE tk_option_pair_i32_size tk_prefix_of_two_words_i32(bool minus, uint64_t high, tk_bytes s)
-{
-    uint64_t next = tk_load_full(tk_bytes_from(s, 8));
-    uint32_t more = tk_leading_digits(next);
-    if (more == 8) {
-        return tk_none_pair_i32_size();
-    }
-    uint64_t low = tk_value_by_product(next - TK_ZEROS, more);
-    uint64_t magnitude = high * tk_power_of_ten(more) + low;
-    tk_option_i32 number_found = tk_number_in_range_i32(TK_MOST_IN_TWO_WORDS, minus, magnitude);
-    if (!number_found.is_some) {
-        return tk_none_pair_i32_size();
-    }
-    int32_t number = number_found.value;
-    return tk_some_pair_i32_size(tk_new_pair_i32_size(number, 8 + TK_CAST(size_t, more)));
-}
-
-/* atoi_fast/src/short_prefix.rt:46 */
-TK_INLINE tk_option_pair_i32_size tk_prefix_of_words_i32(tk_bytes s)
-{
-    uint64_t word = tk_load_full(s);
-    /* A `-` borrows from the next byte, so that a `0` there looks like no digit. */
-    uint64_t above = word + UINT64_C(0x4646464646464646);
-    uint64_t below = word - TK_ZEROS;
-    uint64_t marks = (above | below) & UINT64_C(0x8080808080808000);
-    if ((marks & 0x8000) != 0) {
-        /*
-         * Most numbers of many texts have one digit: the processor guesses that, and the next load waits
-         * for nothing.
-         */
-        uint8_t digit = tk_lowest_byte(below);
-        if (digit > 9) {
-            return tk_none_pair_i32_size();
-        }
-        return tk_some_pair_i32_size(tk_new_pair_i32_size(tk_from_parts_i32(false, tk_u128_of(digit)), 1));
-    }
-    bool minus = true & (tk_lowest_byte(word) == '-');
-    /* The digit of a `-` is 0, and takes the borrow back. */
-    uint64_t digits = below + 3 * tk_bit(minus);
-    if (tk_lowest_byte(digits) > 9) {
-        return tk_none_pair_i32_size();
-    }
-    if (marks == 0) {
-        return tk_prefix_of_two_words_i32(minus, tk_sum_of(digits), s);
-    }
-    uint32_t len = tk_u64_trailing_zeros(marks) / 8;
-    tk_option_i32 number_found = tk_number_in_range_i32(TK_MOST_IN_WORD, minus, tk_value_by_product(digits, len));
-    if (!number_found.is_some) {
-        return tk_none_pair_i32_size();
-    }
-    int32_t number = number_found.value;
-    return tk_some_pair_i32_size(tk_new_pair_i32_size(number, TK_CAST(size_t, len)));
-}
-
-/* atoi_fast/src/quick.rt:69 */
+/* atoi_fast/src/quick.rt:72 */
 TK_INLINE tk_option_pair_i32_size tk_digit_prefix_i32(tk_bytes s)
 {
     if (s.len >= 2 && '0' <= s.at[1] && s.at[1] <= '9') {
@@ -1919,7 +2503,7 @@ TK_INLINE tk_option_pair_i32_size tk_digit_prefix_i32(tk_bytes s)
     return tk_none_pair_i32_size();
 }
 
-/* atoi_fast/src/quick.rt:50 */
+/* atoi_fast/src/quick.rt:53 */
 TK_INLINE tk_option_pair_i32_size tk_quick_prefix_i32(tk_bytes s)
 {
     if (s.len >= 3 && '0' <= s.at[1] && s.at[1] <= '9' && '0' <= s.at[2] && s.at[2] <= '9' && s.len >= 16) {
@@ -1936,25 +2520,7 @@ TK_INLINE tk_option_pair_i32_size tk_quick_prefix_i32(tk_bytes s)
     return tk_digit_prefix_i32(s);
 }
 
-/* atoi_fast/src/short_prefix.rt:87 */
-TK_INLINE tk_option_pair_u32_size tk_prefix_of_two_words_u32(bool minus, uint64_t high, tk_bytes s)
-{
-    uint64_t next = tk_load_full(tk_bytes_from(s, 8));
-    uint32_t more = tk_leading_digits(next);
-    if (more == 8) {
-        return tk_none_pair_u32_size();
-    }
-    uint64_t low = tk_value_by_product(next - TK_ZEROS, more);
-    uint64_t magnitude = high * tk_power_of_ten(more) + low;
-    tk_option_u32 number_found = tk_number_in_range_u32(TK_MOST_IN_TWO_WORDS, minus, magnitude);
-    if (!number_found.is_some) {
-        return tk_none_pair_u32_size();
-    }
-    uint32_t number = number_found.value;
-    return tk_some_pair_u32_size(tk_new_pair_u32_size(number, 8 + TK_CAST(size_t, more)));
-}
-
-/* atoi_fast/src/short_prefix.rt:192 */
+/* atoi_fast/src/short_prefix.rt:189 */
 TK_INLINE tk_option_pair_u32_size tk_prefix_in_word_u32(uint64_t word, uint32_t len, tk_bytes s)
 {
     (void)s;
@@ -1967,12 +2533,11 @@ TK_INLINE tk_option_pair_u32_size tk_prefix_in_word_u32(uint64_t word, uint32_t 
     return tk_some_pair_u32_size(tk_new_pair_u32_size(number, TK_CAST(size_t, len)));
 }
 
-/* atoi_fast/src/short_prefix.rt:146 */
+/* atoi_fast/src/short_prefix.rt:144 */
 TK_INLINE tk_option_pair_u32_size tk_prefix_by_length_u32(tk_bytes s)
 {
     uint64_t word = tk_load_full(s);
     uint64_t digits = word - TK_ZEROS;
-    /* As in `leading_digits`. */
     uint64_t marks = ((word + UINT64_C(0x4646464646464646)) | digits) & UINT64_C(0x8080808080808080);
     if ((marks & 0xFF) != 0) {
         return tk_none_pair_u32_size();
@@ -2000,7 +2565,7 @@ TK_INLINE tk_option_pair_u32_size tk_prefix_by_length_u32(tk_bytes s)
     return tk_prefix_in_word_u32(word, tk_u64_trailing_zeros(marks) / 8, s);
 }
 
-/* atoi_fast/src/quick.rt:69 */
+/* atoi_fast/src/quick.rt:72 */
 TK_INLINE tk_option_pair_u32_size tk_digit_prefix_u32(tk_bytes s)
 {
     if (s.len >= 2 && '0' <= s.at[1] && s.at[1] <= '9') {
@@ -2014,7 +2579,7 @@ TK_INLINE tk_option_pair_u32_size tk_digit_prefix_u32(tk_bytes s)
     return tk_none_pair_u32_size();
 }
 
-/* atoi_fast/src/quick.rt:50 */
+/* atoi_fast/src/quick.rt:53 */
 TK_INLINE tk_option_pair_u32_size tk_quick_prefix_u32(tk_bytes s)
 {
     if (s.len >= 16) {
@@ -2031,7 +2596,7 @@ TK_INLINE tk_option_pair_u32_size tk_quick_prefix_u32(tk_bytes s)
     return tk_digit_prefix_u32(s);
 }
 
-/* atoi_fast/src/quick.rt:69 */
+/* atoi_fast/src/quick.rt:72 */
 TK_INLINE tk_option_pair_i64_size tk_digit_prefix_i64(tk_bytes s)
 {
     if (s.len >= 2 && '0' <= s.at[1] && s.at[1] <= '9') {
@@ -2045,7 +2610,7 @@ TK_INLINE tk_option_pair_i64_size tk_digit_prefix_i64(tk_bytes s)
     return tk_none_pair_i64_size();
 }
 
-/* atoi_fast/src/quick.rt:50 */
+/* atoi_fast/src/quick.rt:53 */
 TK_INLINE tk_option_pair_i64_size tk_quick_prefix_i64(tk_bytes s)
 {
     if (s.len >= 3 && '0' <= s.at[1] && s.at[1] <= '9' && '0' <= s.at[2] && s.at[2] <= '9' && s.len >= 16) {
@@ -2062,7 +2627,7 @@ TK_INLINE tk_option_pair_i64_size tk_quick_prefix_i64(tk_bytes s)
     return tk_digit_prefix_i64(s);
 }
 
-/* atoi_fast/src/short_prefix.rt:192 */
+/* atoi_fast/src/short_prefix.rt:189 */
 TK_INLINE tk_option_pair_u64_size tk_prefix_in_word_u64(uint64_t word, uint32_t len, tk_bytes s)
 {
     (void)s;
@@ -2075,12 +2640,11 @@ TK_INLINE tk_option_pair_u64_size tk_prefix_in_word_u64(uint64_t word, uint32_t 
     return tk_some_pair_u64_size(tk_new_pair_u64_size(number, TK_CAST(size_t, len)));
 }
 
-/* atoi_fast/src/short_prefix.rt:146 */
+/* atoi_fast/src/short_prefix.rt:144 */
 TK_INLINE tk_option_pair_u64_size tk_prefix_by_length_u64(tk_bytes s)
 {
     uint64_t word = tk_load_full(s);
     uint64_t digits = word - TK_ZEROS;
-    /* As in `leading_digits`. */
     uint64_t marks = ((word + UINT64_C(0x4646464646464646)) | digits) & UINT64_C(0x8080808080808080);
     if ((marks & 0xFF) != 0) {
         return tk_none_pair_u64_size();
@@ -2108,7 +2672,7 @@ TK_INLINE tk_option_pair_u64_size tk_prefix_by_length_u64(tk_bytes s)
     return tk_prefix_in_word_u64(word, tk_u64_trailing_zeros(marks) / 8, s);
 }
 
-/* atoi_fast/src/quick.rt:69 */
+/* atoi_fast/src/quick.rt:72 */
 TK_INLINE tk_option_pair_u64_size tk_digit_prefix_u64(tk_bytes s)
 {
     if (s.len >= 2 && '0' <= s.at[1] && s.at[1] <= '9') {
@@ -2122,7 +2686,7 @@ TK_INLINE tk_option_pair_u64_size tk_digit_prefix_u64(tk_bytes s)
     return tk_none_pair_u64_size();
 }
 
-/* atoi_fast/src/quick.rt:50 */
+/* atoi_fast/src/quick.rt:53 */
 TK_INLINE tk_option_pair_u64_size tk_quick_prefix_u64(tk_bytes s)
 {
     if (s.len >= 16) {
@@ -2139,62 +2703,7 @@ TK_INLINE tk_option_pair_u64_size tk_quick_prefix_u64(tk_bytes s)
     return tk_digit_prefix_u64(s);
 }
 
-/* atoi_fast/src/short_prefix.rt:87 */
-TK_INLINE tk_option_pair_i128_size tk_prefix_of_two_words_i128(bool minus, uint64_t high, tk_bytes s)
-{
-    uint64_t next = tk_load_full(tk_bytes_from(s, 8));
-    uint32_t more = tk_leading_digits(next);
-    if (more == 8) {
-        return tk_none_pair_i128_size();
-    }
-    uint64_t low = tk_value_by_product(next - TK_ZEROS, more);
-    uint64_t magnitude = high * tk_power_of_ten(more) + low;
-    tk_option_i128 number_found = tk_number_in_range_i128(TK_MOST_IN_TWO_WORDS, minus, magnitude);
-    if (!number_found.is_some) {
-        return tk_none_pair_i128_size();
-    }
-    tk_i128 number = number_found.value;
-    return tk_some_pair_i128_size(tk_new_pair_i128_size(number, 8 + TK_CAST(size_t, more)));
-}
-
-/* atoi_fast/src/short_prefix.rt:46 */
-TK_INLINE tk_option_pair_i128_size tk_prefix_of_words_i128(tk_bytes s)
-{
-    uint64_t word = tk_load_full(s);
-    /* A `-` borrows from the next byte, so that a `0` there looks like no digit. */
-    uint64_t above = word + UINT64_C(0x4646464646464646);
-    uint64_t below = word - TK_ZEROS;
-    uint64_t marks = (above | below) & UINT64_C(0x8080808080808000);
-    if ((marks & 0x8000) != 0) {
-        /*
-         * Most numbers of many texts have one digit: the processor guesses that, and the next load waits
-         * for nothing.
-         */
-        uint8_t digit = tk_lowest_byte(below);
-        if (digit > 9) {
-            return tk_none_pair_i128_size();
-        }
-        return tk_some_pair_i128_size(tk_new_pair_i128_size(tk_from_parts_i128(false, tk_u128_of(digit)), 1));
-    }
-    bool minus = true & (tk_lowest_byte(word) == '-');
-    /* The digit of a `-` is 0, and takes the borrow back. */
-    uint64_t digits = below + 3 * tk_bit(minus);
-    if (tk_lowest_byte(digits) > 9) {
-        return tk_none_pair_i128_size();
-    }
-    if (marks == 0) {
-        return tk_prefix_of_two_words_i128(minus, tk_sum_of(digits), s);
-    }
-    uint32_t len = tk_u64_trailing_zeros(marks) / 8;
-    tk_option_i128 number_found = tk_number_in_range_i128(TK_MOST_IN_WORD, minus, tk_value_by_product(digits, len));
-    if (!number_found.is_some) {
-        return tk_none_pair_i128_size();
-    }
-    tk_i128 number = number_found.value;
-    return tk_some_pair_i128_size(tk_new_pair_i128_size(number, TK_CAST(size_t, len)));
-}
-
-/* atoi_fast/src/quick.rt:69 */
+/* atoi_fast/src/quick.rt:72 */
 TK_INLINE tk_option_pair_i128_size tk_digit_prefix_i128(tk_bytes s)
 {
     if (s.len >= 2 && '0' <= s.at[1] && s.at[1] <= '9') {
@@ -2208,7 +2717,7 @@ TK_INLINE tk_option_pair_i128_size tk_digit_prefix_i128(tk_bytes s)
     return tk_none_pair_i128_size();
 }
 
-/* atoi_fast/src/quick.rt:50 */
+/* atoi_fast/src/quick.rt:53 */
 TK_INLINE tk_option_pair_i128_size tk_quick_prefix_i128(tk_bytes s)
 {
     if (s.len >= 3 && '0' <= s.at[1] && s.at[1] <= '9' && '0' <= s.at[2] && s.at[2] <= '9' && s.len >= 16) {
@@ -2225,25 +2734,7 @@ TK_INLINE tk_option_pair_i128_size tk_quick_prefix_i128(tk_bytes s)
     return tk_digit_prefix_i128(s);
 }
 
-/* atoi_fast/src/short_prefix.rt:87 */
-TK_INLINE tk_option_pair_u128_size tk_prefix_of_two_words_u128(bool minus, uint64_t high, tk_bytes s)
-{
-    uint64_t next = tk_load_full(tk_bytes_from(s, 8));
-    uint32_t more = tk_leading_digits(next);
-    if (more == 8) {
-        return tk_none_pair_u128_size();
-    }
-    uint64_t low = tk_value_by_product(next - TK_ZEROS, more);
-    uint64_t magnitude = high * tk_power_of_ten(more) + low;
-    tk_option_u128 number_found = tk_number_in_range_u128(TK_MOST_IN_TWO_WORDS, minus, magnitude);
-    if (!number_found.is_some) {
-        return tk_none_pair_u128_size();
-    }
-    tk_u128 number = number_found.value;
-    return tk_some_pair_u128_size(tk_new_pair_u128_size(number, 8 + TK_CAST(size_t, more)));
-}
-
-/* atoi_fast/src/short_prefix.rt:192 */
+/* atoi_fast/src/short_prefix.rt:189 */
 TK_INLINE tk_option_pair_u128_size tk_prefix_in_word_u128(uint64_t word, uint32_t len, tk_bytes s)
 {
     (void)s;
@@ -2256,12 +2747,11 @@ TK_INLINE tk_option_pair_u128_size tk_prefix_in_word_u128(uint64_t word, uint32_
     return tk_some_pair_u128_size(tk_new_pair_u128_size(number, TK_CAST(size_t, len)));
 }
 
-/* atoi_fast/src/short_prefix.rt:146 */
+/* atoi_fast/src/short_prefix.rt:144 */
 TK_INLINE tk_option_pair_u128_size tk_prefix_by_length_u128(tk_bytes s)
 {
     uint64_t word = tk_load_full(s);
     uint64_t digits = word - TK_ZEROS;
-    /* As in `leading_digits`. */
     uint64_t marks = ((word + UINT64_C(0x4646464646464646)) | digits) & UINT64_C(0x8080808080808080);
     if ((marks & 0xFF) != 0) {
         return tk_none_pair_u128_size();
@@ -2289,7 +2779,7 @@ TK_INLINE tk_option_pair_u128_size tk_prefix_by_length_u128(tk_bytes s)
     return tk_prefix_in_word_u128(word, tk_u64_trailing_zeros(marks) / 8, s);
 }
 
-/* atoi_fast/src/quick.rt:69 */
+/* atoi_fast/src/quick.rt:72 */
 TK_INLINE tk_option_pair_u128_size tk_digit_prefix_u128(tk_bytes s)
 {
     if (s.len >= 2 && '0' <= s.at[1] && s.at[1] <= '9') {
@@ -2303,7 +2793,7 @@ TK_INLINE tk_option_pair_u128_size tk_digit_prefix_u128(tk_bytes s)
     return tk_none_pair_u128_size();
 }
 
-/* atoi_fast/src/quick.rt:50 */
+/* atoi_fast/src/quick.rt:53 */
 TK_INLINE tk_option_pair_u128_size tk_quick_prefix_u128(tk_bytes s)
 {
     if (s.len >= 16) {
@@ -2810,15 +3300,16 @@ static inline size_t torkettle_rest_length(size_t length, char separator) TORKET
     return tk_is_separator(TK_CAST(uint8_t, separator)) ? length : 0;
 }
 
-/* Reads the next field of a column or of fields. `called` does that, unless a number and then a separator are first. It
-   gets a copy, so that compilers can keep the fields of a loop in registers. */
+/* Reads the next field of a column or of fields. `called` does that, unless `tk_quick_field` finds a number. It gets a
+   copy, so that compilers can keep the fields of a loop in registers. */
 #define TORKETTLE_NEXT_(kind, called, suffix)                                                                          \
     TK_INLINE torkettle_found##suffix torkettle_next_of_##kind##suffix(torkettle_##kind##suffix *fields)               \
         TORKETTLE_NOEXCEPT                                                                                             \
     {                                                                                                                  \
-        tk_option_pair##suffix##_size quick = tk_quick_prefix##suffix(tk_text(fields->rest, fields->rest_length));     \
+        tk_option_pair##suffix##_size quick =                                                                          \
+            tk_quick_field##suffix(tk_text(fields->rest, fields->rest_length), TK_CAST(uint8_t, fields->separator));   \
         size_t count = quick.value.second;                                                                             \
-        if (!quick.is_some || count == fields->rest_length || fields->rest[count] != fields->separator) {              \
+        if (!quick.is_some) {                                                                                          \
             torkettle_##kind##suffix copy = *fields;                                                                   \
             torkettle_found##suffix found = torkettle_##called##suffix(&copy);                                         \
             *fields = copy;                                                                                            \

@@ -299,15 +299,16 @@ static inline size_t torkettle_rest_length(size_t length, char separator) TORKET
     return tk_is_separator(TK_CAST(uint8_t, separator)) ? length : 0;
 }
 
-/* Reads the next field of a column or of fields. `called` does that, unless a number and then a separator are first. It
-   gets a copy, so that compilers can keep the fields of a loop in registers. */
+/* Reads the next field of a column or of fields. `called` does that, unless `tk_quick_field` finds a number. It gets a
+   copy, so that compilers can keep the fields of a loop in registers. */
 #define TORKETTLE_NEXT_(kind, called, suffix)                                                                          \
     TK_INLINE torkettle_found##suffix torkettle_next_of_##kind##suffix(torkettle_##kind##suffix *fields)               \
         TORKETTLE_NOEXCEPT                                                                                             \
     {                                                                                                                  \
-        tk_option_pair##suffix##_size quick = tk_quick_prefix##suffix(tk_text(fields->rest, fields->rest_length));     \
+        tk_option_pair##suffix##_size quick =                                                                          \
+            tk_quick_field##suffix(tk_text(fields->rest, fields->rest_length), TK_CAST(uint8_t, fields->separator));   \
         size_t count = quick.value.second;                                                                             \
-        if (!quick.is_some || count == fields->rest_length || fields->rest[count] != fields->separator) {              \
+        if (!quick.is_some) {                                                                                          \
             torkettle_##kind##suffix copy = *fields;                                                                   \
             torkettle_found##suffix found = torkettle_##called##suffix(&copy);                                         \
             *fields = copy;                                                                                            \

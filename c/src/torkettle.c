@@ -1559,7 +1559,7 @@ TK_INLINE uint64_t tk_load_flipped(tk_bytes s)
     tk_bytes fours = tk_bytes_of(tk_either_at(s.len < 4, short_.at, s.at), tk_either(s.len < 4, short_.len, s.len));
     uint32_t front = (TK_CAST(uint32_t, s.at[tk_index(0, s.len)]) | tk_load_four_from(fours, 0)) ^ TK_FOUR_ZEROS;
     uint32_t back = (tk_load_last_four(fours) | (tk_load_last_two(s) << 16)) ^ TK_FOUR_ZEROS;
-    /* A product takes less time than a shift on many processors. */
+    /* A product takes less time than a shift. */
     uint64_t shifted = TK_CAST(uint64_t, front) * tk_factor_of(s.len);
     return shifted | (TK_CAST(uint64_t, back) << 32);
 }
@@ -1626,7 +1626,7 @@ TK_INLINE tk_option_i8 tk_slice_of_two_words_i8(tk_bytes s)
 }
 
 /* Returns the number of a slice of 2 to 15 bytes, if all are digits after at most a minus. */
-/* atoi_fast/src/quick.rt:25 */
+/* atoi_fast/src/quick.rt:28 */
 TK_INLINE tk_option_i8 tk_quick_slice_i8(tk_bytes s)
 {
     if (2 <= s.len && s.len <= 8) {
@@ -1666,7 +1666,7 @@ TK_INLINE tk_option_u8 tk_slice_of_two_words_u8(tk_bytes s)
     return tk_number_in_range_u8(TK_MOST_IN_TWO_WORDS, minus, magnitude);
 }
 
-/* atoi_fast/src/quick.rt:25 */
+/* atoi_fast/src/quick.rt:28 */
 TK_INLINE tk_option_u8 tk_quick_slice_u8(tk_bytes s)
 {
     if (2 <= s.len && s.len <= 8) {
@@ -1706,7 +1706,7 @@ TK_INLINE tk_option_i16 tk_slice_of_two_words_i16(tk_bytes s)
     return tk_number_in_range_i16(TK_MOST_IN_TWO_WORDS, minus, magnitude);
 }
 
-/* atoi_fast/src/quick.rt:25 */
+/* atoi_fast/src/quick.rt:28 */
 TK_INLINE tk_option_i16 tk_quick_slice_i16(tk_bytes s)
 {
     if (2 <= s.len && s.len <= 8) {
@@ -1746,7 +1746,7 @@ TK_INLINE tk_option_u16 tk_slice_of_two_words_u16(tk_bytes s)
     return tk_number_in_range_u16(TK_MOST_IN_TWO_WORDS, minus, magnitude);
 }
 
-/* atoi_fast/src/quick.rt:25 */
+/* atoi_fast/src/quick.rt:28 */
 TK_INLINE tk_option_u16 tk_quick_slice_u16(tk_bytes s)
 {
     if (2 <= s.len && s.len <= 8) {
@@ -1786,7 +1786,7 @@ TK_INLINE tk_option_i32 tk_slice_of_two_words_i32(tk_bytes s)
     return tk_number_in_range_i32(TK_MOST_IN_TWO_WORDS, minus, magnitude);
 }
 
-/* atoi_fast/src/quick.rt:25 */
+/* atoi_fast/src/quick.rt:28 */
 TK_INLINE tk_option_i32 tk_quick_slice_i32(tk_bytes s)
 {
     if (2 <= s.len && s.len <= 8) {
@@ -1826,7 +1826,7 @@ TK_INLINE tk_option_u32 tk_slice_of_two_words_u32(tk_bytes s)
     return tk_number_in_range_u32(TK_MOST_IN_TWO_WORDS, minus, magnitude);
 }
 
-/* atoi_fast/src/quick.rt:25 */
+/* atoi_fast/src/quick.rt:28 */
 TK_INLINE tk_option_u32 tk_quick_slice_u32(tk_bytes s)
 {
     if (2 <= s.len && s.len <= 8) {
@@ -1866,7 +1866,7 @@ TK_INLINE tk_option_i64 tk_slice_of_two_words_i64(tk_bytes s)
     return tk_number_in_range_i64(TK_MOST_IN_TWO_WORDS, minus, magnitude);
 }
 
-/* atoi_fast/src/quick.rt:25 */
+/* atoi_fast/src/quick.rt:28 */
 TK_INLINE tk_option_i64 tk_quick_slice_i64(tk_bytes s)
 {
     if (2 <= s.len && s.len <= 8) {
@@ -1906,7 +1906,7 @@ TK_INLINE tk_option_u64 tk_slice_of_two_words_u64(tk_bytes s)
     return tk_number_in_range_u64(TK_MOST_IN_TWO_WORDS, minus, magnitude);
 }
 
-/* atoi_fast/src/quick.rt:25 */
+/* atoi_fast/src/quick.rt:28 */
 TK_INLINE tk_option_u64 tk_quick_slice_u64(tk_bytes s)
 {
     if (2 <= s.len && s.len <= 8) {
@@ -1946,7 +1946,7 @@ TK_INLINE tk_option_i128 tk_slice_of_two_words_i128(tk_bytes s)
     return tk_number_in_range_i128(TK_MOST_IN_TWO_WORDS, minus, magnitude);
 }
 
-/* atoi_fast/src/quick.rt:25 */
+/* atoi_fast/src/quick.rt:28 */
 TK_INLINE tk_option_i128 tk_quick_slice_i128(tk_bytes s)
 {
     if (2 <= s.len && s.len <= 8) {
@@ -1986,7 +1986,7 @@ TK_INLINE tk_option_u128 tk_slice_of_two_words_u128(tk_bytes s)
     return tk_number_in_range_u128(TK_MOST_IN_TWO_WORDS, minus, magnitude);
 }
 
-/* atoi_fast/src/quick.rt:25 */
+/* atoi_fast/src/quick.rt:28 */
 TK_INLINE tk_option_u128 tk_quick_slice_u128(tk_bytes s)
 {
     if (2 <= s.len && s.len <= 8) {
@@ -1999,42 +1999,42 @@ TK_INLINE tk_option_u128 tk_quick_slice_u128(tk_bytes s)
 }
 
 /* Returns the number of a slice of at least 16 bytes, if the type has 64 bits and no limit refuses so many digits. */
-/* atoi_fast/src/quick.rt:37 */
+/* atoi_fast/src/quick.rt:40 */
 TK_INLINE tk_option_i8 tk_long_slice_i8(tk_bytes s)
 {
     (void)s;
     return tk_none_i8();
 }
 
-/* atoi_fast/src/quick.rt:37 */
+/* atoi_fast/src/quick.rt:40 */
 TK_INLINE tk_option_u8 tk_long_slice_u8(tk_bytes s)
 {
     (void)s;
     return tk_none_u8();
 }
 
-/* atoi_fast/src/quick.rt:37 */
+/* atoi_fast/src/quick.rt:40 */
 TK_INLINE tk_option_i16 tk_long_slice_i16(tk_bytes s)
 {
     (void)s;
     return tk_none_i16();
 }
 
-/* atoi_fast/src/quick.rt:37 */
+/* atoi_fast/src/quick.rt:40 */
 TK_INLINE tk_option_u16 tk_long_slice_u16(tk_bytes s)
 {
     (void)s;
     return tk_none_u16();
 }
 
-/* atoi_fast/src/quick.rt:37 */
+/* atoi_fast/src/quick.rt:40 */
 TK_INLINE tk_option_i32 tk_long_slice_i32(tk_bytes s)
 {
     (void)s;
     return tk_none_i32();
 }
 
-/* atoi_fast/src/quick.rt:37 */
+/* atoi_fast/src/quick.rt:40 */
 TK_INLINE tk_option_u32 tk_long_slice_u32(tk_bytes s)
 {
     (void)s;
@@ -2062,7 +2062,7 @@ TK_INLINE uint64_t tk_load_from(tk_bytes s, size_t at)
 }
 
 /* `value_by_product` for at most four bytes. */
-/* atoi_fast/src/digits.rt:157 */
+/* atoi_fast/src/digits.rt:155 */
 TK_HINTED uint64_t tk_four_by_product(uint64_t digits, uint32_t len)
 {
     uint64_t product = digits * tk_factors[tk_index(TK_CAST(size_t, len), 8)];
@@ -2074,7 +2074,7 @@ TK_HINTED uint64_t tk_four_by_product(uint64_t digits, uint32_t len)
  * The number of 16 to 20 bytes, of which the first eight spell `high`, with a zero for a minus, and the next
  * eight are `second`.
  */
-/* atoi_fast/src/short_prefix.rt:114 */
+/* atoi_fast/src/short_prefix.rt:113 */
 TK_FAR tk_option_pair_i64_size tk_prefix_of_three_words_i64(bool minus, uint64_t high, uint64_t second, tk_bytes s)
 {
     uint64_t high_2 = high * tk_power_of_ten(8) + tk_sum_of(second - TK_ZEROS);
@@ -2094,7 +2094,7 @@ TK_FAR tk_option_pair_i64_size tk_prefix_of_three_words_i64(bool minus, uint64_t
     return tk_some_pair_i64_size(tk_new_pair_i64_size(number, 16 + TK_CAST(size_t, more)));
 }
 
-/* atoi_fast/src/quick.rt:37 */
+/* atoi_fast/src/quick.rt:40 */
 TK_INLINE tk_option_i64 tk_long_slice_i64(tk_bytes s)
 {
     if (s.len < 16) {
@@ -2112,7 +2112,7 @@ TK_INLINE tk_option_i64 tk_long_slice_i64(tk_bytes s)
     return tk_none_i64();
 }
 
-/* atoi_fast/src/short_prefix.rt:114 */
+/* atoi_fast/src/short_prefix.rt:113 */
 TK_FAR tk_option_pair_u64_size tk_prefix_of_three_words_u64(bool minus, uint64_t high, uint64_t second, tk_bytes s)
 {
     uint64_t high_2 = high * tk_power_of_ten(8) + tk_sum_of(second - TK_ZEROS);
@@ -2132,44 +2132,7 @@ TK_FAR tk_option_pair_u64_size tk_prefix_of_three_words_u64(bool minus, uint64_t
     return tk_some_pair_u64_size(tk_new_pair_u64_size(number, 16 + TK_CAST(size_t, more)));
 }
 
-/* atoi_fast/src/short_prefix.rt:46 */
-TK_INLINE tk_option_pair_u64_size tk_prefix_of_words_u64(tk_bytes s)
-{
-    uint64_t word = tk_load_full(s);
-    /* A `-` borrows from the next byte, so that a `0` there looks like no digit. */
-    uint64_t above = word + UINT64_C(0x4646464646464646);
-    uint64_t below = word - TK_ZEROS;
-    uint64_t marks = (above | below) & UINT64_C(0x8080808080808000);
-    if ((marks & 0x8000) != 0) {
-        /*
-         * Most numbers of many texts have one digit: the processor guesses that, and the next load waits
-         * for nothing.
-         */
-        uint8_t digit = tk_lowest_byte(below);
-        if (digit > 9) {
-            return tk_none_pair_u64_size();
-        }
-        return tk_some_pair_u64_size(tk_new_pair_u64_size(tk_from_parts_u64(false, tk_u128_of(digit)), 1));
-    }
-    bool minus = false & (tk_lowest_byte(word) == '-');
-    /* The digit of a `-` is 0, and takes the borrow back. */
-    uint64_t digits = below + 3 * tk_bit(minus);
-    if (tk_lowest_byte(digits) > 9) {
-        return tk_none_pair_u64_size();
-    }
-    if (marks == 0) {
-        return tk_prefix_of_two_words_u64(minus, tk_sum_of(digits), s);
-    }
-    uint32_t len = tk_u64_trailing_zeros(marks) / 8;
-    tk_option_u64 number_found = tk_number_in_range_u64(TK_MOST_IN_WORD, minus, tk_value_by_product(digits, len));
-    if (!number_found.is_some) {
-        return tk_none_pair_u64_size();
-    }
-    uint64_t number = number_found.value;
-    return tk_some_pair_u64_size(tk_new_pair_u64_size(number, TK_CAST(size_t, len)));
-}
-
-/* atoi_fast/src/quick.rt:37 */
+/* atoi_fast/src/quick.rt:40 */
 TK_INLINE tk_option_u64 tk_long_slice_u64(tk_bytes s)
 {
     if (s.len < 16) {
@@ -2187,14 +2150,14 @@ TK_INLINE tk_option_u64 tk_long_slice_u64(tk_bytes s)
     return tk_none_u64();
 }
 
-/* atoi_fast/src/quick.rt:37 */
+/* atoi_fast/src/quick.rt:40 */
 TK_INLINE tk_option_i128 tk_long_slice_i128(tk_bytes s)
 {
     (void)s;
     return tk_none_i128();
 }
 
-/* atoi_fast/src/quick.rt:37 */
+/* atoi_fast/src/quick.rt:40 */
 TK_INLINE tk_option_u128 tk_long_slice_u128(tk_bytes s)
 {
     (void)s;
@@ -2208,7 +2171,7 @@ TK_INLINE int8_t tk_loaded_digit_i8(tk_bytes s)
     return tk_from_parts_i8(false, tk_u128_of(TK_CAST(uint8_t, s.at[tk_index(0, s.len)] - '0')));
 }
 
-/* Returns the number of a slice of 2 to 15 bytes, if all are digits after at most a minus. */
+/* `quick_slice` for 2 to 15 bytes, which counts its load. */
 /* atoi_fast/src/short_slice.rt:54 */
 TK_NOINLINE tk_option_i8 tk_loaded_slice_i8(tk_bytes s)
 {
@@ -2517,7 +2480,7 @@ TK_INLINE tk_result_pair_u64_size tk_found_or_empty_u64(uint64_t number, size_t 
 }
 
 /* `leading_digits` for a word of four bytes. */
-/* atoi_fast/src/digits.rt:170 */
+/* atoi_fast/src/digits.rt:168 */
 TK_HINTED uint32_t tk_leading_digits_of_four(uint32_t word)
 {
     uint32_t above = word + 0x46464646;
@@ -2538,7 +2501,7 @@ TK_HINTED uint32_t tk_sum_of_four(uint32_t digits)
 }
 
 /* Returns the number that a word of four digits spells after its first `skipped` bytes. */
-/* atoi_fast/src/digits.rt:204 */
+/* atoi_fast/src/digits.rt:202 */
 TK_HINTED uint32_t tk_value_after(uint32_t word, size_t skipped)
 {
     size_t bits = 8 * skipped;
@@ -2566,14 +2529,14 @@ TK_HINTED tk_result_pair_u64_size tk_after_16_within_bound(tk_u128 bound, size_t
     return tk_ok_pair_u64_size(tk_new_pair_u64_size(tk_u128_low(number), len));
 }
 
-/* atoi_fast/src/digits.rt:185 */
+/* atoi_fast/src/digits.rt:183 */
 TK_HINTED bool tk_starts_with_digit_of_four(uint32_t word)
 {
     return tk_u8_is_digit(TK_CAST(uint8_t, word & 0xFF));
 }
 
 /* `value_of` for a word of four bytes. */
-/* atoi_fast/src/digits.rt:193 */
+/* atoi_fast/src/digits.rt:191 */
 TK_HINTED uint32_t tk_value_up_to_4(uint32_t word, uint32_t len)
 {
     return tk_sum_of_four((word - TK_FOUR_ZEROS) << (32 - 8 * len));
@@ -3541,7 +3504,7 @@ TK_NOINLINE tk_result_pair_i8_size tk_atoi_simd_parse_prefix_i8(tk_bytes s, bool
     return tk_called_parse_prefix_text_i8(skip, skip_plus, s);
 }
 
-/* atoi_fast/src/short_prefix.rt:177 */
+/* atoi_fast/src/short_prefix.rt:174 */
 TK_INLINE tk_option_pair_u8_size tk_unsigned_prefix_u8(tk_bytes s)
 {
     uint64_t word = tk_load_full(s);
@@ -3674,7 +3637,7 @@ TK_NOINLINE tk_result_pair_i16_size tk_atoi_simd_parse_prefix_i16(tk_bytes s, bo
     return tk_called_parse_prefix_text_i16(skip, skip_plus, s);
 }
 
-/* atoi_fast/src/short_prefix.rt:177 */
+/* atoi_fast/src/short_prefix.rt:174 */
 TK_INLINE tk_option_pair_u16_size tk_unsigned_prefix_u16(tk_bytes s)
 {
     uint64_t word = tk_load_full(s);
@@ -3807,7 +3770,7 @@ TK_NOINLINE tk_result_pair_i32_size tk_atoi_simd_parse_prefix_i32(tk_bytes s, bo
     return tk_called_parse_prefix_text_i32(skip, skip_plus, s);
 }
 
-/* atoi_fast/src/short_prefix.rt:177 */
+/* atoi_fast/src/short_prefix.rt:174 */
 TK_INLINE tk_option_pair_u32_size tk_unsigned_prefix_u32(tk_bytes s)
 {
     uint64_t word = tk_load_full(s);
@@ -3941,7 +3904,7 @@ TK_NOINLINE tk_result_pair_i64_size tk_atoi_simd_parse_prefix_i64(tk_bytes s, bo
     return tk_called_parse_prefix_text_i64(skip, skip_plus, s);
 }
 
-/* atoi_fast/src/short_prefix.rt:177 */
+/* atoi_fast/src/short_prefix.rt:174 */
 TK_INLINE tk_option_pair_u64_size tk_unsigned_prefix_u64(tk_bytes s)
 {
     uint64_t word = tk_load_full(s);
@@ -4077,7 +4040,7 @@ TK_NOINLINE tk_result_pair_i128_size tk_atoi_simd_parse_prefix_i128(tk_bytes s, 
     return tk_called_parse_prefix_text_i128(skip, skip_plus, s);
 }
 
-/* atoi_fast/src/short_prefix.rt:177 */
+/* atoi_fast/src/short_prefix.rt:174 */
 TK_INLINE tk_option_pair_u128_size tk_unsigned_prefix_u128(tk_bytes s)
 {
     uint64_t word = tk_load_full(s);
@@ -4406,7 +4369,7 @@ TK_INLINE tk_result_u128 tk_atoi_simd_parse_pos_u128(tk_bytes s, bool skip)
     return tk_called_whole_pos_u128(skip, s);
 }
 
-/* atoi_fast/src/short_prefix.rt:192 */
+/* atoi_fast/src/short_prefix.rt:189 */
 TK_INLINE tk_option_pair_i8_size tk_prefix_in_word_i8(uint64_t word, uint32_t len, tk_bytes s)
 {
     (void)s;
@@ -4419,7 +4382,7 @@ TK_INLINE tk_option_pair_i8_size tk_prefix_in_word_i8(uint64_t word, uint32_t le
     return tk_some_pair_i8_size(tk_new_pair_i8_size(number, TK_CAST(size_t, len)));
 }
 
-/* atoi_fast/src/short_prefix.rt:177 */
+/* atoi_fast/src/short_prefix.rt:174 */
 TK_INLINE tk_option_pair_i8_size tk_unsigned_prefix_i8(tk_bytes s)
 {
     uint64_t word = tk_load_full(s);
@@ -4498,7 +4461,7 @@ TK_INLINE tk_result_pair_u8_size tk_atoi_simd_parse_prefix_pos_u8(tk_bytes s, bo
     return tk_called_prefix_pos_u8(skip, s);
 }
 
-/* atoi_fast/src/short_prefix.rt:192 */
+/* atoi_fast/src/short_prefix.rt:189 */
 TK_INLINE tk_option_pair_i16_size tk_prefix_in_word_i16(uint64_t word, uint32_t len, tk_bytes s)
 {
     (void)s;
@@ -4511,7 +4474,7 @@ TK_INLINE tk_option_pair_i16_size tk_prefix_in_word_i16(uint64_t word, uint32_t 
     return tk_some_pair_i16_size(tk_new_pair_i16_size(number, TK_CAST(size_t, len)));
 }
 
-/* atoi_fast/src/short_prefix.rt:177 */
+/* atoi_fast/src/short_prefix.rt:174 */
 TK_INLINE tk_option_pair_i16_size tk_unsigned_prefix_i16(tk_bytes s)
 {
     uint64_t word = tk_load_full(s);
@@ -4584,7 +4547,7 @@ TK_INLINE tk_result_pair_u16_size tk_atoi_simd_parse_prefix_pos_u16(tk_bytes s, 
     return tk_called_prefix_pos_u16(skip, s);
 }
 
-/* atoi_fast/src/short_prefix.rt:192 */
+/* atoi_fast/src/short_prefix.rt:189 */
 TK_INLINE tk_option_pair_i32_size tk_prefix_in_word_i32(uint64_t word, uint32_t len, tk_bytes s)
 {
     (void)s;
@@ -4597,7 +4560,7 @@ TK_INLINE tk_option_pair_i32_size tk_prefix_in_word_i32(uint64_t word, uint32_t 
     return tk_some_pair_i32_size(tk_new_pair_i32_size(number, TK_CAST(size_t, len)));
 }
 
-/* atoi_fast/src/short_prefix.rt:177 */
+/* atoi_fast/src/short_prefix.rt:174 */
 TK_INLINE tk_option_pair_i32_size tk_unsigned_prefix_i32(tk_bytes s)
 {
     uint64_t word = tk_load_full(s);
@@ -4670,7 +4633,7 @@ TK_INLINE tk_result_pair_u32_size tk_atoi_simd_parse_prefix_pos_u32(tk_bytes s, 
     return tk_called_prefix_pos_u32(skip, s);
 }
 
-/* atoi_fast/src/short_prefix.rt:192 */
+/* atoi_fast/src/short_prefix.rt:189 */
 TK_INLINE tk_option_pair_i64_size tk_prefix_in_word_i64(uint64_t word, uint32_t len, tk_bytes s)
 {
     (void)s;
@@ -4683,7 +4646,7 @@ TK_INLINE tk_option_pair_i64_size tk_prefix_in_word_i64(uint64_t word, uint32_t 
     return tk_some_pair_i64_size(tk_new_pair_i64_size(number, TK_CAST(size_t, len)));
 }
 
-/* atoi_fast/src/short_prefix.rt:177 */
+/* atoi_fast/src/short_prefix.rt:174 */
 TK_INLINE tk_option_pair_i64_size tk_unsigned_prefix_i64(tk_bytes s)
 {
     uint64_t word = tk_load_full(s);
@@ -4756,7 +4719,7 @@ TK_INLINE tk_result_pair_u64_size tk_atoi_simd_parse_prefix_pos_u64(tk_bytes s, 
     return tk_called_prefix_pos_u64(skip, s);
 }
 
-/* atoi_fast/src/short_prefix.rt:192 */
+/* atoi_fast/src/short_prefix.rt:189 */
 TK_INLINE tk_option_pair_i128_size tk_prefix_in_word_i128(uint64_t word, uint32_t len, tk_bytes s)
 {
     (void)s;
@@ -4769,7 +4732,7 @@ TK_INLINE tk_option_pair_i128_size tk_prefix_in_word_i128(uint64_t word, uint32_
     return tk_some_pair_i128_size(tk_new_pair_i128_size(number, TK_CAST(size_t, len)));
 }
 
-/* atoi_fast/src/short_prefix.rt:177 */
+/* atoi_fast/src/short_prefix.rt:174 */
 TK_INLINE tk_option_pair_i128_size tk_unsigned_prefix_i128(tk_bytes s)
 {
     uint64_t word = tk_load_full(s);

@@ -1,7 +1,8 @@
 -- Answers that are the same for every flag, and the sign of a slice.
-use Rattle.std.specs.Prelude.{◌≡◌, ℕ, ◌-◌, ◌*◌, ◌%◌, ◌^◌, Bool, true, if◌then◌else◌, List, [], ◌∷◌, take, drop, ℤ, Ok}
+use Rattle.std.specs.Prelude.{◌≡◌, ℕ, ◌-◌, ◌*◌, ◌%◌, ◌^◌, ◌<◌, ◌≤◌, Bool, true, if◌then◌else◌, List, [], ◌∷◌, length, take, drop, get_or, ℤ, Ok}
 use Rattle.atoi_core.specs.Digit.{decimal_table}
 use Rattle.atoi_core.specs.IntType.{IntType}
+use Rattle.atoi_core.specs.Run.{run_len}
 use Rattle.atoi_core.specs.Sign.{minus_sign}
 use Rattle.atoi_core.specs.Answer.{text_answer, text_prefix_answer}
 
@@ -12,6 +13,14 @@ IsNumber int s number = (skip plus : Bool) → Ok number ≡ text_answer decimal
 -- The slice begins with this number, which takes `len` bytes.
 abbrev pub BeginsWithNumber : IntType → List ℕ → ℤ → (len : ℕ) → Type 0
 BeginsWithNumber int s number len = (skip plus : Bool) → Ok (number, len) ≡ text_prefix_answer decimal_table int skip plus s
+
+-- The first `len` bytes are digits.
+abbrev pub AreDigits : List ℕ → (len : ℕ) → Type 0
+AreDigits s len = len ≤ run_len decimal_table s
+
+-- A separator follows them.
+abbrev pub EndsBefore : (separator : ℕ) → List ℕ → (len : ℕ) → Type 0
+EndsBefore separator s len = (len < length s) × (get_or s len 0 ≡ separator)
 
 -- A minus is the first byte of the slice, and the type is signed.
 abbrev pub HasMinus : (signed : Bool) → List ℕ → Type 0

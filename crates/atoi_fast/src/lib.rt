@@ -19,6 +19,6 @@ mod vectors;
 
 pub use crate::by_digits::{prefix_by_digits, whole_by_digits};
 pub use crate::calls::{parse_prefix_text, parse_text, whole_neg, whole_pos};
-pub use crate::quick::{long_slice, one_digit, quick_prefix, quick_slice};
+pub use crate::quick::{long_slice, one_digit, quick_field, quick_prefix, quick_slice};
 pub use crate::swar::Swar;
 pub use crate::vectors::Vectors;

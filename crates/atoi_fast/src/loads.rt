@@ -31,7 +31,7 @@ pub(crate) fn load_flipped(s: &[u8]) -> u64
     let fours = if s.len() < 4 { short } else { s };
     let front = (u32::from(s[0]) | load_four_from(fours, 0)) ^ FOUR_ZEROS;
     let back = (load_last_four(fours) | (load_last_two(s) << 16)) ^ FOUR_ZEROS;
-    // A product takes less time than a shift on many processors.
+    // A product takes less time than a shift.
     let shifted = u64::from(front).wrapping_mul(factor_of(s.len()));
     shifted | (u64::from(back) << 32)
 }

@@ -1,7 +1,10 @@
 //! What the header of C reads before it calls a function: few bytes, and no flag changes the answer.
-ghost use Rattle.std.specs.Prelude.{◌≡◌, IfSome};
-ghost use Rattle.atoi_fast.specs.Short.{BeginsWithNumber, IsNumber};
+ghost use Rattle.std.specs.Prelude.{◌≡◌, ◌+◌, ◌≤◌, IfSome, false, take};
+ghost use Rattle.atoi_core.specs.Digit.{decimal_table, is_digit};
+ghost use Rattle.atoi_core.specs.Run.{value};
+ghost use Rattle.atoi_fast.specs.Short.{AreDigits, BeginsWithNumber, EndsBefore, IsNumber};
 
+use crate::in_range::number_in_range;
 use crate::short_prefix::{prefix_by_length, prefix_of_words};
 use crate::short_slice::{short_slice, slice_of_two_words};
 use atoi_core::Number;
@@ -75,6 +78,61 @@ fn digit_prefix<T: Number>(s: &[u8]) -> Option<(T, usize)>
             let number = u128::from(*digit - b'0');
             Some((T::from_parts(false, number), 1))
         }
+        _ => None,
+    }
+}
+
+/// Like `quick_prefix`, but finds only a number before this separator, also of three digits in a short slice.
+#[inline(always)]
+pub fn quick_field<T: Number>(s: &[u8], separator: u8) -> Option<(T, usize)>
+    ensures number { is_digit decimal_table separator ≡ false
+        → IfSome result (λ found. BeginsWithNumber T.int_type s.now (T.number found.0) found.1) }
+    ensures separator { IfSome result (λ found. EndsBefore separator s.now found.1) }
+{
+    if let Some((magnitude, len)) = few_digits(s, separator) {
+        let number = number_in_range::<T>(999, false, magnitude)?;
+        return Some((number, len));
+    }
+    if s.len() < 16 {
+        return None;
+    }
+    let (number, len) = prefix_of_words::<T>(s)?;
+    if len < s.len() && s[len] == separator {
+        Some((number, len))
+    } else {
+        None
+    }
+}
+
+// One to three digits before a separator: their value and length.
+#[inline(always)]
+fn few_digits(s: &[u8], separator: u8) -> Option<(u64, usize)>
+    ensures digits { IfSome result (λ found. AreDigits s.now found.1) }
+    ensures value { IfSome result (λ found. found.0 ≡ value decimal_table (take found.1 s.now)) }
+    ensures most { IfSome result (λ found. found.0 ≤ 999) }
+    ensures few { IfSome result (λ found. (1 ≤ found.1) × (found.1 ≤ 3)) }
+    ensures separator { IfSome result (λ found. EndsBefore separator s.now found.1) }
+{
+    match s {
+        [first, end, ..] if *end == separator => Some((digit_of(*first)?, 1)),
+        [first, second, end, ..] if *end == separator => {
+            let tens = digit_of(*first)?;
+            Some((10 * tens + digit_of(*second)?, 2))
+        }
+        [first, second, third, end, ..] if *end == separator => {
+            let hundreds = digit_of(*first)?;
+            let tens = digit_of(*second)?;
+            Some((100 * hundreds + 10 * tens + digit_of(*third)?, 3))
+        }
+        _ => None,
+    }
+}
+
+fn digit_of(byte: u8) -> Option<u64>
+    ensures { IfSome result (λ digit. (digit ≤ 9) × (byte ≡ digit + 48)) }
+{
+    match byte {
+        b'0'..=b'9' => Some(u64::from(byte - b'0')),
         _ => None,
     }
 }

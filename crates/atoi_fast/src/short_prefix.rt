@@ -54,8 +54,7 @@ pub(crate) fn prefix_of_words<T: Number>(s: &[u8]) -> Option<(T, usize)>
     let below = word.wrapping_sub(ZEROS);
     let marks = (above | below) & 0x8080_8080_8080_8000;
     if marks & 0x8000 != 0 {
-        // Most numbers of many texts have one digit: the processor guesses that, and the next load waits
-        // for nothing.
+        // Many texts have mostly one digit: the next load waits for nothing.
         let digit = lowest_byte(below);
         if digit > 9 {
             return None;
@@ -140,8 +139,7 @@ fn prefix_of_three_words<T: Number>(
     Some((number, 16 + more as usize))
 }
 
-/// `prefix_of_words` for an unsigned type. It branches on one, two and three digits: if the processor guesses
-/// the length, the next load waits for nothing.
+/// `prefix_of_words` for an unsigned type. If the processor guesses the length, the next load waits for nothing.
 #[inline(always)]
 pub(crate) fn prefix_by_length<T: Number>(s: &[u8]) -> Option<(T, usize)>
     requires { 16 ≤ length s.now }
@@ -149,7 +147,6 @@ pub(crate) fn prefix_by_length<T: Number>(s: &[u8]) -> Option<(T, usize)>
 {
     let word = load_full(s);
     let digits = word.wrapping_sub(ZEROS);
-    // As in `leading_digits`.
     let marks = (word.wrapping_add(0x4646_4646_4646_4646) | digits) & 0x8080_8080_8080_8080;
     if marks & 0xFF != 0 {
         return None;
@@ -187,7 +184,7 @@ fn unsigned_prefix<T: Number>(s: &[u8]) -> Option<(T, usize)>
     prefix_in_word(word, len, s)
 }
 
-// The number of a slice whose first word begins with `len` digits.
+// The first word begins with `len` digits.
 #[inline(always)]
 fn prefix_in_word<T: Number>(word: u64, len: u32, s: &[u8]) -> Option<(T, usize)>
     requires enough { 16 ≤ length s.now }

@@ -49,7 +49,7 @@ pub(crate) fn short_slice<T: Number>(s: &[u8]) -> Option<T>
     number_in_range::<T>(MOST_IN_WORD, minus, sum_of(flipped))
 }
 
-/// Returns the number of a slice of 2 to 15 bytes, if all are digits after at most a minus.
+/// `quick_slice` for 2 to 15 bytes, which counts its load.
 #[inline(always)]
 pub(crate) fn loaded_slice<T: Number>(s: &[u8], steps: &mut Steps) -> Option<T>
     requires some { 2 ≤ length s.now }

@@ -118,8 +118,7 @@ pub(crate) const FOUR_ZEROS: u32 = 0x3030_3030;
     sum_of_product(digits.wrapping_mul(0xA01))
 }
 
-// What `sum_of` returns, after its first product. The two sums of four digits are joined by one small
-// product, which needs no 64-bit constant.
+// `sum_of` after its first product. A small product joins the two sums of four digits.
 // #[tactic(auto, using(atoi_core::proofs::lemmas::LoweredWords::sum_of_fields))]
 #[inline] fn sum_of_product(product: u64) -> u64
     // ensures { (digits : ℕ) → digits < 2 ^ 64 → bit_and digits 0x0F0F_0F0F_0F0F_0F0F ≡ digits
@@ -142,8 +141,7 @@ const FACTORS: [u64; 8] = [
     0xA01 << 8,
 ];
 
-/// Returns the number of the lowest `len` bytes of `digits`, which are digits minus 48. One product by
-/// a factor from a table takes the place of a shift and a product.
+/// Returns the number of the lowest `len` bytes of `digits`, which are digits minus 48.
 #[inline] pub(crate) fn value_by_product(digits: u64, len: u32) -> u64
     // requires few { len < 8 }
     // requires halves { bit_and (at_top len digits) 0x0F0F_0F0F_0F0F_0F0F ≡ at_top len digits }

@@ -19,6 +19,6 @@ mod swar;
 
 pub use crate::proved::atoi_fast::by_digits::{prefix_by_digits, whole_by_digits};
 pub use crate::proved::atoi_fast::calls::{parse_prefix_text, parse_text, whole_neg, whole_pos};
-pub use crate::proved::atoi_fast::quick::{long_slice, one_digit, quick_prefix, quick_slice};
+pub use crate::proved::atoi_fast::quick::{long_slice, one_digit, quick_field, quick_prefix, quick_slice};
 pub use crate::proved::atoi_fast::swar::Swar;
 #[cfg(feature = "lanes")] pub use crate::proved::atoi_fast::vectors::Vectors;

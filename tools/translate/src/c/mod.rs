@@ -26,15 +26,15 @@ use world::World;
 const TYPES: &str = "i8 u8 i16 u16 i32 u32 i64 u64 i128 u128";
 
 /// What C calls, for each of these types: functions by their paths, `T::` for one of the type.
-const ROOTS: &str = "atoi_fast::one_digit atoi_fast::quick_slice atoi_fast::long_slice atoi_fast::quick_prefix \
-    atoi_fast::prefix_by_digits atoi_fast::whole_by_digits T::atoi_simd_parse T::atoi_simd_parse_prefix \
+const ROOTS: &str = "atoi_fast::one_digit atoi_fast::quick_slice atoi_fast::long_slice atoi_fast::quick_field \
+    atoi_fast::quick_prefix atoi_fast::prefix_by_digits atoi_fast::whole_by_digits T::atoi_simd_parse T::atoi_simd_parse_prefix \
     T::atoi_simd_parse_pos T::atoi_simd_parse_prefix_pos atoi_core::AtoiSimdError::text \
     atoi_formats::canonical atoi_formats::json_integer atoi_column::is_separator atoi_column::Fields::new \
     atoi_column::Fields::lines atoi_column::Fields::position atoi_column::Fields::next \
     atoi_column::Fields::read";
 
 /// What of this is in `torkettle.h`, and what of that a compiler of C++20 may call, with all that it calls.
-const INLINE: &str = "atoi_fast::one_digit atoi_fast::quick_prefix atoi_fast::prefix_by_digits \
+const INLINE: &str = "atoi_fast::one_digit atoi_fast::quick_field atoi_fast::quick_prefix atoi_fast::prefix_by_digits \
     atoi_fast::whole_by_digits atoi_column::is_separator";
 const CONSTANT: &str = "atoi_fast::prefix_by_digits atoi_fast::whole_by_digits";
 
