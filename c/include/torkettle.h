@@ -1503,7 +1503,7 @@ TK_INLINE tk_option_pair_u64_size tk_prefix_of_words_u64(tk_bytes s)
     return tk_some_pair_u64_size(tk_new_pair_u64_size(number, TK_CAST(size_t, len)));
 }
 
-/* atoi_fast/src/quick.rt:131 */
+/* atoi_fast/src/quick.rt:153 */
 TK_HINTED tk_option_u64 tk_digit_of(uint8_t byte)
 {
     if ('0' <= byte && byte <= '9') {
@@ -1513,7 +1513,7 @@ TK_HINTED tk_option_u64 tk_digit_of(uint8_t byte)
 }
 
 /* One to three digits before a separator: their value and length. */
-/* atoi_fast/src/quick.rt:109 */
+/* atoi_fast/src/quick.rt:131 */
 TK_INLINE tk_option_pair_u64_size tk_few_digits(tk_bytes s, uint8_t separator)
 {
     if (s.len >= 2 && s.at[1] == separator) {
@@ -1614,7 +1614,7 @@ TK_INLINE tk_option_pair_i8_size tk_prefix_of_words_i8(tk_bytes s)
 }
 
 /* Like `quick_prefix`, but finds only a number before this separator, also of three digits in a short slice. */
-/* atoi_fast/src/quick.rt:87 */
+/* atoi_fast/src/quick.rt:109 */
 TK_INLINE tk_option_pair_i8_size tk_quick_field_i8(tk_bytes s, uint8_t separator)
 {
     tk_option_pair_u64_size found = tk_few_digits(s, separator);
@@ -1695,7 +1695,7 @@ TK_INLINE tk_option_pair_u8_size tk_prefix_of_words_u8(tk_bytes s)
     return tk_some_pair_u8_size(tk_new_pair_u8_size(number, TK_CAST(size_t, len)));
 }
 
-/* atoi_fast/src/quick.rt:87 */
+/* atoi_fast/src/quick.rt:109 */
 TK_INLINE tk_option_pair_u8_size tk_quick_field_u8(tk_bytes s, uint8_t separator)
 {
     tk_option_pair_u64_size found = tk_few_digits(s, separator);
@@ -1776,7 +1776,7 @@ TK_INLINE tk_option_pair_i16_size tk_prefix_of_words_i16(tk_bytes s)
     return tk_some_pair_i16_size(tk_new_pair_i16_size(number, TK_CAST(size_t, len)));
 }
 
-/* atoi_fast/src/quick.rt:87 */
+/* atoi_fast/src/quick.rt:109 */
 TK_INLINE tk_option_pair_i16_size tk_quick_field_i16(tk_bytes s, uint8_t separator)
 {
     tk_option_pair_u64_size found = tk_few_digits(s, separator);
@@ -1857,7 +1857,7 @@ TK_INLINE tk_option_pair_u16_size tk_prefix_of_words_u16(tk_bytes s)
     return tk_some_pair_u16_size(tk_new_pair_u16_size(number, TK_CAST(size_t, len)));
 }
 
-/* atoi_fast/src/quick.rt:87 */
+/* atoi_fast/src/quick.rt:109 */
 TK_INLINE tk_option_pair_u16_size tk_quick_field_u16(tk_bytes s, uint8_t separator)
 {
     tk_option_pair_u64_size found = tk_few_digits(s, separator);
@@ -1938,7 +1938,7 @@ TK_INLINE tk_option_pair_i32_size tk_prefix_of_words_i32(tk_bytes s)
     return tk_some_pair_i32_size(tk_new_pair_i32_size(number, TK_CAST(size_t, len)));
 }
 
-/* atoi_fast/src/quick.rt:87 */
+/* atoi_fast/src/quick.rt:109 */
 TK_INLINE tk_option_pair_i32_size tk_quick_field_i32(tk_bytes s, uint8_t separator)
 {
     tk_option_pair_u64_size found = tk_few_digits(s, separator);
@@ -2019,7 +2019,7 @@ TK_INLINE tk_option_pair_u32_size tk_prefix_of_words_u32(tk_bytes s)
     return tk_some_pair_u32_size(tk_new_pair_u32_size(number, TK_CAST(size_t, len)));
 }
 
-/* atoi_fast/src/quick.rt:87 */
+/* atoi_fast/src/quick.rt:109 */
 TK_INLINE tk_option_pair_u32_size tk_quick_field_u32(tk_bytes s, uint8_t separator)
 {
     tk_option_pair_u64_size found = tk_few_digits(s, separator);
@@ -2048,7 +2048,7 @@ TK_INLINE tk_option_pair_u32_size tk_quick_field_u32(tk_bytes s, uint8_t separat
     return tk_none_pair_u32_size();
 }
 
-/* atoi_fast/src/quick.rt:87 */
+/* atoi_fast/src/quick.rt:109 */
 TK_INLINE tk_option_pair_i64_size tk_quick_field_i64(tk_bytes s, uint8_t separator)
 {
     tk_option_pair_u64_size found = tk_few_digits(s, separator);
@@ -2077,7 +2077,7 @@ TK_INLINE tk_option_pair_i64_size tk_quick_field_i64(tk_bytes s, uint8_t separat
     return tk_none_pair_i64_size();
 }
 
-/* atoi_fast/src/quick.rt:87 */
+/* atoi_fast/src/quick.rt:109 */
 TK_INLINE tk_option_pair_u64_size tk_quick_field_u64(tk_bytes s, uint8_t separator)
 {
     tk_option_pair_u64_size found = tk_few_digits(s, separator);
@@ -2158,7 +2158,7 @@ TK_INLINE tk_option_pair_i128_size tk_prefix_of_words_i128(tk_bytes s)
     return tk_some_pair_i128_size(tk_new_pair_i128_size(number, TK_CAST(size_t, len)));
 }
 
-/* atoi_fast/src/quick.rt:87 */
+/* atoi_fast/src/quick.rt:109 */
 TK_INLINE tk_option_pair_i128_size tk_quick_field_i128(tk_bytes s, uint8_t separator)
 {
     tk_option_pair_u64_size found = tk_few_digits(s, separator);
@@ -2239,7 +2239,7 @@ TK_INLINE tk_option_pair_u128_size tk_prefix_of_words_u128(tk_bytes s)
     return tk_some_pair_u128_size(tk_new_pair_u128_size(number, TK_CAST(size_t, len)));
 }
 
-/* atoi_fast/src/quick.rt:87 */
+/* atoi_fast/src/quick.rt:109 */
 TK_INLINE tk_option_pair_u128_size tk_quick_field_u128(tk_bytes s, uint8_t separator)
 {
     tk_option_pair_u64_size found = tk_few_digits(s, separator);
@@ -2268,8 +2268,29 @@ TK_INLINE tk_option_pair_u128_size tk_quick_field_u128(tk_bytes s, uint8_t separ
     return tk_none_pair_u128_size();
 }
 
-/* The number of one digit at the start of a slice. */
-/* atoi_fast/src/quick.rt:72 */
+/* The second and the third byte are digits. */
+/* atoi_fast/src/quick.rt:76 */
+TK_INLINE tk_option_pair_i8_size tk_three_or_more_i8(tk_bytes s)
+{
+    if (s.len >= 4 && !tk_u8_is_digit(s.at[3]) && tk_u8_is_digit(s.at[0])) {
+        uint8_t first = s.at[0];
+        uint8_t second = s.at[1];
+        uint8_t third = s.at[2];
+        uint64_t tens = 10 * TK_CAST(uint64_t, TK_CAST(uint8_t, first - '0')) + TK_CAST(uint64_t,
+                                                                                        TK_CAST(uint8_t, second - '0'));
+        tk_option_i8 number_found = tk_number_in_range_i8(999, false,
+                                                          10 * tens + TK_CAST(uint64_t, TK_CAST(uint8_t, third - '0')));
+        if (!number_found.is_some) {
+            return tk_none_pair_i8_size();
+        }
+        int8_t number = number_found.value;
+        return tk_some_pair_i8_size(tk_new_pair_i8_size(number, 3));
+    }
+    return tk_prefix_of_words_i8(s);
+}
+
+/* A number of one digit. */
+/* atoi_fast/src/quick.rt:94 */
 TK_INLINE tk_option_pair_i8_size tk_digit_prefix_i8(tk_bytes s)
 {
     if (s.len >= 2 && '0' <= s.at[1] && s.at[1] <= '9') {
@@ -2290,8 +2311,10 @@ TK_INLINE tk_option_pair_i8_size tk_digit_prefix_i8(tk_bytes s)
 /* atoi_fast/src/quick.rt:53 */
 TK_INLINE tk_option_pair_i8_size tk_quick_prefix_i8(tk_bytes s)
 {
-    if (s.len >= 3 && '0' <= s.at[1] && s.at[1] <= '9' && '0' <= s.at[2] && s.at[2] <= '9' && s.len >= 16) {
-        return tk_prefix_of_words_i8(s);
+    if (s.len >= 16) {
+        if (s.len >= 3 && '0' <= s.at[1] && s.at[1] <= '9' && '0' <= s.at[2] && s.at[2] <= '9') {
+            return tk_three_or_more_i8(s);
+        }
     }
     if (s.len >= 3 && '0' <= s.at[0] && s.at[0] <= '9' && '0' <= s.at[1] && s.at[1] <= '9'
         && !tk_u8_is_digit(s.at[2])) {
@@ -2351,7 +2374,7 @@ TK_INLINE tk_option_pair_u8_size tk_prefix_by_length_u8(tk_bytes s)
     return tk_prefix_in_word_u8(word, tk_u64_trailing_zeros(marks) / 8, s);
 }
 
-/* atoi_fast/src/quick.rt:72 */
+/* atoi_fast/src/quick.rt:94 */
 TK_INLINE tk_option_pair_u8_size tk_digit_prefix_u8(tk_bytes s)
 {
     if (s.len >= 2 && '0' <= s.at[1] && s.at[1] <= '9') {
@@ -2382,7 +2405,28 @@ TK_INLINE tk_option_pair_u8_size tk_quick_prefix_u8(tk_bytes s)
     return tk_digit_prefix_u8(s);
 }
 
-/* atoi_fast/src/quick.rt:72 */
+/* atoi_fast/src/quick.rt:76 */
+TK_INLINE tk_option_pair_i16_size tk_three_or_more_i16(tk_bytes s)
+{
+    if (s.len >= 4 && !tk_u8_is_digit(s.at[3]) && tk_u8_is_digit(s.at[0])) {
+        uint8_t first = s.at[0];
+        uint8_t second = s.at[1];
+        uint8_t third = s.at[2];
+        uint64_t tens = 10 * TK_CAST(uint64_t, TK_CAST(uint8_t, first - '0')) + TK_CAST(uint64_t,
+                                                                                        TK_CAST(uint8_t, second - '0'));
+        tk_option_i16 number_found = tk_number_in_range_i16(999, false,
+                                                            10 * tens + TK_CAST(uint64_t,
+                                                                                TK_CAST(uint8_t, third - '0')));
+        if (!number_found.is_some) {
+            return tk_none_pair_i16_size();
+        }
+        int16_t number = number_found.value;
+        return tk_some_pair_i16_size(tk_new_pair_i16_size(number, 3));
+    }
+    return tk_prefix_of_words_i16(s);
+}
+
+/* atoi_fast/src/quick.rt:94 */
 TK_INLINE tk_option_pair_i16_size tk_digit_prefix_i16(tk_bytes s)
 {
     if (s.len >= 2 && '0' <= s.at[1] && s.at[1] <= '9') {
@@ -2399,8 +2443,10 @@ TK_INLINE tk_option_pair_i16_size tk_digit_prefix_i16(tk_bytes s)
 /* atoi_fast/src/quick.rt:53 */
 TK_INLINE tk_option_pair_i16_size tk_quick_prefix_i16(tk_bytes s)
 {
-    if (s.len >= 3 && '0' <= s.at[1] && s.at[1] <= '9' && '0' <= s.at[2] && s.at[2] <= '9' && s.len >= 16) {
-        return tk_prefix_of_words_i16(s);
+    if (s.len >= 16) {
+        if (s.len >= 3 && '0' <= s.at[1] && s.at[1] <= '9' && '0' <= s.at[2] && s.at[2] <= '9') {
+            return tk_three_or_more_i16(s);
+        }
     }
     if (s.len >= 3 && '0' <= s.at[0] && s.at[0] <= '9' && '0' <= s.at[1] && s.at[1] <= '9'
         && !tk_u8_is_digit(s.at[2])) {
@@ -2458,7 +2504,7 @@ TK_INLINE tk_option_pair_u16_size tk_prefix_by_length_u16(tk_bytes s)
     return tk_prefix_in_word_u16(word, tk_u64_trailing_zeros(marks) / 8, s);
 }
 
-/* atoi_fast/src/quick.rt:72 */
+/* atoi_fast/src/quick.rt:94 */
 TK_INLINE tk_option_pair_u16_size tk_digit_prefix_u16(tk_bytes s)
 {
     if (s.len >= 2 && '0' <= s.at[1] && s.at[1] <= '9') {
@@ -2489,7 +2535,28 @@ TK_INLINE tk_option_pair_u16_size tk_quick_prefix_u16(tk_bytes s)
     return tk_digit_prefix_u16(s);
 }
 
-/* atoi_fast/src/quick.rt:72 */
+/* atoi_fast/src/quick.rt:76 */
+TK_INLINE tk_option_pair_i32_size tk_three_or_more_i32(tk_bytes s)
+{
+    if (s.len >= 4 && !tk_u8_is_digit(s.at[3]) && tk_u8_is_digit(s.at[0])) {
+        uint8_t first = s.at[0];
+        uint8_t second = s.at[1];
+        uint8_t third = s.at[2];
+        uint64_t tens = 10 * TK_CAST(uint64_t, TK_CAST(uint8_t, first - '0')) + TK_CAST(uint64_t,
+                                                                                        TK_CAST(uint8_t, second - '0'));
+        tk_option_i32 number_found = tk_number_in_range_i32(999, false,
+                                                            10 * tens + TK_CAST(uint64_t,
+                                                                                TK_CAST(uint8_t, third - '0')));
+        if (!number_found.is_some) {
+            return tk_none_pair_i32_size();
+        }
+        int32_t number = number_found.value;
+        return tk_some_pair_i32_size(tk_new_pair_i32_size(number, 3));
+    }
+    return tk_prefix_of_words_i32(s);
+}
+
+/* atoi_fast/src/quick.rt:94 */
 TK_INLINE tk_option_pair_i32_size tk_digit_prefix_i32(tk_bytes s)
 {
     if (s.len >= 2 && '0' <= s.at[1] && s.at[1] <= '9') {
@@ -2506,8 +2573,10 @@ TK_INLINE tk_option_pair_i32_size tk_digit_prefix_i32(tk_bytes s)
 /* atoi_fast/src/quick.rt:53 */
 TK_INLINE tk_option_pair_i32_size tk_quick_prefix_i32(tk_bytes s)
 {
-    if (s.len >= 3 && '0' <= s.at[1] && s.at[1] <= '9' && '0' <= s.at[2] && s.at[2] <= '9' && s.len >= 16) {
-        return tk_prefix_of_words_i32(s);
+    if (s.len >= 16) {
+        if (s.len >= 3 && '0' <= s.at[1] && s.at[1] <= '9' && '0' <= s.at[2] && s.at[2] <= '9') {
+            return tk_three_or_more_i32(s);
+        }
     }
     if (s.len >= 3 && '0' <= s.at[0] && s.at[0] <= '9' && '0' <= s.at[1] && s.at[1] <= '9'
         && !tk_u8_is_digit(s.at[2])) {
@@ -2565,7 +2634,7 @@ TK_INLINE tk_option_pair_u32_size tk_prefix_by_length_u32(tk_bytes s)
     return tk_prefix_in_word_u32(word, tk_u64_trailing_zeros(marks) / 8, s);
 }
 
-/* atoi_fast/src/quick.rt:72 */
+/* atoi_fast/src/quick.rt:94 */
 TK_INLINE tk_option_pair_u32_size tk_digit_prefix_u32(tk_bytes s)
 {
     if (s.len >= 2 && '0' <= s.at[1] && s.at[1] <= '9') {
@@ -2596,7 +2665,28 @@ TK_INLINE tk_option_pair_u32_size tk_quick_prefix_u32(tk_bytes s)
     return tk_digit_prefix_u32(s);
 }
 
-/* atoi_fast/src/quick.rt:72 */
+/* atoi_fast/src/quick.rt:76 */
+TK_INLINE tk_option_pair_i64_size tk_three_or_more_i64(tk_bytes s)
+{
+    if (s.len >= 4 && !tk_u8_is_digit(s.at[3]) && tk_u8_is_digit(s.at[0])) {
+        uint8_t first = s.at[0];
+        uint8_t second = s.at[1];
+        uint8_t third = s.at[2];
+        uint64_t tens = 10 * TK_CAST(uint64_t, TK_CAST(uint8_t, first - '0')) + TK_CAST(uint64_t,
+                                                                                        TK_CAST(uint8_t, second - '0'));
+        tk_option_i64 number_found = tk_number_in_range_i64(999, false,
+                                                            10 * tens + TK_CAST(uint64_t,
+                                                                                TK_CAST(uint8_t, third - '0')));
+        if (!number_found.is_some) {
+            return tk_none_pair_i64_size();
+        }
+        int64_t number = number_found.value;
+        return tk_some_pair_i64_size(tk_new_pair_i64_size(number, 3));
+    }
+    return tk_prefix_of_words_i64(s);
+}
+
+/* atoi_fast/src/quick.rt:94 */
 TK_INLINE tk_option_pair_i64_size tk_digit_prefix_i64(tk_bytes s)
 {
     if (s.len >= 2 && '0' <= s.at[1] && s.at[1] <= '9') {
@@ -2613,8 +2703,10 @@ TK_INLINE tk_option_pair_i64_size tk_digit_prefix_i64(tk_bytes s)
 /* atoi_fast/src/quick.rt:53 */
 TK_INLINE tk_option_pair_i64_size tk_quick_prefix_i64(tk_bytes s)
 {
-    if (s.len >= 3 && '0' <= s.at[1] && s.at[1] <= '9' && '0' <= s.at[2] && s.at[2] <= '9' && s.len >= 16) {
-        return tk_prefix_of_words_i64(s);
+    if (s.len >= 16) {
+        if (s.len >= 3 && '0' <= s.at[1] && s.at[1] <= '9' && '0' <= s.at[2] && s.at[2] <= '9') {
+            return tk_three_or_more_i64(s);
+        }
     }
     if (s.len >= 3 && '0' <= s.at[0] && s.at[0] <= '9' && '0' <= s.at[1] && s.at[1] <= '9'
         && !tk_u8_is_digit(s.at[2])) {
@@ -2672,7 +2764,7 @@ TK_INLINE tk_option_pair_u64_size tk_prefix_by_length_u64(tk_bytes s)
     return tk_prefix_in_word_u64(word, tk_u64_trailing_zeros(marks) / 8, s);
 }
 
-/* atoi_fast/src/quick.rt:72 */
+/* atoi_fast/src/quick.rt:94 */
 TK_INLINE tk_option_pair_u64_size tk_digit_prefix_u64(tk_bytes s)
 {
     if (s.len >= 2 && '0' <= s.at[1] && s.at[1] <= '9') {
@@ -2703,7 +2795,28 @@ TK_INLINE tk_option_pair_u64_size tk_quick_prefix_u64(tk_bytes s)
     return tk_digit_prefix_u64(s);
 }
 
-/* atoi_fast/src/quick.rt:72 */
+/* atoi_fast/src/quick.rt:76 */
+TK_INLINE tk_option_pair_i128_size tk_three_or_more_i128(tk_bytes s)
+{
+    if (s.len >= 4 && !tk_u8_is_digit(s.at[3]) && tk_u8_is_digit(s.at[0])) {
+        uint8_t first = s.at[0];
+        uint8_t second = s.at[1];
+        uint8_t third = s.at[2];
+        uint64_t tens = 10 * TK_CAST(uint64_t, TK_CAST(uint8_t, first - '0')) + TK_CAST(uint64_t,
+                                                                                        TK_CAST(uint8_t, second - '0'));
+        tk_option_i128 number_found = tk_number_in_range_i128(999, false,
+                                                              10 * tens + TK_CAST(uint64_t,
+                                                                                  TK_CAST(uint8_t, third - '0')));
+        if (!number_found.is_some) {
+            return tk_none_pair_i128_size();
+        }
+        tk_i128 number = number_found.value;
+        return tk_some_pair_i128_size(tk_new_pair_i128_size(number, 3));
+    }
+    return tk_prefix_of_words_i128(s);
+}
+
+/* atoi_fast/src/quick.rt:94 */
 TK_INLINE tk_option_pair_i128_size tk_digit_prefix_i128(tk_bytes s)
 {
     if (s.len >= 2 && '0' <= s.at[1] && s.at[1] <= '9') {
@@ -2720,8 +2833,10 @@ TK_INLINE tk_option_pair_i128_size tk_digit_prefix_i128(tk_bytes s)
 /* atoi_fast/src/quick.rt:53 */
 TK_INLINE tk_option_pair_i128_size tk_quick_prefix_i128(tk_bytes s)
 {
-    if (s.len >= 3 && '0' <= s.at[1] && s.at[1] <= '9' && '0' <= s.at[2] && s.at[2] <= '9' && s.len >= 16) {
-        return tk_prefix_of_words_i128(s);
+    if (s.len >= 16) {
+        if (s.len >= 3 && '0' <= s.at[1] && s.at[1] <= '9' && '0' <= s.at[2] && s.at[2] <= '9') {
+            return tk_three_or_more_i128(s);
+        }
     }
     if (s.len >= 3 && '0' <= s.at[0] && s.at[0] <= '9' && '0' <= s.at[1] && s.at[1] <= '9'
         && !tk_u8_is_digit(s.at[2])) {
@@ -2779,7 +2894,7 @@ TK_INLINE tk_option_pair_u128_size tk_prefix_by_length_u128(tk_bytes s)
     return tk_prefix_in_word_u128(word, tk_u64_trailing_zeros(marks) / 8, s);
 }
 
-/* atoi_fast/src/quick.rt:72 */
+/* atoi_fast/src/quick.rt:94 */
 TK_INLINE tk_option_pair_u128_size tk_digit_prefix_u128(tk_bytes s)
 {
     if (s.len >= 2 && '0' <= s.at[1] && s.at[1] <= '9') {

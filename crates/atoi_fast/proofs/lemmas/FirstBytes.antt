@@ -1,8 +1,8 @@
--- Numbers of one digit and of two, whose bytes are tested one by one.
-use Rattle.std.proofs.Common.{◌≡◌, ℕ, ◌+◌, ◌-◌, ◌*◌, ◌≤◌, false, List, [], ◌∷◌, length, get_or, arith}
+-- Numbers of one to three digits, whose bytes are tested one by one.
+use Rattle.std.proofs.Common.{◌≡◌, ℕ, ◌+◌, ◌-◌, ◌*◌, ◌≤◌, ◌∙◌, false, List, [], ◌∷◌, length, get_or, arith}
 use Rattle.std.proofs.lemmas.Bool.Decides.{nat_tests}
 use Rattle.atoi_core.specs.Digit.{decimal_table, is_digit}
-use Rattle.atoi_core.specs.IntType.{IntType, IsSized}
+use Rattle.atoi_core.specs.IntType.{IntType, IsSized, bound_of}
 use Rattle.atoi_core.specs.Sign.{with_sign}
 use Rattle.atoi_fast.specs.Short.{IsNumber, BeginsWithNumber}
 use Rattle.atoi_fast.proofs.lemmas.ShortNumbers.{sixteen_fit, prefix_is, whole_is, least_bound}
@@ -38,3 +38,16 @@ first_two_digits int sized (a ∷ b ∷ d ∷ rest) some low high low_2 high_2 e
     prefix_is int false (a ∷ b ∷ d ∷ rest) 2 (10 * (a - 48) + (b - 48)) (λ no. absurd (cc no)) (omega arith)
     (omega (arith, sixteen_fit int)) (grind (arith, nat_tests)) (grind (arith, nat_tests))
     (omega (arith, least_bound int sized false))
+
+-- Three digits that no digit follows.
+pub first_three_digits : (int : IntType) (s : List ℕ) → 4 ≤ length s → 48 ≤ get_or s 0 0 → get_or s 0 0 ≤ 57
+    → 48 ≤ get_or s 1 0 → get_or s 1 0 ≤ 57 → 48 ≤ get_or s 2 0 → get_or s 2 0 ≤ 57 → is_digit decimal_table (get_or s 3 0) ≡ false
+    → (number : ℕ) → number ≡ 10 * (10 * (get_or s 0 0 - 48) + (get_or s 1 0 - 48)) + (get_or s 2 0 - 48)
+    → number ≤ bound_of int false → BeginsWithNumber int s (with_sign false number) 3
+first_three_digits int [] some low high low_2 high_2 low_3 high_3 ends number number_is in_range = absurd (omega arith)
+first_three_digits int (a ∷ []) some low high low_2 high_2 low_3 high_3 ends number number_is in_range = absurd (omega arith)
+first_three_digits int (a ∷ b ∷ []) some low high low_2 high_2 low_3 high_3 ends number number_is in_range = absurd (omega arith)
+first_three_digits int (a ∷ b ∷ d ∷ []) some low high low_2 high_2 low_3 high_3 ends number number_is in_range = absurd (omega arith)
+first_three_digits int (a ∷ b ∷ d ∷ e ∷ rest) some low high low_2 high_2 low_3 high_3 ends number number_is in_range =
+    prefix_is int false (a ∷ b ∷ d ∷ e ∷ rest) 3 number (λ no. absurd (cc no)) (omega arith) (omega (arith, sixteen_fit int))
+    (grind (arith, nat_tests)) (number_is ∙ grind (arith, nat_tests)) in_range

@@ -1,5 +1,5 @@
 /* Made by .ci/translate from crates/atoi_fast/src/quick.rt. Do not edit. */ //! What the header of C reads before it calls a function: few bytes, and no flag changes the answer.
-// ghost use Rattle.std.specs.Prelude.{◌≡◌, ◌+◌, ◌≤◌, IfSome, false, take};
+// ghost use Rattle.std.specs.Prelude.{◌≡◌, ◌+◌, ◌≤◌, IfSome, false, get_or, length, take};
 // ghost use Rattle.atoi_core.specs.Digit.{decimal_table, is_digit};
 // ghost use Rattle.atoi_core.specs.Run.{value};
 // ghost use Rattle.atoi_fast.specs.Short.{AreDigits, BeginsWithNumber, EndsBefore, IsNumber};
@@ -53,11 +53,15 @@ pub fn long_slice<T: Number>(s: &[u8]) -> Option<T>
 pub fn quick_prefix<T: Number>(s: &[u8]) -> Option<(T, usize)>
     // ensures { IfSome result (λ found. BeginsWithNumber T.int_type s.now (T.number found.0) found.1) }
 {
-    if !T::SIGNED && s.len() >= 16 {
-        return prefix_by_length(s);
+    if s.len() >= 16 {
+        if !T::SIGNED {
+            return prefix_by_length(s);
+        }
+        if let [_, b'0'..=b'9', b'0'..=b'9', ..] = s {
+            return three_or_more(s);
+        }
     }
     match s {
-        [_, b'0'..=b'9', b'0'..=b'9', ..] if T::SIGNED && s.len() >= 16 => prefix_of_words(s),
         [first @ b'0'..=b'9', second @ b'0'..=b'9', third, ..] if !third.is_ascii_digit() => {
             let tens = u32::from(*first - b'0');
             let number = 10 * tens + u32::from(*second - b'0');
@@ -67,7 +71,25 @@ pub fn quick_prefix<T: Number>(s: &[u8]) -> Option<(T, usize)>
     }
 }
 
-// The number of one digit at the start of a slice.
+// The second and the third byte are digits.
+#[inline(always)]
+fn three_or_more<T: Number>(s: &[u8]) -> Option<(T, usize)>
+    // requires enough { 16 ≤ length s.now }
+    // requires second { (48 ≤ get_or s.now 1 0) × (get_or s.now 1 0 ≤ 57) }
+    // requires third { (48 ≤ get_or s.now 2 0) × (get_or s.now 2 0 ≤ 57) }
+    // ensures { IfSome result (λ found. BeginsWithNumber T.int_type s.now (T.number found.0) found.1) }
+{
+    match s {
+        [first, second, third, end, ..] if !end.is_ascii_digit() && first.is_ascii_digit() => {
+            let tens = 10 * u64::from(*first - b'0') + u64::from(*second - b'0');
+            let number = number_in_range::<T>(999, false, 10 * tens + u64::from(*third - b'0'))?;
+            Some((number, 3))
+        }
+        _ => prefix_of_words(s),
+    }
+}
+
+// A number of one digit.
 #[inline(always)]
 fn digit_prefix<T: Number>(s: &[u8]) -> Option<(T, usize)>
     // ensures { IfSome result (λ found. BeginsWithNumber T.int_type s.now (T.number found.0) found.1) }
