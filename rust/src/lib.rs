@@ -113,9 +113,6 @@ pub use proved::atoi_simd::{
 /// [commands]: https://docs.rs/crate/torkettle/latest/source/docs/CONTRIBUTING.md
 /// [readme]: https://docs.rs/crate/torkettle/latest
 /// [recipes]: crate::recipes
-/// [cut]: crate::recipes#a-buffer-that-ends-within-a-number
-/// [error recipes]: crate::recipes#errors-for--anyhow-and-serde
-/// [spaces]: crate::recipes#spaces-blank-cells-and-several-separators
 /// [differences]: https://docs.rs/crate/torkettle/latest/source/docs/DIFFERENCES.md
 /// [threads]: https://docs.rs/crate/torkettle/latest/source/rust/examples/threads.rs
 ///

@@ -2,11 +2,12 @@
 
 use std::error::Error;
 use std::io::{self, Read};
+use std::num::{IntErrorKind, ParseIntError};
 use torkettle::column::{Column, ColumnError, FieldError, Fields, Line, LineReader, is_separator};
-use torkettle::formats::digits_then;
+use torkettle::formats::{digits_then, fixed_width};
 use torkettle::{
-    AtoiSimdError, Parse, from_ascii, from_ascii_prefix, parse, parse_neg, parse_pos, parse_prefix,
-    parse_prefix_neg, parse_prefix_pos,
+    AtoiSimdError, IntError, Parse, from_ascii, from_ascii_prefix, parse, parse_neg, parse_pos,
+    parse_prefix, parse_prefix_neg, parse_prefix_pos,
 };
 
 #[test]
@@ -213,4 +214,207 @@ fn errors_of_columns() {
     let cause = AtoiSimdError::Overflow(b"256,1");
     let error = ColumnError::Field { index: 0, place: 0, cause };
     assert_eq!(Column::<u8>::new(b"256,1", b',').next(), Some(Err(error)));
+}
+
+#[test]
+fn a_buffer_that_ends_within_a_number() {
+    // Reads a reply such as `:1234\r\n`, and returns the number and the rest. `Ok(None)` asks for more input.
+    fn integer_reply(buffer: &[u8]) -> Result<Option<(i64, &[u8])>, String> {
+        let text = match buffer {
+            [b':', text @ ..] => text,
+            [] => return Ok(None),
+            _ => return Err("a reply of another type".into()),
+        };
+        let (number, length) = match from_ascii_prefix::<i64>(text) {
+            Ok(found) => found,
+            Err(error) if error.kind() == IntErrorKind::Empty => return Ok(None),
+            Err(error) => return Err(error.to_string()),
+        };
+        match &text[length..] {
+            [] | [b'\r'] => Ok(None),
+            [b'\r', b'\n', rest @ ..] => Ok(Some((number, rest))),
+            _ => Err("a byte that is not part of a number".into()),
+        }
+    }
+
+    assert_eq!(integer_reply(b":-12").unwrap(), None);
+    assert_eq!(integer_reply(b":-1234\r\n+OK").unwrap(), Some((-1234, &b"+OK"[..])));
+
+    let reply = b":-1234\r\n+OK";
+    for end in 0..=reply.len() {
+        let expected = (end >= 8).then(|| (-1234, &reply[8..end]));
+        assert_eq!(integer_reply(&reply[..end]).unwrap(), expected, "{end} bytes");
+    }
+    let message = |buffer| integer_reply(buffer).unwrap_err();
+    assert_eq!(message(b"+OK"), "a reply of another type");
+    assert_eq!(message(b":-x"), "no digit at byte 1");
+    assert_eq!(message(b":1x"), "a byte that is not part of a number");
+    assert_eq!(message(b":1\rx"), "a byte that is not part of a number");
+    // More digits do not bring the number back into range, so there is no need to wait for them.
+    assert_eq!(message(b":9223372036854775808"), "number out of range");
+}
+
+#[test]
+fn a_fixed_width_of_a_short_text() {
+    // Reads a status such as 404. `Ok(None)` asks for more input.
+    fn status(text: &[u8]) -> Result<Option<(u16, &[u8])>, &'static str> {
+        match fixed_width(text, 3) {
+            Some(found) => Ok(Some(found)),
+            None if text.len() < 3 && text.iter().all(u8::is_ascii_digit) => Ok(None),
+            None => Err("no three digits"),
+        }
+    }
+
+    assert_eq!(status(b"404 Not Found"), Ok(Some((404, &b" Not Found"[..]))));
+    assert_eq!(status(b"40"), Ok(None));
+
+    for text in [&b""[..], b"4"] {
+        assert_eq!(status(text), Ok(None));
+    }
+    for text in [&b"x"[..], b"4x", b"40x", b"-40", b" 404"] {
+        assert_eq!(status(text), Err("no three digits"));
+    }
+}
+
+#[test]
+fn columns_with_several_spaces_between_them() {
+    fn columns(line: &[u8]) -> Result<Vec<u64>, IntError> {
+        let words = line.split(u8::is_ascii_whitespace).filter(|word| !word.is_empty());
+        words.map(from_ascii).collect()
+    }
+
+    assert_eq!(columns(b"  1500   12\t0 "), Ok(vec![1500, 12, 0]));
+
+    assert_eq!(columns(b""), Ok(vec![]));
+    assert_eq!(
+        columns(b"1  x2").map_err(|error| error.to_string()),
+        Err("no digit at byte 0".into())
+    );
+}
+
+#[test]
+fn cells_of_which_some_are_blank() {
+    // Returns the cells of a row such as `1, ,-3`. A blank cell is `None`.
+    fn cells_with_blanks(row: &[u8]) -> Result<Vec<Option<i64>>, IntError> {
+        let cell = |text: &[u8]| match text.trim_ascii() {
+            [] => Ok(None),
+            text => from_ascii(text).map(Some),
+        };
+        row.split(|byte| matches!(byte, b',' | b';')).map(cell).collect()
+    }
+
+    assert_eq!(cells_with_blanks(b"1, ;-3"), Ok(vec![Some(1), None, Some(-3)]));
+
+    assert_eq!(cells_with_blanks(b"1,2,"), Ok(vec![Some(1), Some(2), None]));
+    assert_eq!(cells_with_blanks(b""), Ok(vec![None]));
+    for row in [&b"1,x"[..], b"1 2", b"1,-", b"1,\0,2"] {
+        assert!(cells_with_blanks(row).is_err());
+    }
+}
+
+#[test]
+fn errors_for_anyhow() {
+    // In place of `anyhow::Error`, which has the same conversion.
+    #[derive(Debug)]
+    struct Anyhow(Box<dyn std::error::Error + Send + Sync + 'static>);
+
+    impl<E: std::error::Error + Send + Sync + 'static> From<E> for Anyhow {
+        fn from(error: E) -> Anyhow {
+            Anyhow(Box::new(error))
+        }
+    }
+
+    fn port(text: String) -> Result<u16, Anyhow> {
+        Ok(from_ascii(text.as_bytes())?)
+    }
+
+    assert_eq!(port("8080".to_string()).unwrap(), 8080);
+    let error = port("80x".to_string()).unwrap_err();
+    assert_eq!(error.0.to_string(), "unexpected byte at byte 2");
+    assert!(error.0.is::<IntError>());
+}
+
+#[test]
+fn errors_for_serde() {
+    // In place of `use serde::de;`
+    mod de {
+        pub trait Error: Sized {
+            fn custom<T: std::fmt::Display>(message: T) -> Self;
+        }
+    }
+
+    fn retries<E: de::Error>(text: &str) -> Result<u16, E> {
+        from_ascii(text.as_bytes()).map_err(E::custom)
+    }
+
+    #[derive(Debug, PartialEq)]
+    struct Message(String);
+
+    impl de::Error for Message {
+        fn custom<T: std::fmt::Display>(message: T) -> Message {
+            Message(message.to_string())
+        }
+    }
+
+    assert_eq!(retries::<Message>("3"), Ok(3));
+    assert_eq!(retries::<Message>("3x"), Err(Message("unexpected byte at byte 1".to_string())));
+}
+
+#[test]
+fn errors_of_std() {
+    fn parse_as_std(text: &str) -> Result<u32, ParseIntError> {
+        from_ascii(text.as_bytes()).or_else(|_| text.parse())
+    }
+
+    for text in ["7", "+7", "", "-", "4294967296", "7 "] {
+        assert_eq!(parse_as_std(text), text.parse());
+    }
+}
+
+#[test]
+fn a_text_for_users() {
+    fn reason(text: &[u8], error: AtoiSimdError<'_>) -> String {
+        match (error, error.offset_in(text)) {
+            (AtoiSimdError::Empty, _) => "no digit".to_string(),
+            (AtoiSimdError::Invalid64(..) | AtoiSimdError::Invalid128(..), Some(offset)) => {
+                format!("unexpected byte at byte {offset}")
+            }
+            _ => "number out of range".to_string(),
+        }
+    }
+
+    let text = b"-12x";
+    let error = parse::<i32, true, true>(text).unwrap_err();
+    assert_eq!(reason(text, error), "unexpected byte at byte 3");
+
+    fn check<T: Parse + std::fmt::Debug>(text: &[u8], expected: &str) {
+        let error = parse::<T, true, true>(text).map(drop).unwrap_err();
+        assert_eq!(reason(text, error), expected);
+    }
+    check::<u8>(b"", "no digit");
+    check::<u8>(b"-5", "no digit");
+    check::<u8>(b"0256", "number out of range");
+    check::<u64>(b"99999999999999999999999", "number out of range");
+    check::<i128>(b"-00000000000000000000000007 ", "unexpected byte at byte 27");
+}
+
+#[test]
+fn a_text_that_moves() {
+    struct Port {
+        number: u16,
+        text: Vec<u8>,
+    }
+
+    fn into_port(text: Vec<u8>) -> Option<Port> {
+        let number = parse::<u16, true, true>(&text).ok()?;
+        Some(Port { number, text })
+    }
+
+    let found = into_port(b"8080".to_vec()).unwrap();
+    assert_eq!((found.number, &found.text[..]), (8080, &b"8080"[..]));
+    assert!(into_port(b"80x".to_vec()).is_none());
+    // The error of `from_ascii` does not borrow, so here the text can move at once.
+    let text = b"8080".to_vec();
+    let found = from_ascii(&text).map(|number| Port { number, text }).unwrap();
+    assert_eq!((found.number, &found.text[..]), (8080, &b"8080"[..]));
 }
