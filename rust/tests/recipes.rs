@@ -2,7 +2,7 @@
 
 use std::num::{IntErrorKind, NonZero, ParseFloatError, Wrapping};
 use torkettle::formats::{canonical, canonical_then, digits_then, fixed_width, strip_byte};
-use torkettle::{AtoiSimdError, IntError, from_ascii, from_ascii_prefix, parse_pos, parse_prefix};
+use torkettle::{IntError, from_ascii, from_ascii_prefix, parse_pos};
 
 #[test]
 fn the_length_of_an_http_message() {
@@ -199,22 +199,4 @@ fn the_greatest_number_in_place_of_one_out_of_range() {
     for text in ["", "-1", "-99999999999", "x", "9 ", "++60", "+99999999999s"] {
         assert!(seconds(text.as_bytes()).is_err(), "{text:?}");
     }
-}
-
-#[test]
-fn a_number_at_the_start_by_a_test_for_one_digit() {
-    fn number_at(text: &[u8]) -> Result<(u32, usize), AtoiSimdError<'_>> {
-        match text {
-            [digit @ b'0'..=b'9', next, ..] if !next.is_ascii_digit() => {
-                Ok((u32::from(digit - b'0'), 1))
-            }
-            _ => parse_prefix::<u32, true, true>(text),
-        }
-    }
-
-    for text in ["7,8", "70,8", "7", "+7,", "4294967295;", "0,", "x", "", "7x"] {
-        let text = text.as_bytes();
-        assert_eq!(number_at(text), parse_prefix::<u32, true, true>(text));
-    }
-    assert_eq!(number_at(b"9 "), Ok((9, 1)));
 }

@@ -418,3 +418,21 @@ fn a_text_that_moves() {
     let found = from_ascii(&text).map(|number| Port { number, text }).unwrap();
     assert_eq!((found.number, &found.text[..]), (8080, &b"8080"[..]));
 }
+
+#[test]
+fn a_number_at_the_start_by_a_test_for_one_digit() {
+    fn number_at(text: &[u8]) -> Result<(u32, usize), AtoiSimdError<'_>> {
+        match text {
+            [digit @ b'0'..=b'9', next, ..] if !next.is_ascii_digit() => {
+                Ok((u32::from(digit - b'0'), 1))
+            }
+            _ => parse_prefix::<u32, true, true>(text),
+        }
+    }
+
+    for text in ["7,8", "70,8", "7", "+7,", "4294967295;", "0,", "x", "", "7x"] {
+        let text = text.as_bytes();
+        assert_eq!(number_at(text), parse_prefix::<u32, true, true>(text));
+    }
+    assert_eq!(number_at(b"9 "), Ok((9, 1)));
+}
