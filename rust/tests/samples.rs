@@ -31,10 +31,8 @@ fn numbers() {
 fn errors() {
     // Without SKIP_PLUS, the `+` is not a sign.
     assert_eq!(parse::<i8, false, false>(b"+5"), Err(AtoiSimdError::Empty));
-    // Without SKIP_ZEROES, leading zeros count towards the limit.
     let text = b"09223372036854775807";
     assert_eq!(parse::<i64, false, false>(text), Err(AtoiSimdError::Size(20, text)));
-    // The slice extends to the end of the input.
     assert_eq!(parse_prefix::<u8, true, false>(b"256,1"), Err(AtoiSimdError::Overflow(b"256,1")));
     // The `x` is at offset 7, after digits with the value 12.
     let text = b"0000012x";
@@ -256,7 +254,7 @@ fn a_buffer_that_ends_within_a_number() {
 
 #[test]
 fn a_fixed_width_of_a_short_text() {
-    // Reads a status such as 404. `Ok(None)` asks for more input.
+    // Reads a status such as 404.
     fn status(text: &[u8]) -> Result<Option<(u16, &[u8])>, &'static str> {
         match fixed_width(text, 3) {
             Some(found) => Ok(Some(found)),
