@@ -150,10 +150,12 @@ const ERRORS: [&[ErrorKind]; 3] = [
 #[test]
 fn whatever_a_read_gives_the_items_are_the_same() {
     each_text(|text| {
-        for longest in [0, 1, 2, 8, 20, 1 << 20] {
+        // A debug build takes milliseconds for the room of a reader of long lines. No text has 1000 bytes.
+        for (longest, step) in
+            [(0, 13), (1, 13), (2, 13), (8, 13), (20, 13), (1000, 1), (1 << 20, 39)]
+        {
             let expected = expected(text, longest);
             assert_eq!(numbers(LineReader::with_longest_line(longest, text)), expected);
-            let step = if longest == 1 << 20 { 1 } else { 13 };
             for most in (1..=40).step_by(step) {
                 for errors in ERRORS {
                     let input = slow(text, most, errors);
@@ -168,8 +170,7 @@ fn whatever_a_read_gives_the_items_are_the_same() {
 #[test]
 fn the_lines_are_those_of_the_items() {
     each_text(|text| {
-        for (longest, most) in [(1 << 20, 1), (1 << 20, 7), (1 << 20, 200), (5, 3), (8, 1), (8, 99)]
-        {
+        for (longest, most) in [(1000, 1), (1 << 20, 7), (1000, 200), (5, 3), (8, 1), (8, 99)] {
             let (mut words, position) = expected(text, longest);
             let found = lines(LineReader::with_longest_line(longest, slow(text, most, ERRORS[2])));
             let empty = |word: &String| word.contains("text: []");
@@ -257,19 +258,34 @@ fn printed(text: &[u8]) -> String {
     String::from_utf8(out).expect("all bytes are escaped")
 }
 
+// The pieces of a text for so many threads: whole lines, and together the text.
+fn pieces(text: &[u8], count: u64) -> Vec<&[u8]> {
+    let cuts = threads::cuts(Cursor::new(text), count).expect("a slice can be read");
+    assert_eq!(cuts.len() as u64, count + 1);
+    for cut in &cuts {
+        let before = &text[..*cut as usize];
+        let begins_line = before == text || before.is_empty() || before.ends_with(b"\n");
+        assert!(begins_line, "{count} pieces of {text:?}: {cuts:?}");
+    }
+    let piece = |cuts: &[u64]| &text[cuts[0] as usize..cuts[1] as usize];
+    let pieces: Vec<_> = cuts.windows(2).map(piece).collect();
+    assert_eq!(pieces.concat(), text, "{count} pieces: {cuts:?}");
+    pieces
+}
+
 #[test]
 fn threads_print_what_the_sum_prints() {
     each_text(|text| {
+        let sum = printed(text);
         for count in 1..=9 {
-            let cuts = threads::cuts(Cursor::new(text), count).expect("a slice can be read");
-            assert_eq!(cuts.len() as u64, count + 1);
-            let pieces = cuts.windows(2).map(|piece| {
-                let piece = text.get(piece[0] as usize..piece[1] as usize).unwrap_or_default();
-                threads::read_piece(piece).expect("a slice can be read")
-            });
-            let mut out = Vec::new();
-            threads::print_sum(pieces.collect(), &mut out).expect("a vector can be written");
-            assert_eq!(String::from_utf8(out), Ok(printed(text)), "{count} threads: {text:?}");
+            let pieces = pieces(text, count);
+            // A debug build takes milliseconds for each piece.
+            if [1, 2, 9].contains(&count) {
+                let read = |piece| threads::read_piece(piece).expect("a slice can be read");
+                let (found, mut out) = (pieces.into_iter().map(read).collect(), Vec::new());
+                threads::print_sum(found, &mut out).expect("a vector can be written");
+                assert_eq!(String::from_utf8(out).as_ref(), Ok(&sum), "{count} threads: {text:?}");
+            }
         }
     });
 }
