@@ -1,6 +1,6 @@
 //! The functions that are printed: each generic one for the types that matter to it, from what is asked for.
 
-use super::ir::{Bindings, Callee, Done, Function, Kind, all_kinds};
+use super::ir::{Bindings, Callee, Done, Function, Kind};
 use super::lower;
 use super::world::World;
 use std::collections::{BTreeMap, BTreeSet};
@@ -16,7 +16,7 @@ pub enum Attempt {
     Started,
     /// The type of this parameter matters.
     Needs(String),
-    Made(Function),
+    Made(Box<Function>),
 }
 
 impl<'w> Instances<'w> {
@@ -79,8 +79,8 @@ impl<'w> Instances<'w> {
 
 /// Returns the functions that a function calls.
 pub fn called(function: &Function) -> Vec<Callee> {
-    let callees = all_kinds(&function.body).into_iter().filter_map(|kind| match kind {
-        Kind::Call(callee) => Some(callee),
+    let callees = function.body.kinds().into_iter().filter_map(|kind| match kind {
+        Kind::Call(callee) => Some(callee.clone()),
         _ => None,
     });
     callees.collect()

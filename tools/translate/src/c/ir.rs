@@ -58,7 +58,7 @@ pub struct Function {
     pub constants: Vec<(String, Id)>,
     pub parameters: Vec<usize>,
     pub result: Type,
-    pub body: Vec<Statement>,
+    pub body: Term,
 }
 
 #[derive(Clone, Debug)]
@@ -68,19 +68,7 @@ pub struct Local {
     pub is_mutable: bool,
 }
 
-#[derive(Clone, Debug)]
-pub enum Statement {
-    Comment(Vec<String>),
-    Declare { local: usize, value: Option<Term> },
-    Assign { place: Term, value: Term },
-    If { condition: Term, then: Vec<Statement>, otherwise: Vec<Statement> },
-    While { condition: Term, body: Vec<Statement> },
-    Return(Term),
-    Break,
-    Continue,
-}
-
-/// An expression: what it does with its parts.
+/// An expression or a statement: what it does with its parts.
 #[derive(Clone, Debug)]
 pub struct Term {
     pub kind: Kind,
@@ -91,6 +79,18 @@ pub struct Term {
 
 #[derive(Clone, Debug, PartialEq, Eq)]
 pub enum Kind {
+    // Statements, which have the type of an empty tuple.
+    Block,
+    Comment(Vec<String>),
+    // A variable gets a value, or none yet.
+    Declare(usize),
+    Assign,
+    // Its condition, and what runs if it holds, or else.
+    If,
+    While,
+    Return,
+    Break,
+    Continue,
     // A number, and with how many hexadecimal digits it is written, or 0.
     Number { value: u128, hexadecimal: usize },
     Byte(u8),
@@ -224,49 +224,15 @@ impl Type {
     }
 }
 
-impl Statement {
+impl Term {
+    /// Returns what all terms in this one are, and then itself.
+    pub fn kinds(&self) -> Vec<&Kind> {
+        self.parts.iter().flat_map(Term::kinds).chain([&self.kind]).collect()
+    }
+
     /// Says whether nothing runs behind this statement.
     pub fn leaves(&self) -> bool {
-        matches!(self, Statement::Return(_) | Statement::Break | Statement::Continue)
-    }
-
-    /// Returns its terms, and the lists of statements in it.
-    pub fn parts(&mut self) -> (Vec<&mut Term>, Vec<&mut Vec<Statement>>) {
-        match self {
-            Statement::Declare { value, .. } => (value.iter_mut().collect(), Vec::new()),
-            Statement::Assign { place, value } => (vec![place, value], Vec::new()),
-            Statement::Return(term) => (vec![term], Vec::new()),
-            Statement::If { condition, then, otherwise } => {
-                (vec![condition], vec![then, otherwise])
-            }
-            Statement::While { condition, body } => (vec![condition], vec![body]),
-            Statement::Comment(_) | Statement::Break | Statement::Continue => Default::default(),
-        }
-    }
-}
-
-/// Returns what all terms of statements are, also of those in others.
-pub fn all_kinds(body: &[Statement]) -> Vec<Kind> {
-    let mut found = Vec::new();
-    for statement in &mut body.to_vec() {
-        let (terms, blocks) = statement.parts();
-        for term in terms {
-            // Nothing is refused here.
-            let _ = term.each(&mut |term| {
-                found.push(term.kind.clone());
-                Ok(())
-            });
-        }
-        blocks.into_iter().for_each(|block| found.extend(all_kinds(block)));
-    }
-    found
-}
-
-impl Term {
-    /// Calls something for the terms that this one is made of, and then for itself.
-    pub fn each(&mut self, call: &mut dyn FnMut(&mut Term) -> Done<()>) -> Done<()> {
-        self.parts.iter_mut().try_for_each(|part| part.each(call))?;
-        call(self)
+        matches!(self.kind, Kind::Return | Kind::Break | Kind::Continue)
     }
 
     /// Says whether this term or one in it fulfils a condition.

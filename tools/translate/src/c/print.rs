@@ -1,9 +1,7 @@
 //! Functions and their statements as C.
 
 use super::instances::called;
-use super::ir::{
-    Bindings, Callee, Done, Form, Function, Id, Kind, Local, Statement, Term, Type, all_kinds,
-};
+use super::ir::{Bindings, Callee, Done, Form, Function, Id, Kind, Local, Term, Type};
 use super::terms;
 use super::text::{self, comment, wrapped};
 use super::types::{declared, short};
@@ -82,7 +80,7 @@ impl<'a> Printer<'a> {
     fn text(&mut self, function: &Function, qualifier: &str) -> Done<String> {
         let (world, id) = (self.world, function.key.id);
         let head = wrapped(&self.head(function, qualifier)?);
-        self.block(&function.body)?;
+        self.statement(&function.body)?;
         let source = world.source(id);
         let place = format!("{}:{}", source.path.display(), source.line(world.item(id).span));
         // A function is explained once.
@@ -128,7 +126,7 @@ impl<'a> Printer<'a> {
     fn head(&mut self, function: &Function, qualifier: &str) -> Done<String> {
         (self.id, self.locals) = (function.key.id, function.locals.clone());
         (self.scopes, self.lines) = (vec![BTreeSet::new()], String::new());
-        let kinds = all_kinds(&function.body);
+        let kinds = function.body.kinds();
         let mut parameters = Vec::new();
         for local in &function.parameters {
             let of = &function.locals[*local].of;
@@ -137,7 +135,7 @@ impl<'a> Printer<'a> {
             }
             let name = self.name_local(*local);
             parameters.push(declared(&self.name(of)?, &name));
-            if !kinds.contains(&Kind::Local(*local)) {
+            if !kinds.contains(&&Kind::Local(*local)) {
                 self.lines += &format!("    (void){name};\n");
             }
         }
@@ -151,13 +149,6 @@ impl<'a> Printer<'a> {
         let line = wrapped(&format!("{}{line}", "    ".repeat(self.scopes.len() - 1)));
         self.lines += &line;
         self.lines.push('\n');
-    }
-
-    fn block(&mut self, body: &[Statement]) -> Done<()> {
-        self.scopes.push(BTreeSet::new());
-        body.iter().try_for_each(|statement| self.statement(statement))?;
-        self.scopes.pop();
-        Ok(())
     }
 
     // Gives a variable a name that hides no other.
@@ -174,34 +165,40 @@ impl<'a> Printer<'a> {
         free
     }
 
-    fn statement(&mut self, statement: &Statement) -> Done<()> {
-        match statement {
-            Statement::Comment(lines) => {
+    fn statement(&mut self, statement: &Term) -> Done<()> {
+        let parts = &statement.parts;
+        match &statement.kind {
+            Kind::Block => {
+                self.scopes.push(BTreeSet::new());
+                parts.iter().try_for_each(|it| self.statement(it))?;
+                self.scopes.pop();
+            }
+            Kind::Comment(lines) => {
                 let lines = lines.iter().map(String::as_str).collect();
                 self.lines += &comment(lines, &"    ".repeat(self.scopes.len() - 1));
             }
-            Statement::Declare { local, value } => self.declare(*local, value.as_ref())?,
-            Statement::Assign { place, value } => self.assign(place, value)?,
-            Statement::If { condition, then, otherwise } => {
-                self.with_term("if (", condition, ") {")?;
-                self.block(then)?;
-                if !otherwise.is_empty() {
+            Kind::Declare(local) => self.declare(*local, parts.first())?,
+            Kind::Assign => self.assign(&parts[0], &parts[1])?,
+            Kind::If => {
+                self.with_term("if (", &parts[0], ") {")?;
+                self.statement(&parts[1])?;
+                if !parts[2].parts.is_empty() {
                     self.line("} else {");
-                    self.block(otherwise)?;
+                    self.statement(&parts[2])?;
                 }
                 self.line("}");
             }
-            Statement::While { condition, body } => {
-                match condition.kind {
+            Kind::While => {
+                match parts[0].kind {
                     Kind::Boolean(true) => self.line("for (;;) {"),
-                    _ => self.with_term("while (", condition, ") {")?,
+                    _ => self.with_term("while (", &parts[0], ") {")?,
                 }
-                self.block(body)?;
+                self.statement(&parts[1])?;
                 self.line("}");
             }
-            Statement::Return(term) => self.with_term("return ", term, ";")?,
-            Statement::Break => self.line("break;"),
-            Statement::Continue => self.line("continue;"),
+            Kind::Break => self.line("break;"),
+            Kind::Continue => self.line("continue;"),
+            _ => self.with_term("return ", &parts[0], ";")?,
         }
         Ok(())
     }

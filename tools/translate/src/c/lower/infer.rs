@@ -1,7 +1,7 @@
 //! The types of variables, by unification. What has no rule here is refused.
 
 use super::{Done, Lowering};
-use crate::c::ir::{Callee, Form, Function, Integer, Kind, PLAIN, Statement, Term, Type};
+use crate::c::ir::{Callee, Form, Function, Integer, Kind, PLAIN, Term, Type};
 
 impl Lowering<'_, '_> {
     /// Returns a type that is not known yet.
@@ -81,7 +81,8 @@ impl Lowering<'_, '_> {
 
     /// Ends a function: all types get what was found, and calls the functions for them.
     pub fn finish(&mut self, key: &Callee, parameters: Vec<usize>) -> Done<Function> {
-        let mut body = std::mem::take(&mut self.statements);
+        let statements = std::mem::take(&mut self.statements);
+        let mut body = self.block_of(statements);
         self.end(&mut body, &mut Vec::new())?;
         for local in 0..self.locals.len() {
             self.locals[local].of = self.settled(&self.locals[local].of.clone())?;
@@ -94,26 +95,21 @@ impl Lowering<'_, '_> {
         Ok(Function { key: key.clone(), locals, constants, parameters, result, body })
     }
 
-    // Ends statements, from the last to the first, as variables that nothing reads behind them are removed.
-    fn end(&mut self, body: &mut Vec<Statement>, used: &mut Vec<Kind>) -> Done<()> {
-        for at in (0..body.len()).rev() {
-            if let Statement::Declare { local, value } = &body[at] {
-                let has_effect = value.as_ref().is_some_and(Term::has_effect);
-                if !has_effect && !used.contains(&Kind::Local(*local)) {
-                    body.remove(at);
-                    continue;
+    /// Ends a term, from its last part to the first, as variables that nothing reads behind them are removed.
+    pub fn end(&mut self, term: &mut Term, used: &mut Vec<Kind>) -> Done<()> {
+        for at in (0..term.parts.len()).rev() {
+            let part = &mut term.parts[at];
+            match part.kind {
+                Kind::Declare(local)
+                    if !part.has_effect() && !used.contains(&Kind::Local(local)) =>
+                {
+                    drop(term.parts.remove(at));
                 }
-            }
-            let (terms, blocks) = body[at].parts();
-            blocks.into_iter().try_for_each(|block| self.end(block, used))?;
-            for term in terms {
-                term.each(&mut |term| {
-                    used.push(term.kind.clone());
-                    self.settle(term)
-                })?;
+                _ => self.end(part, used)?,
             }
         }
-        Ok(())
+        used.push(term.kind.clone());
+        self.settle(term)
     }
 
     // Returns a type with all that matters of it.
@@ -125,8 +121,8 @@ impl Lowering<'_, '_> {
         }
     }
 
-    /// Gives a term its type, and to a call its function, which gets the constants that it needs.
-    pub fn settle(&mut self, term: &mut Term) -> Done<()> {
+    // Gives a term its type, and to a call its function, which gets the constants that it needs.
+    fn settle(&mut self, term: &mut Term) -> Done<()> {
         term.of = self.settled(&term.of)?;
         let Kind::Call(callee) = &mut term.kind else { return Ok(()) };
         callee.bindings.values_mut().for_each(|of| *of = self.full(of));

@@ -1,7 +1,7 @@
 //! Methods of numbers, slices and results.
 
 use super::{Done, Lowering, Target};
-use crate::c::ir::{BYTES, Form, Integer, Kind, PLAIN, Statement, Term, Type};
+use crate::c::ir::{BYTES, Form, Integer, Kind, PLAIN, Term, Type};
 use crate::c::world::integer;
 use crate::lexer::number;
 use crate::parser::parse;
@@ -126,14 +126,16 @@ impl Lowering<'_, '_> {
             return self.refuse("only `iter().filter(..)` and `take_while` are counted");
         };
         let otherwise = match step.text.as_str() {
-            "filter" => Statement::Continue,
-            "take_while" => Statement::Break,
+            "filter" => Kind::Continue,
+            "take_while" => Kind::Break,
             _ => return self.refuse("only `iter().filter(..)` and `take_while` are counted"),
         };
         let count = self.hold(self.size(0), "count", true);
         self.walk(&parts[0], slice, |it| {
             let test = it.term(&parts[1], &Type::Boolean)?;
-            it.push_if(test.negated(), vec![otherwise]);
+            let otherwise = it.make(otherwise, Vec::new(), Type::UNIT);
+            let leaving = it.when(test.negated(), vec![otherwise], Vec::new());
+            it.extend(vec![leaving]);
             it.advance(count.clone());
             Ok(it.unit())
         })?;

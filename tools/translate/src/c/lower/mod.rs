@@ -8,7 +8,7 @@ mod statements;
 mod values;
 
 use super::instances::{Attempt, Instances};
-use super::ir::{Bindings, Callee, Done, Id, Kind, LENGTH, Local, PLAIN, Statement, Term, Type};
+use super::ir::{Bindings, Callee, Done, Id, Kind, LENGTH, Local, PLAIN, Term, Type};
 use super::world::{Place, World};
 use crate::source::Span;
 use crate::tree::Node;
@@ -33,7 +33,7 @@ struct Lowering<'w, 'i> {
     /// What names stand for, those of inner scopes last.
     names: Vec<(String, Term)>,
     /// The statements of the block that is made.
-    statements: Vec<Statement>,
+    statements: Vec<Term>,
     result: Type,
     /// The name of the next variable that holds a value.
     hint: Option<String>,
@@ -54,7 +54,7 @@ pub fn function(instances: &mut Instances, key: &Callee, callee: &Callee) -> Don
     let made = lowering.function(key);
     match lowering.needed {
         Some(name) => Ok(Attempt::Needs(name)),
-        None => made.map(Attempt::Made),
+        None => made.map(|it| Attempt::Made(Box::new(it))),
     }
 }
 
@@ -69,7 +69,7 @@ pub fn constant(world: &World, id: Id) -> Done<Term> {
     };
     let of = world.type_in(&lowering.place, annotation)?;
     let mut term = lowering.alone("a constant", value.last(), &of)?;
-    term.each(&mut |it| lowering.settle(it))?;
+    lowering.end(&mut term, &mut Vec::new())?;
     Ok(term)
 }
 
@@ -211,12 +211,12 @@ impl<'w, 'i> Lowering<'w, 'i> {
     // Puts a value into a new variable.
     fn hold(&mut self, value: Term, name: &str, is_mutable: bool) -> Term {
         let local = self.variable(name, value.of.clone(), is_mutable);
-        self.push(Statement::Declare { local, value: Some(value) });
+        self.push(Kind::Declare(local), vec![value]);
         self.local(local)
     }
 
     // Makes something in a scope and a list of statements of its own.
-    fn apart<R>(&mut self, make: impl FnOnce(&mut Self) -> Done<R>) -> Done<(Vec<Statement>, R)> {
+    fn apart<R>(&mut self, make: impl FnOnce(&mut Self) -> Done<R>) -> Done<(Vec<Term>, R)> {
         let (before, names) = (std::mem::take(&mut self.statements), self.names.len());
         let made = make(self);
         self.names.truncate(names);
@@ -230,15 +230,23 @@ impl<'w, 'i> Lowering<'w, 'i> {
         Ok(term)
     }
 
-    // Nothing follows a statement that leaves.
-    fn push(&mut self, statement: Statement) {
-        if !self.statements.last().is_some_and(Statement::leaves) {
-            self.statements.push(statement);
-        }
+    // Adds a statement to the block that is made.
+    fn push(&mut self, kind: Kind, parts: Vec<Term>) {
+        let statement = self.make(kind, parts, Type::UNIT);
+        self.extend(vec![statement]);
     }
 
-    fn extend(&mut self, statements: Vec<Statement>) {
-        statements.into_iter().for_each(|statement| self.push(statement));
+    fn block_of(&self, statements: Vec<Term>) -> Term {
+        self.make(Kind::Block, statements, Type::UNIT)
+    }
+
+    // Nothing follows a statement that leaves.
+    fn extend(&mut self, statements: Vec<Term>) {
+        for statement in statements {
+            if !self.statements.last().is_some_and(Term::leaves) {
+                self.statements.push(statement);
+            }
+        }
     }
 
     // Evaluates an expression of any type.

@@ -155,7 +155,8 @@ impl Lowering<'_, '_> {
         match otherwise {
             Some(block) => {
                 let (leaving, _) = self.apart(|it| it.evaluate(block, Target::Nothing))?;
-                self.push_if(fit.test.negated(), leaving);
+                let leaving = self.when(fit.test.negated(), leaving, Vec::new());
+                self.extend(vec![leaving]);
             }
             None => {
                 let fits = fit.test.kind == Kind::Boolean(true);

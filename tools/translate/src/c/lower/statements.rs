@@ -2,13 +2,13 @@
 
 use super::patterns::{Fit, inner};
 use super::{Done, Lowering, Target};
-use crate::c::ir::{Kind, Statement, Term, Type};
+use crate::c::ir::{Kind, Term, Type};
 use crate::tree::Node;
 
 /// One way that an `if` or `match` goes on.
 struct Branch {
     test: Term,
-    statements: Vec<Statement>,
+    statements: Vec<Term>,
     value: Term,
 }
 
@@ -25,10 +25,10 @@ impl Lowering<'_, '_> {
             ("return", [value]) => {
                 self.evaluate(value, Target::Return)?;
             }
-            ("break", _) => self.push(Statement::Break),
+            ("break", _) => self.push(Kind::Break, Vec::new()),
             ("comments", _) => {
                 let lines = tree.comments().into_iter().map(String::from);
-                self.push(Statement::Comment(lines.collect()));
+                self.push(Kind::Comment(lines.collect()), Vec::new());
             }
             ("done", _) => {}
             ("let", [pattern, ..]) => self.let_statement(tree, pattern)?,
@@ -40,7 +40,7 @@ impl Lowering<'_, '_> {
                     _ => self.boolean(true),
                 };
                 let (body, _) = self.apart(|it| it.evaluate(body, Target::Nothing))?;
-                self.push(Statement::While { condition, body });
+                self.push(Kind::While, vec![condition, self.block_of(body)]);
             }
             ("for", [pattern, slice, body]) => {
                 self.walk(pattern, slice, |it| it.evaluate(body, Target::Nothing))?;
@@ -50,7 +50,7 @@ impl Lowering<'_, '_> {
                 value = self.value(tree)?;
                 if target == Target::Return {
                     let value = self.coerce(value.clone(), &self.result.clone())?;
-                    self.push(Statement::Return(value));
+                    self.push(Kind::Return, vec![value]);
                 } else if target == Target::Nothing && value.has_effect() {
                     return self.refuse("a value that nothing takes");
                 }
@@ -104,14 +104,14 @@ impl Lowering<'_, '_> {
             it.advance(at);
             make(it)
         })?;
-        self.push(Statement::While { condition, body });
+        self.push(Kind::While, vec![condition, self.block_of(body)]);
         Ok(())
     }
 
     pub fn advance(&mut self, place: Term) {
         let parts = vec![place.clone(), self.size(1)];
         let value = self.make(Kind::Binary("+"), parts, Type::SIZE);
-        self.push(Statement::Assign { place, value });
+        self.push(Kind::Assign, vec![place, value]);
     }
 
     // Puts an assignment into the current statements.
@@ -128,7 +128,7 @@ impl Lowering<'_, '_> {
             let parts = vec![place.clone(), value];
             value = self.make(Kind::Binary("+"), parts, place.of.clone());
         }
-        self.push(Statement::Assign { place, value });
+        self.push(Kind::Assign, vec![place, value]);
         Ok(())
     }
 
@@ -218,7 +218,7 @@ impl Lowering<'_, '_> {
         self.require(always.is_some(), "this form has no rule")?;
         // The last branch goes on if all others leave.
         let (value, others) = (branches[branches.len() - 1].value.clone(), branches.len() - 1);
-        let leaves = |it: &Branch| it.statements.last().is_some_and(Statement::leaves);
+        let leaves = |it: &Branch| it.statements.last().is_some_and(Term::leaves);
         if branches[..others].iter().all(leaves) {
             self.push_branches(branches);
             return Ok(value);
@@ -237,10 +237,10 @@ impl Lowering<'_, '_> {
             return self.expect(choice.map(|(_, choice)| choice), "no value");
         }
         let local = self.variable("chosen", of.clone(), false);
-        self.push(Statement::Declare { local, value: None });
+        self.push(Kind::Declare(local), Vec::new());
         for branch in &mut branches {
-            let value = branch.value.clone();
-            branch.statements.push(Statement::Assign { place: self.local(local), value });
+            let parts = vec![self.local(local), branch.value.clone()];
+            branch.statements.push(self.make(Kind::Assign, parts, Type::UNIT));
         }
         self.push_branches(branches);
         Ok(self.local(local))
@@ -248,23 +248,22 @@ impl Lowering<'_, '_> {
 
     // Puts branches into the current statements, as a chain of `if`.
     fn push_branches(&mut self, branches: Vec<Branch>) {
-        let chain = branches.into_iter().rev().fold(Vec::new(), |otherwise, branch| {
-            let Branch { test: condition, statements: then, .. } = branch;
-            // What follows a branch that leaves needs no `else`.
-            match (&condition.kind, then.last()) {
-                (Kind::Boolean(true), _) => then,
-                (_, Some(last)) if last.leaves() => {
-                    let first = Statement::If { condition, then, otherwise: Vec::new() };
-                    [vec![first], otherwise].concat()
-                }
-                _ => vec![Statement::If { condition, then, otherwise }],
-            }
-        });
+        let mut chain = Vec::new();
+        for Branch { test, statements, .. } in branches.into_iter().rev() {
+            let leaves = statements.last().is_some_and(Term::leaves);
+            chain = match test.kind {
+                Kind::Boolean(true) => statements,
+                // What follows a branch that leaves needs no `else`.
+                _ if leaves => [vec![self.when(test, statements, Vec::new())], chain].concat(),
+                _ => vec![self.when(test, statements, chain)],
+            };
+        }
         self.extend(chain);
     }
 
-    /// Puts an `if` without `else` into the current statements.
-    pub fn push_if(&mut self, condition: Term, then: Vec<Statement>) {
-        self.push(Statement::If { condition, then, otherwise: Vec::new() });
+    /// Returns an `if`.
+    pub fn when(&self, condition: Term, then: Vec<Term>, otherwise: Vec<Term>) -> Term {
+        let parts = vec![condition, self.block_of(then), self.block_of(otherwise)];
+        self.make(Kind::If, parts, Type::UNIT)
     }
 }
