@@ -7035,10 +7035,9 @@ TK_NOINLINE tk_guess tk_guess_after_i8(tk_slice_i8 numbers, size_t used, tk_byte
     while (at < numbers.len) {
         int8_t number = numbers.at[at];
         at++;
-        if (!tk_parts_i8(number).first) {
-            continue;
+        if (tk_parts_i8(number).first) {
+            count_2++;
         }
-        count_2++;
     }
     size_t minuses = count_2;
     size_t digits_and_ends = tk_size_saturating_sub(used, minuses);
@@ -7297,10 +7296,9 @@ TK_NOINLINE tk_guess tk_guess_after_u8(tk_bytes numbers, size_t used, tk_bytes r
     while (at < numbers.len) {
         uint8_t number = numbers.at[at];
         at++;
-        if (!tk_parts_u8(number).first) {
-            continue;
+        if (tk_parts_u8(number).first) {
+            count_2++;
         }
-        count_2++;
     }
     size_t minuses = count_2;
     size_t digits_and_ends = tk_size_saturating_sub(used, minuses);
@@ -7554,10 +7552,9 @@ TK_NOINLINE tk_guess tk_guess_after_i16(tk_slice_i16 numbers, size_t used, tk_by
     while (at < numbers.len) {
         int16_t number = numbers.at[at];
         at++;
-        if (!tk_parts_i16(number).first) {
-            continue;
+        if (tk_parts_i16(number).first) {
+            count_2++;
         }
-        count_2++;
     }
     size_t minuses = count_2;
     size_t digits_and_ends = tk_size_saturating_sub(used, minuses);
@@ -7808,10 +7805,9 @@ TK_NOINLINE tk_guess tk_guess_after_u16(tk_slice_u16 numbers, size_t used, tk_by
     while (at < numbers.len) {
         uint16_t number = numbers.at[at];
         at++;
-        if (!tk_parts_u16(number).first) {
-            continue;
+        if (tk_parts_u16(number).first) {
+            count_2++;
         }
-        count_2++;
     }
     size_t minuses = count_2;
     size_t digits_and_ends = tk_size_saturating_sub(used, minuses);
@@ -8065,10 +8061,9 @@ TK_NOINLINE tk_guess tk_guess_after_i32(tk_slice_i32 numbers, size_t used, tk_by
     while (at < numbers.len) {
         int32_t number = numbers.at[at];
         at++;
-        if (!tk_parts_i32(number).first) {
-            continue;
+        if (tk_parts_i32(number).first) {
+            count_2++;
         }
-        count_2++;
     }
     size_t minuses = count_2;
     size_t digits_and_ends = tk_size_saturating_sub(used, minuses);
@@ -8319,10 +8314,9 @@ TK_NOINLINE tk_guess tk_guess_after_u32(tk_slice_u32 numbers, size_t used, tk_by
     while (at < numbers.len) {
         uint32_t number = numbers.at[at];
         at++;
-        if (!tk_parts_u32(number).first) {
-            continue;
+        if (tk_parts_u32(number).first) {
+            count_2++;
         }
-        count_2++;
     }
     size_t minuses = count_2;
     size_t digits_and_ends = tk_size_saturating_sub(used, minuses);
@@ -8576,10 +8570,9 @@ TK_NOINLINE tk_guess tk_guess_after_i64(tk_slice_i64 numbers, size_t used, tk_by
     while (at < numbers.len) {
         int64_t number = numbers.at[at];
         at++;
-        if (!tk_parts_i64(number).first) {
-            continue;
+        if (tk_parts_i64(number).first) {
+            count_2++;
         }
-        count_2++;
     }
     size_t minuses = count_2;
     size_t digits_and_ends = tk_size_saturating_sub(used, minuses);
@@ -8830,10 +8823,9 @@ TK_NOINLINE tk_guess tk_guess_after_u64(tk_slice_u64 numbers, size_t used, tk_by
     while (at < numbers.len) {
         uint64_t number = numbers.at[at];
         at++;
-        if (!tk_parts_u64(number).first) {
-            continue;
+        if (tk_parts_u64(number).first) {
+            count_2++;
         }
-        count_2++;
     }
     size_t minuses = count_2;
     size_t digits_and_ends = tk_size_saturating_sub(used, minuses);
@@ -9092,10 +9084,9 @@ TK_NOINLINE tk_guess tk_guess_after_i128(tk_slice_i128 numbers, size_t used, tk_
     while (at < numbers.len) {
         tk_i128 number = numbers.at[at];
         at++;
-        if (!tk_parts_i128(number).first) {
-            continue;
+        if (tk_parts_i128(number).first) {
+            count_2++;
         }
-        count_2++;
     }
     size_t minuses = count_2;
     size_t digits_and_ends = tk_size_saturating_sub(used, minuses);
@@ -9351,10 +9342,9 @@ TK_NOINLINE tk_guess tk_guess_after_u128(tk_slice_u128 numbers, size_t used, tk_
     while (at < numbers.len) {
         tk_u128 number = numbers.at[at];
         at++;
-        if (!tk_parts_u128(number).first) {
-            continue;
+        if (tk_parts_u128(number).first) {
+            count_2++;
         }
-        count_2++;
     }
     size_t minuses = count_2;
     size_t digits_and_ends = tk_size_saturating_sub(used, minuses);

@@ -4,6 +4,7 @@
 use crate::source::{Source, Span};
 
 /// What a rule has read.
+#[derive(Clone)]
 pub struct Node {
     /// The name of the rule, and the part of that name before the point.
     pub rule: &'static str,

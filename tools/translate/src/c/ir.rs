@@ -90,7 +90,6 @@ pub enum Kind {
     While,
     Return,
     Break,
-    Continue,
     // A number, and with how many hexadecimal digits it is written, or 0.
     Number { value: u128, hexadecimal: usize },
     Byte(u8),
@@ -232,7 +231,7 @@ impl Term {
 
     /// Says whether nothing runs behind this statement.
     pub fn leaves(&self) -> bool {
-        matches!(self.kind, Kind::Return | Kind::Break | Kind::Continue)
+        matches!(self.kind, Kind::Return | Kind::Break)
     }
 
     /// Says whether this term or one in it fulfils a condition.

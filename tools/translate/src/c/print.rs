@@ -197,7 +197,6 @@ impl<'a> Printer<'a> {
                 self.line("}");
             }
             Kind::Break => self.line("break;"),
-            Kind::Continue => self.line("continue;"),
             _ => self.with_term("return ", &parts[0], ";")?,
         }
         Ok(())

@@ -6,11 +6,13 @@ use crate::c::world::integer;
 use crate::lexer::number;
 use crate::parser::parse;
 use crate::source::{Source, Span};
+use crate::std_names::has;
 use crate::tree::Node;
 use std::path::Path;
 
-/// Methods that are blocks: a name, what the operands are called, and the block, in which `COUNT` is the number that a
-/// call writes. What only these blocks call are functions of the prelude, and the first and last bytes of a slice.
+/// Forms that are blocks: a name, what the operands are called, and the block. Capital names stand for trees: `COUNT` for
+/// the number that a call writes. Names with `_` hide none of theirs. What only these blocks call are functions of the
+/// prelude, and bytes and elements of a slice.
 const BLOCKS: &str = "\
 first_chunk all = { if all.len() >= COUNT { Some(all.first_bytes::<COUNT>()) } else { None } }
 last_chunk all = { if all.len() >= COUNT { Some(all.last_bytes::<COUNT>()) } else { None } }
@@ -20,7 +22,12 @@ split_at_checked all at = { if at <= all.len() { Some((&all[..at], &all[at..])) 
 copy_from_slice to from = { let mut at = 0; while at < from.len() { to[at] = from[at]; at += 1; } }
 checked_add left right = { if left.sum_fits(right) { Some(left + right) } else { None } }
 checked_mul left right = { if left.product_fits(right) { Some(left * right) } else { None } }
-ok found = { match found { Ok(value) => Some(value), Err(_) => None } }";
+ok found = { match found { Ok(value) => Some(value), Err(_) => None } }
+Option? found = { match found { None => return None, Some(value) => value } }
+Result? found = { match found { Err(error) => return Err(error), Ok(value) => value } }
+for _all = { let mut _at = 0; while _at < _all.len() { let PATTERN = _all.element(_at); _at += 1; BODY } }
+filter() _all = { let mut _count: usize = 0; for PATTERN in _all { if TEST { _count += 1; } } _count }
+take_while() _all = { let mut _count: usize = 0; for PATTERN in _all { if !TEST { break; } _count += 1; } _count }";
 
 impl Lowering<'_, '_> {
     /// Evaluates a call of a method.
@@ -45,28 +52,24 @@ impl Lowering<'_, '_> {
             return self.call_of(callee, generics, Some(receiver), arguments);
         }
         let terms = self.operands(Some(target), arguments)?;
-        let count = generics.parts.iter().find(|it| it.kind == "integer");
-        let count = count.map_or("COUNT", |it| &it.text);
-        for (head, block) in BLOCKS.lines().filter_map(|line| line.split_once(" = ")) {
-            let names: Vec<&str> = head.split(' ').collect();
-            if names[0] == name && names.len() == 1 + terms.len() {
-                return self.defined(&names[1..], terms, &block.replace("COUNT", count));
-            }
-        }
         match of {
             Type::Integer(own) => self.of_number(name, terms, own),
-            Type::Of(Form::Slice { .. }, _) => self.of_slice(name, &terms, number(count)),
-            _ => self.refuse("this method has no rule"),
+            Type::Of(Form::Slice { .. }, _) => self.of_slice(name, terms, generics.parts.first()),
+            _ => self.defined(name, terms, &[]),
         }
     }
 
-    /// Evaluates a block that stands for a form. Names stand for the operands in it.
-    pub fn defined(&mut self, names: &[&str], terms: Vec<Term>, block: &str) -> Done<Term> {
+    /// Evaluates the block that stands for a form. Names stand for the operands in it, and for trees.
+    pub fn defined(&mut self, name: &str, terms: Vec<Term>, trees: &[(&str, &Node)]) -> Done<Term> {
+        let rows = BLOCKS.lines().filter_map(|row| row.split_once(" = "));
+        let mut rows = rows.map(|(head, block)| (Vec::from_iter(head.split(' ')), block));
+        let row = rows.find(|(head, _)| head[0] == name && head.len() == 1 + terms.len());
+        let (head, block) = self.expect(row, "this method has no rule")?;
         let mut block = parse(&Source::new(Path::new("C"), block.into()), "block")?;
-        block.iter_mut().for_each(|it| put_at(it, self.at));
+        block.iter_mut().for_each(|it| fill(it, trees, self.at));
         let hint = self.hint.take();
         let outer = self.names.len();
-        for (name, term) in names.iter().zip(terms) {
+        for (name, term) in head[1..].iter().zip(terms) {
             let kept = match &hint {
                 Some(hint) if *name == "found" => self.keep(term, &format!("{hint}_found")),
                 _ => self.keep(term, name),
@@ -96,55 +99,53 @@ impl Lowering<'_, '_> {
                 let unsigned = integer(&own.0.replace('i', "u")).unwrap_or(of);
                 (Kind::Small(name.into()), unsigned)
             }
-            _ => return self.refuse("this method has no rule"),
+            _ => return self.defined(name, terms, &[]),
         };
         Ok(self.make(kind, terms, of))
     }
 
-    fn of_slice(&mut self, name: &str, terms: &[Term], count: Option<u128>) -> Done<Term> {
-        let [slice] = terms else { return self.refuse("this method has no rule") };
-        match (name, count) {
-            ("len", None) => Ok(self.length(slice)),
-            ("is_empty", None) => Ok(self.test("==", self.length(slice), self.size(0))),
+    fn of_slice(&mut self, name: &str, terms: Vec<Term>, count: Option<&Node>) -> Done<Term> {
+        match (name, terms.as_slice(), count.and_then(|it| number(&it.text))) {
+            ("len", [slice], None) => Ok(self.length(slice)),
+            ("is_empty", [slice], None) => Ok(self.test("==", self.length(slice), self.size(0))),
             // Only `for` and `count` take it.
-            ("iter", None) => Ok(slice.clone()),
-            ("first_bytes", Some(count)) => {
-                let of = Type::array(Type::BYTE, count);
-                Ok(self.make(Kind::Field(PLAIN, BYTES), vec![slice.clone()], of))
+            ("iter", [slice], None) => Ok(slice.clone()),
+            ("element", [slice, at], None) => {
+                self.element(slice.clone(), at.clone(), Kind::Element)
             }
-            ("last_bytes", Some(count)) => {
-                let of = Type::array(Type::BYTE, count);
-                Ok(self.make(Kind::Last, vec![slice.clone(), self.size(count)], of))
+            ("first_bytes", [_], Some(count)) => {
+                Ok(self.make(Kind::Field(PLAIN, BYTES), terms, Type::array(Type::BYTE, count)))
             }
-            _ => self.refuse("this method has no rule"),
+            ("last_bytes", [slice], Some(count)) => {
+                let parts = vec![slice.clone(), self.size(count)];
+                Ok(self.make(Kind::Last, parts, Type::array(Type::BYTE, count)))
+            }
+            _ => self.defined(name, terms, &Vec::from_iter(count.map(|it| ("COUNT", it)))),
         }
     }
 
-    // `SLICE.iter().filter(..).count()` or with `take_while`, as a loop.
+    // `SLICE.iter().filter(..).count()` or with `take_while`.
     fn count(&mut self, steps: &Node) -> Done<Term> {
-        let [slice, step, _, Node { kind: "closure", parts, .. }] = &steps.parts[..] else {
-            return self.refuse("only `iter().filter(..)` and `take_while` are counted");
-        };
-        let otherwise = match step.text.as_str() {
-            "filter" => Kind::Continue,
-            "take_while" => Kind::Break,
-            _ => return self.refuse("only `iter().filter(..)` and `take_while` are counted"),
-        };
-        let count = self.hold(self.size(0), "count", true);
-        self.walk(&parts[0], slice, |it| {
-            let test = it.term(&parts[1], &Type::Boolean)?;
-            let otherwise = it.make(otherwise, Vec::new(), Type::UNIT);
-            let leaving = it.when(test.negated(), vec![otherwise], Vec::new());
-            it.extend(vec![leaving]);
-            it.advance(count.clone());
-            Ok(it.unit())
-        })?;
-        Ok(count)
+        match &steps.parts[..] {
+            [slice, step, _, Node { kind: "closure", parts, .. }]
+                if has("filter take_while", &step.text) =>
+            {
+                let slice = self.any(slice)?;
+                let trees = [("PATTERN", &parts[0]), ("TEST", &parts[1])];
+                self.defined(&format!("{}()", step.text), vec![slice], &trees)
+            }
+            _ => self.refuse("only `iter().filter(..)` and `take_while` are counted"),
+        }
     }
 }
 
-// Gives all of a tree one place in a source.
-fn put_at(tree: &mut Node, span: Span) {
-    tree.span = span;
-    tree.parts.iter_mut().for_each(|it| put_at(it, span));
+// Gives all of a tree one place in a source, but other trees where their names are in it.
+fn fill(tree: &mut Node, trees: &[(&str, &Node)], span: Span) {
+    let given = trees.iter().find(|(name, _)| tree.kind == "path" && tree.names() == [*name]);
+    if let Some((_, given)) = given {
+        *tree = Node::clone(given);
+    } else {
+        tree.span = span;
+        tree.parts.iter_mut().for_each(|it| fill(it, trees, span));
+    }
 }

@@ -43,7 +43,10 @@ impl Lowering<'_, '_> {
                 self.push(Kind::While, vec![condition, self.block_of(body)]);
             }
             ("for", [pattern, slice, body]) => {
-                self.walk(pattern, slice, |it| it.evaluate(body, Target::Nothing))?;
+                let slice = self.any(slice)?;
+                let is_slice = self.known(&slice.of).is_slice();
+                self.require(is_slice, "a loop over this has no rule")?;
+                self.defined("for", vec![slice], &[("PATTERN", pattern), ("BODY", body)])?;
             }
             ("assign", [place, sign, value]) => self.assign(sign.text == "+=", place, value)?,
             _ => {
@@ -84,34 +87,6 @@ impl Lowering<'_, '_> {
         let found = self.term(&tree.parts[1 + usize::from(annotation.is_some())], &of)?;
         self.hint = None;
         self.destructure(pattern, found, tree.get("otherwise").map(Node::last))
-    }
-
-    /// Walks over a slice: makes what is done with an element, which a pattern takes.
-    pub fn walk(
-        &mut self,
-        pattern: &Node,
-        slice: &Node,
-        make: impl FnOnce(&mut Self) -> Done<Term>,
-    ) -> Done<()> {
-        let slice = self.any(slice)?;
-        let slice = self.keep(slice, "all");
-        self.require(self.known(&slice.of).is_slice(), "a loop over this has no rule")?;
-        let at = self.hold(self.size(0), "at", true);
-        let condition = self.test("<", at.clone(), self.length(&slice));
-        let (body, _) = self.apart(|it| {
-            let element = it.element(slice, at.clone(), Kind::Element)?;
-            it.destructure(pattern, element, None)?;
-            it.advance(at);
-            make(it)
-        })?;
-        self.push(Kind::While, vec![condition, self.block_of(body)]);
-        Ok(())
-    }
-
-    pub fn advance(&mut self, place: Term) {
-        let parts = vec![place.clone(), self.size(1)];
-        let value = self.make(Kind::Binary("+"), parts, Type::SIZE);
-        self.push(Kind::Assign, vec![place, value]);
     }
 
     // Puts an assignment into the current statements.

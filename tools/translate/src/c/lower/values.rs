@@ -247,12 +247,7 @@ impl Lowering<'_, '_> {
         let hint = self.hint.take();
         let found = self.any(value)?;
         self.hint = hint;
-        let block = match self.known(&found.of) {
-            Type::Of(Form::Option, _) => {
-                "{ match found { None => return None, Some(value) => value } }"
-            }
-            _ => "{ match found { Err(error) => return Err(error), Ok(value) => value } }",
-        };
-        self.defined(&["found"], vec![found], block)
+        let is_option = matches!(self.known(&found.of), Type::Of(Form::Option, _));
+        self.defined(if is_option { "Option?" } else { "Result?" }, vec![found], &[])
     }
 }
