@@ -1,6 +1,6 @@
 //! The functions that are printed: each generic one for the types that matter to it, from what is asked for.
 
-use super::ir::{Bindings, Callee, Done, Function, Kind};
+use super::ir::{Bindings, Done, Function, Instance, Kind};
 use super::lower;
 use super::world::World;
 use std::collections::{BTreeMap, BTreeSet};
@@ -9,7 +9,7 @@ use std::collections::{BTreeMap, BTreeSet};
 /// each parameter of which more than constants matters.
 pub struct Instances<'w> {
     pub world: &'w World<'w>,
-    tried: BTreeMap<Callee, Attempt>,
+    tried: BTreeMap<Instance, Attempt>,
 }
 
 pub enum Attempt {
@@ -25,8 +25,8 @@ impl<'w> Instances<'w> {
     }
 
     /// Adds a function for what its parameters stand for, and all that it calls. Returns it with those that matter.
-    pub fn add(&mut self, callee: &Callee) -> Done<Callee> {
-        let mut key = Callee { id: callee.id, bindings: Bindings::new() };
+    pub fn add(&mut self, callee: &Instance) -> Done<Instance> {
+        let mut key = Instance { id: callee.id, bindings: Bindings::new() };
         loop {
             match self.tried.get(&key) {
                 Some(Attempt::Needs(name)) => {
@@ -47,7 +47,7 @@ impl<'w> Instances<'w> {
         }
     }
 
-    pub fn get(&self, key: &Callee) -> Option<&Function> {
+    pub fn get(&self, key: &Instance) -> Option<&Function> {
         if let Some(Attempt::Made(function)) = self.tried.get(key) { Some(function) } else { None }
     }
 
@@ -55,9 +55,9 @@ impl<'w> Instances<'w> {
     /// not looked into.
     pub fn reached<'s>(
         &'s self,
-        keys: impl Iterator<Item = &'s Callee>,
+        keys: impl Iterator<Item = &'s Instance>,
         is_end: &dyn Fn(&Function) -> bool,
-    ) -> (Vec<&'s Function>, BTreeSet<Callee>) {
+    ) -> (Vec<&'s Function>, BTreeSet<Instance>) {
         let (mut found, mut seen) = (Vec::new(), BTreeSet::new());
         keys.for_each(|key| self.visit(key, is_end, &mut found, &mut seen));
         (found, seen)
@@ -65,10 +65,10 @@ impl<'w> Instances<'w> {
 
     fn visit<'s>(
         &'s self,
-        key: &Callee,
+        key: &Instance,
         is_end: &dyn Fn(&Function) -> bool,
         found: &mut Vec<&'s Function>,
-        seen: &mut BTreeSet<Callee>,
+        seen: &mut BTreeSet<Instance>,
     ) {
         let Some(function) = self.get(key).filter(|_| seen.insert(key.clone())) else { return };
         let inner = if is_end(function) { Vec::new() } else { called(function) };
@@ -78,7 +78,7 @@ impl<'w> Instances<'w> {
 }
 
 /// Returns the functions that a function calls.
-pub fn called(function: &Function) -> Vec<Callee> {
+pub fn called(function: &Function) -> Vec<Instance> {
     let callees = function.body.kinds().into_iter().filter_map(|kind| match kind {
         Kind::Call(callee) => Some(callee.clone()),
         _ => None,

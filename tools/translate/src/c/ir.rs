@@ -41,9 +41,9 @@ pub enum Form {
 /// The types that generic parameters stand for.
 pub type Bindings = BTreeMap<String, Type>;
 
-/// A function, and what its generic parameters stand for.
+/// A function or another item, and what generic parameters stand for in it.
 #[derive(Clone, Debug, PartialEq, Eq, PartialOrd, Ord)]
-pub struct Callee {
+pub struct Instance {
     pub id: Id,
     pub bindings: Bindings,
 }
@@ -51,7 +51,7 @@ pub struct Callee {
 /// A function for what those of its parameters stand for that matter.
 #[derive(Clone, Debug)]
 pub struct Function {
-    pub key: Callee,
+    pub key: Instance,
     pub locals: Vec<Local>,
     /// The constants of other parameters, by the parameter and their place in its `impl`. They and the constants of
     /// its generics are its first parameters.
@@ -99,7 +99,7 @@ pub enum Kind {
     Elements,
     Local(usize),
     Constant(Id),
-    Call(Callee),
+    Call(Instance),
     Binary(&'static str),
     Wrapping(&'static str),
     Not,

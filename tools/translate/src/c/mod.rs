@@ -13,10 +13,10 @@ pub mod world;
 use crate::checks;
 use crate::modules::Package;
 use crate::resolve::Scopes;
-use crate::source::{Fault, Source};
+use crate::source::Source;
 use crate::std_names::has;
 use instances::Instances;
-use ir::{Bindings, Callee, Done, Form, Function, Type};
+use ir::{Done, Function, Instance, Type};
 use print::{Printer, qualifier};
 use std::collections::BTreeSet;
 use std::path::Path;
@@ -25,13 +25,13 @@ use world::World;
 /// The types whose calls C has.
 const TYPES: &str = "i8 u8 i16 u16 i32 u32 i64 u64 i128 u128";
 
-/// What C calls, for each of these types: functions by their paths, `T::` for one of the type.
+/// What C calls, for each of these types: functions by their paths, in which `T` is the type.
 const ROOTS: &str = "atoi_fast::one_digit atoi_fast::quick_slice atoi_fast::long_slice atoi_fast::quick_field \
-    atoi_fast::quick_prefix atoi_fast::prefix_by_digits atoi_fast::whole_by_digits T::atoi_simd_parse T::atoi_simd_parse_prefix \
-    T::atoi_simd_parse_pos T::atoi_simd_parse_prefix_pos atoi_core::AtoiSimdError::text \
-    atoi_formats::canonical atoi_formats::json_integer atoi_column::is_separator atoi_column::Fields::new \
-    atoi_column::Fields::lines atoi_column::Fields::position atoi_column::Fields::next \
-    atoi_column::Fields::read";
+    atoi_fast::quick_prefix atoi_fast::prefix_by_digits atoi_fast::whole_by_digits atoi_simd::T::atoi_simd_parse \
+    atoi_simd::T::atoi_simd_parse_prefix atoi_simd::T::atoi_simd_parse_pos \
+    atoi_simd::T::atoi_simd_parse_prefix_pos atoi_core::AtoiSimdError::text atoi_formats::canonical \
+    atoi_formats::json_integer atoi_column::is_separator atoi_column::Fields::new atoi_column::Fields::lines \
+    atoi_column::Fields::position atoi_column::Fields::next atoi_column::Fields::read";
 
 /// What of this is in `torkettle.h`, and what of that a compiler of C++20 may call, with all that it calls.
 const INLINE: &str = "atoi_fast::one_digit atoi_fast::quick_field atoi_fast::quick_prefix atoi_fast::prefix_by_digits \
@@ -51,7 +51,7 @@ const COMMON: &str = "i32 u32 i64 u64";
 const CALLED_BY_OTHERS: &str = "atoi_column::read_part atoi_fast::prefix_pos";
 
 /// Says whether C calls a function that Rust inlines.
-pub fn is_called(world: &World, key: &Callee) -> bool {
+pub fn is_called(world: &World, key: &Instance) -> bool {
     let name = format!("{}::{}", world.module(key.id).crate_name, world.name(key.id));
     let is_common = |of: &Type| of.integer().is_some_and(|it| has(COMMON, it.0));
     let is_for_others = key.bindings.get("T").is_some_and(|of| !is_common(of));
@@ -92,7 +92,8 @@ pub fn print(world: &World, roots: &str, types: &str, is_checked: bool) -> Done<
     let mut instances = Instances::new(world);
     let mut keys = Vec::new();
     for path in roots.split_whitespace() {
-        for callee in callees(world, path, types)? {
+        for of in types.split_whitespace().filter_map(world::integer) {
+            let callee = lower::root(&mut instances, path, of)?;
             keys.push((instances.add(&callee)?, path));
         }
     }
@@ -119,32 +120,4 @@ pub fn print(world: &World, roots: &str, types: &str, is_checked: bool) -> Done<
     let inline = printer.take();
     rest.iter().try_for_each(|it| printer.function(it, qualifier(it)))?;
     Ok((inline, printer.take()))
-}
-
-// Returns what a path names, for each type if it has a parameter.
-fn callees(world: &World, path: &str, types: &str) -> Done<Vec<Callee>> {
-    let names: Vec<&str> = path.split("::").collect();
-    let callee = |of: &Type| {
-        if let ["T", name] = names[..] {
-            return world.member(of, name);
-        }
-        let found = world.scopes.resolve(0, &names)?;
-        let id = found.definition.item()?;
-        match names[found.used..] {
-            [member] => {
-                let arguments = vec![of.clone(); world.parameters(id).len()];
-                world.member(&Type::Of(Form::Item(id), arguments), member)
-            }
-            [] => Some(Callee { id, bindings: Bindings::new() }),
-            _ => None,
-        }
-    };
-    let mut found = Vec::new();
-    for of in types.split_whitespace().filter_map(world::integer) {
-        let missing = || Fault::of_file(Path::new("C"), format!("no `{path}`"));
-        let mut callee = callee(&of).ok_or_else(missing)?;
-        callee.bindings.insert("T".into(), of);
-        found.push(callee);
-    }
-    Ok(found)
 }

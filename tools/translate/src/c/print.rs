@@ -1,7 +1,7 @@
 //! Functions and their statements as C.
 
 use super::instances::called;
-use super::ir::{Bindings, Callee, Done, Form, Function, Id, Kind, Local, Term, Type};
+use super::ir::{Bindings, Done, Form, Function, Id, Instance, Kind, Local, Term, Type};
 use super::terms;
 use super::text::{self, comment, wrapped};
 use super::types::{declared, short};
@@ -14,7 +14,7 @@ pub struct Printer<'a> {
     pub world: &'a World<'a>,
     /// The definitions of types.
     pub definitions: Vec<String>,
-    pub names: BTreeMap<Callee, String>,
+    pub names: BTreeMap<Instance, String>,
     /// Whether operators say that nothing overflows.
     pub is_checked: bool,
     /// Small functions and constants.
@@ -267,8 +267,8 @@ pub fn qualifier(world: &World, function: &Function) -> &'static str {
 
 // Returns the names of functions. Those of one name get what they differ in: the engine that is chosen, which has no
 // bytes, or their modules.
-fn names(world: &World, functions: &[&Function]) -> Done<BTreeMap<Callee, String>> {
-    let mut named: BTreeMap<String, Vec<&Callee>> = BTreeMap::new();
+fn names(world: &World, functions: &[&Function]) -> Done<BTreeMap<Instance, String>> {
+    let mut named: BTreeMap<String, Vec<&Instance>> = BTreeMap::new();
     for function in functions {
         named.entry(plain_name(world, &function.key)?).or_default().push(&function.key);
     }
@@ -292,12 +292,12 @@ fn names(world: &World, functions: &[&Function]) -> Done<BTreeMap<Callee, String
 }
 
 // Returns the types that a function is for, those with or without bytes.
-fn chosen(world: &World, key: &Callee, is_zero: bool) -> String {
+fn chosen(world: &World, key: &Instance, is_zero: bool) -> String {
     let chosen = key.bindings.values().filter(|of| world.is_zero(of) == is_zero);
     chosen.map(|of| format!("_{}", short(world, of))).collect()
 }
 
-fn plain_name(world: &World, key: &Callee) -> Done<String> {
+fn plain_name(world: &World, key: &Instance) -> Done<String> {
     let name = text::snake(world.name(key.id));
     let place = world.place(key.id, &Bindings::new())?;
     let name = match place.bindings.get("Self") {

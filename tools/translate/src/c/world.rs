@@ -1,6 +1,6 @@
 //! What the sources declare: functions, constants, types and their members, by their numbers.
 
-use super::ir::{Bindings, Callee, Done, Form, Id, Integer, Type};
+use super::ir::{Bindings, Done, Form, Id, Instance, Integer, Type};
 use crate::lexer::number;
 use crate::modules::Module;
 use crate::resolve::{Definition, Resolved, Scopes};
@@ -26,13 +26,6 @@ pub struct Variant {
     pub fields: Vec<(String, Type)>,
 }
 
-/// Where a type is written: its module, and what `Self` and the parameters stand for.
-#[derive(Clone)]
-pub struct Place {
-    pub module: usize,
-    pub bindings: Bindings,
-}
-
 impl<'a> World<'a> {
     pub fn new(scopes: &'a Scopes<'a>) -> World<'a> {
         let mut world = World { scopes, implementations: Vec::new() };
@@ -43,7 +36,7 @@ impl<'a> World<'a> {
             for (item, it) in items.filter(|(_, it)| it.kind == "implementation") {
                 let id = Id { module, item, member: None };
                 // What C has no type for has no functions in C.
-                let Ok(Place { bindings, .. }) = world.place(id, &Bindings::new()) else {
+                let Ok(Instance { bindings, .. }) = world.place(id, &Bindings::new()) else {
                     continue;
                 };
                 let of_trait = it.of_trait().and_then(|path| world.trait_of(module, path));
@@ -87,14 +80,14 @@ impl<'a> World<'a> {
     }
 
     /// Returns the place in an item: what it and its owner declare, and what is known of that.
-    pub fn place(&self, id: Id, known: &Bindings) -> Done<Place> {
+    pub fn place(&self, id: Id, known: &Bindings) -> Done<Instance> {
         let own = Id { member: None, ..id };
         let mut names = [self.parameters(own), self.parameters(id)].concat();
         if self.owner(id).kind == "trait" {
             names.push("Self".into());
         }
         let open = names.into_iter().map(|name| (name.clone(), Type::Parameter(name)));
-        let mut place = Place { module: id.module, bindings: open.collect() };
+        let mut place = Instance { id, bindings: open.collect() };
         place.bindings.extend(known.clone());
         if self.owner(id).kind == "implementation" {
             let target = self.type_in(&place, self.owner(id).target())?;
@@ -104,7 +97,7 @@ impl<'a> World<'a> {
     }
 
     /// Returns the type that is written at a place.
-    pub fn type_in(&self, place: &Place, tree: &Node) -> Done<Type> {
+    pub fn type_in(&self, place: &Instance, tree: &Node) -> Done<Type> {
         let part = |at: usize| self.type_in(place, &tree.parts[at]);
         match (tree.kind, tree.parts.as_slice()) {
             ("path", segments) => self.named_type(place, segments),
@@ -124,18 +117,18 @@ impl<'a> World<'a> {
         }
     }
 
-    fn unknown_type(&self, place: &Place, tree: &Node) -> Fault {
-        self.scopes.module(place.module).source.fault(tree.span, "C: this type has no rule")
+    fn unknown_type(&self, place: &Instance, tree: &Node) -> Fault {
+        self.fault(place.id, tree.span, "C: this type has no rule")
     }
 
     /// Returns the type that the names of a path, or the first of them, stand for at a place.
-    pub fn named_type(&self, place: &Place, path: &[Node]) -> Done<Type> {
+    pub fn named_type(&self, place: &Instance, path: &[Node]) -> Done<Type> {
         let names: Vec<&str> = path.iter().map(Node::name).collect();
         if let ([_], Some(known)) = (&names[..], place.bindings.get(names[0])) {
             return Ok(known.clone());
         }
         let unknown = || self.unknown_type(place, &path[0]);
-        let found = self.scopes.resolve(place.module, &names).ok_or_else(unknown)?;
+        let found = self.scopes.resolve(place.id.module, &names).ok_or_else(unknown)?;
         let arguments = path[path.len() - 1].last().parts.iter();
         let arguments = arguments.map(|it| self.type_in(place, it)).collect::<Done<Vec<Type>>>()?;
         match found.definition {
@@ -150,7 +143,7 @@ impl<'a> World<'a> {
     }
 
     // Returns the place in an item for what its parameters stand for.
-    fn place_of(&self, id: Id, arguments: &[Type]) -> Done<Place> {
+    fn place_of(&self, id: Id, arguments: &[Type]) -> Done<Instance> {
         let known = self.parameters(id).into_iter().zip(arguments.iter().cloned()).collect();
         self.place(id, &known)
     }
@@ -196,7 +189,7 @@ impl<'a> World<'a> {
     }
 
     // Returns the fields of a struct or a variant. Without names, they are called `0`, `1` and so on.
-    fn variant(&self, place: &Place, name: &str, tree: &Node) -> Done<Variant> {
+    fn variant(&self, place: &Instance, name: &str, tree: &Node) -> Done<Variant> {
         let is_field =
             |it: &&Node| ["field", "path", "reference", "tuple", "list"].contains(&it.kind);
         let field = |(number, it): (usize, &Node)| match it.kind {
@@ -229,21 +222,21 @@ impl<'a> World<'a> {
     }
 
     /// Finds a member of a type by its name: one of its own, or one that a trait of it provides.
-    pub fn member(&self, of: &Type, name: &str) -> Option<Callee> {
+    pub fn member(&self, of: &Type, name: &str) -> Option<Instance> {
         let all = self.implementations.iter();
         let fitting = all.filter_map(|it| Some((it, matched(&it.target, of)?)));
         let own = |(it, bindings): (&Implementation, Bindings)| {
-            Some(Callee { id: self.position(it.id, name)?, bindings })
+            Some(Instance { id: self.position(it.id, name)?, bindings })
         };
         let provided = |(it, _): (&Implementation, _)| self.provided(it.of_trait?, of, name);
         fitting.clone().find_map(own).or_else(|| fitting.clone().find_map(provided))
     }
 
     // Finds a member of a trait or of those before it.
-    fn provided(&self, id: Id, of: &Type, name: &str) -> Option<Callee> {
+    fn provided(&self, id: Id, of: &Type, name: &str) -> Option<Instance> {
         if let Some(id) = self.position(id, name) {
             let bindings = Bindings::from([("Self".to_string(), of.clone())]);
-            return Some(Callee { id, bindings });
+            return Some(Instance { id, bindings });
         }
         let bound = self.item(id).get("path")?;
         self.provided(self.trait_of(id.module, bound)?, of, name)

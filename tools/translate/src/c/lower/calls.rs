@@ -1,7 +1,7 @@
 //! Paths and calls. Calls of laws, which return nothing and change nothing, vanish.
 
 use super::{Done, Lowering, signature};
-use crate::c::ir::{Bindings, Callee, ERR, Form, Id, Kind, NONE, OK, PLAIN, SOME, Term, Type};
+use crate::c::ir::{Bindings, ERR, Form, Id, Instance, Kind, NONE, OK, PLAIN, SOME, Term, Type};
 use crate::c::world::integer;
 use crate::resolve::Definition;
 use crate::tree::Node;
@@ -20,7 +20,7 @@ impl Lowering<'_, '_> {
     /// Returns what a path names that is no variable.
     pub fn named<'p>(&mut self, path: &'p Node) -> Done<Named<'p>> {
         let (last, before) = (path.parts.len() - 1, &path.parts[..path.parts.len() - 1]);
-        let found = self.world.resolve(self.place.module, path);
+        let found = self.world.resolve(self.place.id.module, path);
         let used = found.as_ref().map_or(0, |it| it.used);
         let is_own = last == 1 && self.place.bindings.contains_key(before[0].name());
         Ok(match found.map(|it| it.definition) {
@@ -104,24 +104,29 @@ impl Lowering<'_, '_> {
                 return Ok(self.make(Kind::Small("load".into()), vec![value], Type::Integer(of)));
             }
         }
-        let callee = match self.named(path)? {
-            Named::Variant(of, variant) => {
-                let fields = self.fields_of(&of, variant)?.into_iter().map(|(_, of)| of);
-                let fields: Vec<Type> = fields.collect();
-                self.require(fields.len() == arguments.len(), "another number of fields")?;
-                let terms = self.operands(None, arguments)?;
-                let terms = self.coerce_all(terms, &fields)?;
-                return Ok(self.make(Kind::Make(variant), terms, of));
-            }
-            Named::Member(owner, name) => self.member(&owner, name)?,
-            Named::Item(id) => Callee { id, bindings: Bindings::new() },
-            Named::Unknown => return self.refuse("this function has no rule"),
-        };
+        if let Named::Variant(of, variant) = self.named(path)? {
+            let fields = self.fields_of(&of, variant)?.into_iter().map(|(_, of)| of);
+            let fields: Vec<Type> = fields.collect();
+            self.require(fields.len() == arguments.len(), "another number of fields")?;
+            let terms = self.operands(None, arguments)?;
+            let terms = self.coerce_all(terms, &fields)?;
+            return Ok(self.make(Kind::Make(variant), terms, of));
+        }
+        let callee = self.callee(path)?;
         self.call_of(callee, path.last().last(), None, arguments)
     }
 
+    /// Returns the function that a path names.
+    pub fn callee(&mut self, path: &Node) -> Done<Instance> {
+        match self.named(path)? {
+            Named::Member(owner, name) => self.member(&owner, name),
+            Named::Item(id) => Ok(Instance { id, bindings: Bindings::new() }),
+            _ => self.refuse("this function has no rule"),
+        }
+    }
+
     /// Finds a function of a type, which matters then.
-    pub fn member(&mut self, of: &Type, name: &str) -> Done<Callee> {
+    pub fn member(&mut self, of: &Type, name: &str) -> Done<Instance> {
         match self.full(of) {
             Type::Parameter(name) => self.need(&name),
             of => self.expect(self.world.member(&of, name), "this function has no rule"),
@@ -130,7 +135,7 @@ impl Lowering<'_, '_> {
 
     // Adds the generic types that a call writes to a function, and returns its constants. Types that the call leaves
     // out are found later.
-    fn choose(&mut self, callee: &mut Callee, arguments: &Node) -> Done<Vec<Term>> {
+    fn choose(&mut self, callee: &mut Instance, arguments: &Node) -> Done<Vec<Term>> {
         let mut constants = Vec::new();
         let parameters = self.world.item(callee.id).get("generics").map(|it| &it.parts);
         for (number, parameter) in parameters.into_iter().flatten().enumerate() {
@@ -150,7 +155,7 @@ impl Lowering<'_, '_> {
     /// Evaluates a call of a function.
     pub fn call_of(
         &mut self,
-        mut callee: Callee,
+        mut callee: Instance,
         generics: &Node,
         receiver: Option<Term>,
         arguments: &[Node],

@@ -1,7 +1,7 @@
 //! The types of variables, by unification. What has no rule here is refused.
 
 use super::{Done, Lowering};
-use crate::c::ir::{Callee, Form, Function, Integer, Kind, PLAIN, Term, Type};
+use crate::c::ir::{Form, Function, Instance, Integer, Kind, PLAIN, Term, Type};
 
 impl Lowering<'_, '_> {
     /// Returns a type that is not known yet.
@@ -80,7 +80,7 @@ impl Lowering<'_, '_> {
     }
 
     /// Ends a function: all types get what was found, and calls the functions for them.
-    pub fn finish(&mut self, key: &Callee, parameters: Vec<usize>) -> Done<Function> {
+    pub fn finish(&mut self, key: &Instance, parameters: Vec<usize>) -> Done<Function> {
         let statements = std::mem::take(&mut self.statements);
         let mut body = self.block_of(statements);
         self.end(&mut body, &mut Vec::new())?;

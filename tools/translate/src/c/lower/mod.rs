@@ -8,17 +8,19 @@ mod statements;
 mod values;
 
 use super::instances::{Attempt, Instances};
-use super::ir::{Bindings, Callee, Done, Id, Kind, LENGTH, Local, PLAIN, Term, Type};
-use super::world::{Place, World};
-use crate::source::Span;
+use super::ir::{Bindings, Done, Id, Instance, Kind, LENGTH, Local, PLAIN, Term, Type};
+use super::world::World;
+use crate::parser::parse;
+use crate::source::{Source, Span};
 use crate::tree::Node;
 use std::collections::BTreeMap;
+use std::path::Path;
 
 struct Lowering<'w, 'i> {
     world: &'w World<'w>,
     instances: &'i mut Instances<'w>,
-    id: Id,
-    place: Place,
+    /// The function that is lowered, and what is known of its parameters.
+    place: Instance,
     /// The types of all parameters in one call, also of those that stand for themselves.
     open: Bindings,
     /// Such a parameter whose type matters, if one is found.
@@ -49,7 +51,7 @@ enum Target {
 
 /// Returns the typed form of a function for what some of its parameters stand for, if that is all that matters. The
 /// callee says what all of them are in one call.
-pub fn function(instances: &mut Instances, key: &Callee, callee: &Callee) -> Done<Attempt> {
+pub fn function(instances: &mut Instances, key: &Instance, callee: &Instance) -> Done<Attempt> {
     let mut lowering = Lowering::new(instances, key, callee.bindings.clone())?;
     let made = lowering.function(key);
     match lowering.needed {
@@ -58,10 +60,24 @@ pub fn function(instances: &mut Instances, key: &Callee, callee: &Callee) -> Don
     }
 }
 
+/// Returns the function that a path names, first by its crate, where `T` stands for a type.
+pub fn root(instances: &mut Instances, path: &str, of: Type) -> Done<Instance> {
+    let (name, path) = path.split_once("::").unwrap_or_default();
+    let modules = &instances.world.scopes.package.modules;
+    let module = modules.iter().position(|it| it.crate_name == name && it.path.is_empty());
+    let id = Id { module: module.unwrap_or_default(), item: 0, member: None };
+    let key = Instance { id, bindings: Bindings::from([("T".into(), of.clone())]) };
+    let mut lowering = Lowering::new(instances, &key, Bindings::new())?;
+    let paths = parse(&Source::new(Path::new("C"), format!("[{path}]")), "list")?;
+    let mut callee = lowering.callee(&paths[0])?;
+    callee.bindings.insert("T".into(), of);
+    Ok(callee)
+}
+
 /// Returns the value of a constant.
 pub fn constant(world: &World, id: Id) -> Done<Term> {
     let mut instances = Instances::new(world);
-    let key = Callee { id, bindings: Bindings::new() };
+    let key = Instance { id, bindings: Bindings::new() };
     let mut lowering = Lowering::new(&mut instances, &key, Bindings::new())?;
     let ("constant", [.., annotation, value]) = (world.item(id).kind, &world.item(id).parts[..])
     else {
@@ -74,7 +90,7 @@ pub fn constant(world: &World, id: Id) -> Done<Term> {
 }
 
 /// Returns the types of the parameters of a function, first those of its generic constants, and its result.
-pub fn signature(world: &World, callee: &Callee) -> Done<(Vec<Type>, Type)> {
+pub fn signature(world: &World, callee: &Instance) -> Done<(Vec<Type>, Type)> {
     let place = world.place(callee.id, &callee.bindings)?;
     let tree = world.item(callee.id);
     if tree.kind != "function" {
@@ -98,12 +114,11 @@ fn parameters(function: &Node) -> impl Iterator<Item = &Node> {
 }
 
 impl<'w, 'i> Lowering<'w, 'i> {
-    fn new(instances: &'i mut Instances<'w>, key: &Callee, open: Bindings) -> Done<Self> {
+    fn new(instances: &'i mut Instances<'w>, key: &Instance, open: Bindings) -> Done<Self> {
         let world = instances.world;
         Ok(Lowering {
             world,
             instances,
-            id: key.id,
             place: world.place(key.id, &key.bindings)?,
             open,
             needed: None,
@@ -118,7 +133,7 @@ impl<'w, 'i> Lowering<'w, 'i> {
         })
     }
 
-    fn function(&mut self, key: &Callee) -> Done<super::ir::Function> {
+    fn function(&mut self, key: &Instance) -> Done<super::ir::Function> {
         let world = self.world;
         let tree = world.item(key.id);
         let body = self.expect(tree.get("block"), "no function with a body")?;
@@ -137,7 +152,7 @@ impl<'w, 'i> Lowering<'w, 'i> {
     }
 
     fn refuse<T>(&self, reason: impl std::fmt::Display) -> Done<T> {
-        Err(self.world.fault(self.id, self.at, format!("C: {reason}")))
+        Err(self.world.fault(self.place.id, self.at, format!("C: {reason}")))
     }
 
     // Returns what is there, or refuses.
