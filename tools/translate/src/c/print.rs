@@ -67,17 +67,6 @@ impl<'a> Printer<'a> {
 
     /// Prints a function behind those before it.
     pub fn function(&mut self, function: &Function, qualifier: &str) -> Done<()> {
-        let world = self.world;
-        let text = self.text(function, qualifier).map_err(|fault| match fault.line {
-            Some(_) => fault,
-            // What has no type in C does not know its line.
-            None => world.fault_of(function.key.id, fault.reason),
-        })?;
-        self.functions.push(text);
-        Ok(())
-    }
-
-    fn text(&mut self, function: &Function, qualifier: &str) -> Done<String> {
         let (world, id) = (self.world, function.key.id);
         let head = wrapped(&self.head(function, qualifier)?);
         self.statement(&function.body)?;
@@ -86,8 +75,9 @@ impl<'a> Printer<'a> {
         // A function is explained once.
         let is_new = self.known.insert(place.clone(), String::new()).is_none();
         let comment = if is_new { explained(world, id) } else { String::new() };
-        let place = place.trim_start_matches("crates/");
-        Ok(format!("{comment}/* {place} */\n{head}\n{{\n{}}}\n", self.lines))
+        let (place, lines) = (place.trim_start_matches("crates/"), &self.lines);
+        self.functions.push(format!("{comment}/* {place} */\n{head}\n{{\n{lines}}}\n"));
+        Ok(())
     }
 
     /// Adds a function that returns a value under a condition, unless it is there.

@@ -5,7 +5,6 @@ use super::print::{Printer, explained};
 use super::text::{self, EQUALITY, Text, UNARY};
 use super::world::{Variant, World};
 use crate::source::Fault;
-use std::path::Path;
 
 /// How C has the values of a variant.
 struct Shape {
@@ -78,7 +77,8 @@ impl Printer<'_> {
     }
 
     fn unknown(&self, of: &Type) -> Fault {
-        Fault::of_file(Path::new("C"), format!("no type, or two of one name, for {of:?}"))
+        let reason = format!("no type, or two of one name, for {of:?}");
+        self.world.fault_of(self.id, reason)
     }
 
     fn definition(&mut self, of: &Type, name: &str) -> Done<String> {
