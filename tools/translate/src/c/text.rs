@@ -60,10 +60,13 @@ pub fn snake(name: &str) -> String {
     made
 }
 
-/// Returns a comment of C with the first paragraph of one of the source.
+/// Returns a comment of C with the first paragraph of one of the source. Compilers may read what is not ASCII in another
+/// encoding.
 pub fn comment(lines: Vec<&str>, indent: &str) -> String {
     let lines = lines.into_iter().map(|it| it.trim_start_matches('/').trim());
-    let lines: Vec<String> = lines.take_while(|it| !it.is_empty()).map(ascii).collect();
+    let lines = lines.take_while(|it| !it.is_empty());
+    let lines = lines.map(|it| it.replace("*/", "* /").replace("/*", "/ *").replace('¾', ".75"));
+    let lines: Vec<String> = lines.map(|it| it.replace(|it: char| !it.is_ascii(), "?")).collect();
     match lines.as_slice() {
         [] => String::new(),
         [only] => format!("{indent}/* {only} */\n"),
@@ -72,12 +75,6 @@ pub fn comment(lines: Vec<&str>, indent: &str) -> String {
             format!("{indent}/*\n{body}{indent} */\n")
         }
     }
-}
-
-// Compilers may read other characters in another encoding.
-fn ascii(line: &str) -> String {
-    let line = line.replace("*/", "* /").replace("/*", "/ *").replace('¾', ".75");
-    line.chars().map(|it| if it.is_ascii() { it } else { '?' }).collect()
 }
 
 /// Breaks a long line behind commas and before `&&` and `||`, outermost ones first. What follows stands below what it

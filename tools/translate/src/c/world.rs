@@ -3,7 +3,7 @@
 use super::ir::{Bindings, Done, Form, Id, Instance, Integer, Type};
 use crate::lexer::number;
 use crate::modules::Module;
-use crate::resolve::{Definition, Resolved, Scopes};
+use crate::resolve::{Definition, Scopes};
 use crate::source::{Fault, Source, Span};
 use crate::std_names::INTEGERS;
 use crate::tree::Node;
@@ -70,13 +70,8 @@ impl<'a> World<'a> {
         self.item(id).name()
     }
 
-    /// Finds what the start of a path stands for.
-    pub fn resolve(&self, module: usize, path: &Node) -> Option<Resolved> {
-        self.scopes.resolve(module, &path.names())
-    }
-
     fn trait_of(&self, module: usize, path: &Node) -> Option<Id> {
-        self.resolve(module, path)?.definition.item()
+        self.scopes.resolve(module, &path.names())?.definition.item()
     }
 
     /// Returns the place in an item: what it and its owner declare, and what is known of that.

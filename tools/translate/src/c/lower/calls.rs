@@ -19,20 +19,16 @@ pub enum Named<'p> {
 impl Lowering<'_, '_> {
     /// Returns what a path names that is no variable.
     pub fn named<'p>(&mut self, path: &'p Node) -> Done<Named<'p>> {
-        let (last, before) = (path.parts.len() - 1, &path.parts[..path.parts.len() - 1]);
-        let found = self.world.resolve(self.place.id.module, path);
-        let used = found.as_ref().map_or(0, |it| it.used);
-        let is_own = last == 1 && self.place.bindings.contains_key(before[0].name());
+        let (name, before) = (path.last().name(), &path.parts[..path.parts.len() - 1]);
+        let found = self.world.scopes.resolve(self.place.id.module, &path.names());
+        let found = found.filter(|it| it.used > before.len());
         Ok(match found.map(|it| it.definition) {
-            _ if is_own => Named::Member(self.named_type(before)?, path.last().name()),
-            Some(Definition::Item(_)) if used == last => {
-                Named::Member(self.named_type(before)?, path.last().name())
-            }
-            Some(Definition::Item(id)) if used > last => Named::Item(id),
-            Some(Definition::Variant(id, variant)) if used > last => {
+            Some(Definition::Item(id)) => Named::Item(id),
+            Some(Definition::Variant(id, variant)) => {
                 Named::Variant(Type::Of(Form::Item(id), Vec::new()), variant)
             }
-            Some(Definition::Foreign(name)) if used > last => self.foreign(&name),
+            Some(Definition::Foreign(name)) => self.foreign(&name),
+            None if !before.is_empty() => Named::Member(self.named_type(before)?, name),
             _ => Named::Unknown,
         })
     }
@@ -57,9 +53,6 @@ impl Lowering<'_, '_> {
         if let Some((_, value)) = variable {
             return Ok(value.clone());
         }
-        if let Some((value, of)) = limit(&names) {
-            return Ok(self.make(Kind::Number { value, hexadecimal: 0 }, Vec::new(), of));
-        }
         match self.named(path)? {
             Named::Variant(of, variant) => Ok(self.make(Kind::Make(variant), Vec::new(), of)),
             Named::Member(owner, name) => self.constant_of(&owner, name),
@@ -73,6 +66,12 @@ impl Lowering<'_, '_> {
 
     /// Returns a constant of a type. For a parameter that stands for itself, it is one that the function gets.
     pub fn constant_of(&mut self, owner: &Type, name: &str) -> Done<Term> {
+        if let (Type::Integer(own), "MIN" | "MAX") = (owner, name) {
+            let greatest = u128::MAX >> (128 - own.bits() + u32::from(own.is_signed()));
+            let least = if own.is_signed() { greatest + 1 } else { 0 };
+            let value = if name == "MAX" { greatest } else { least };
+            return Ok(self.decimal(value, owner.clone()));
+        }
         let found = self.world.member(&owner.with(&self.open), name);
         let found = found.filter(|it| self.world.item(it.id).kind == "constant");
         let id = self.expect(found, "this name has no rule")?.id;
@@ -172,14 +171,4 @@ impl Lowering<'_, '_> {
         let is_law = term.of == Type::UNIT && !term.has_effect();
         Ok(if is_law { self.unit() } else { term })
     }
-}
-
-// `u64::MAX` and so on.
-fn limit(path: &[&str]) -> Option<(u128, Type)> {
-    let [owner, name @ ("MIN" | "MAX")] = *path else { return None };
-    let of = integer(owner)?;
-    let own = of.integer()?;
-    let greatest = u128::MAX >> (128 - own.bits() + u32::from(own.is_signed()));
-    let least = if own.is_signed() { greatest + 1 } else { 0 };
-    Some((if name == "MAX" { greatest } else { least }, of))
 }

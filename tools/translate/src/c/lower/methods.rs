@@ -85,20 +85,16 @@ impl Lowering<'_, '_> {
         let of = Type::Integer(own);
         let types = vec![of.clone(); terms.len()];
         let terms = self.coerce_all(terms, &types)?;
+        let small = Kind::Small(name.into());
         let (kind, of) = match (name, terms.len()) {
             ("wrapping_add", 2) => (Kind::Wrapping("+"), of),
             ("wrapping_sub", 2) => (Kind::Wrapping("-"), of),
             ("wrapping_mul", 2) => (Kind::Wrapping("*"), of),
-            ("saturating_add" | "saturating_sub" | "min" | "max", 2) => {
-                (Kind::Small(name.into()), of)
-            }
-            ("sum_fits" | "product_fits", 2) => (Kind::Small(name.into()), Type::Boolean),
+            ("saturating_add" | "saturating_sub" | "min" | "max", 2) => (small, of),
+            ("sum_fits" | "product_fits", 2) => (small, Type::Boolean),
             ("is_ascii_digit", 1) => (Kind::Small("is_digit".into()), Type::Boolean),
-            ("trailing_zeros", 1) => (Kind::Small(name.into()), Type::Integer(Integer("u32"))),
-            ("unsigned_abs", 1) => {
-                let unsigned = integer(&own.0.replace('i', "u")).unwrap_or(of);
-                (Kind::Small(name.into()), unsigned)
-            }
+            ("trailing_zeros", 1) => (small, Type::Integer(Integer("u32"))),
+            ("unsigned_abs", 1) => (small, integer(&own.0.replace('i', "u")).unwrap_or(of)),
             _ => return self.defined(name, terms, &[]),
         };
         Ok(self.make(kind, terms, of))

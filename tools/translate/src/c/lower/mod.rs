@@ -202,8 +202,12 @@ impl<'w, 'i> Lowering<'w, 'i> {
         self.make(Kind::Binary(operator), vec![left, right], Type::Boolean)
     }
 
+    fn decimal(&self, value: u128, of: Type) -> Term {
+        self.make(Kind::Number { value, hexadecimal: 0 }, Vec::new(), of)
+    }
+
     fn size(&self, value: u128) -> Term {
-        self.make(Kind::Number { value, hexadecimal: 0 }, Vec::new(), Type::SIZE)
+        self.decimal(value, Type::SIZE)
     }
 
     fn length(&self, slice: &Term) -> Term {

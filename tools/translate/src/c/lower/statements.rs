@@ -122,28 +122,19 @@ impl Lowering<'_, '_> {
             ("let", [pattern, value]) => self.fits(value, pattern)?,
             _ => Fit { test: self.term(&parts[0], &Type::Boolean)?, bindings: Vec::new() },
         };
-        let mut branches = vec![self.branch(fit, None, &parts[1], target)?];
+        let mut branches = vec![self.branch(fit, &parts[1], target)?];
         if let Some(otherwise) = parts.get(2) {
             let fit = Fit { test: self.boolean(true), bindings: Vec::new() };
-            branches.push(self.branch(fit, None, otherwise, target)?);
+            branches.push(self.branch(fit, otherwise, target)?);
         }
         self.join(branches, target)
     }
 
     // Makes the branch for what fits a pattern. Names may stand for its parts in a value, unless something may change
     // these meanwhile.
-    fn branch(
-        &mut self,
-        Fit { test, bindings }: Fit,
-        comments: Option<&Node>,
-        body: &Node,
-        target: Target,
-    ) -> Done<Branch> {
+    fn branch(&mut self, Fit { test, bindings }: Fit, body: &Node, target: Target) -> Done<Branch> {
         let (statements, value) = self.apart(|it| {
             it.bind_all(bindings, |it, part| target == Target::Value && it.is_constant(part));
-            if let Some(comments) = comments {
-                it.evaluate(comments, Target::Nothing)?;
-            }
             it.evaluate(body, target)
         })?;
         Ok(Branch { test, statements, value })
@@ -164,8 +155,7 @@ impl Lowering<'_, '_> {
         let found = self.found(value)?;
         let mut branches = Vec::new();
         for (number, arm) in arms.iter().enumerate() {
-            let comments = arm.get("comments");
-            let mut fit = self.fit(&arm.parts[usize::from(comments.is_some())], &found)?;
+            let mut fit = self.fit(&arm.parts[usize::from(arm.has("comments"))], &found)?;
             if let Some(guard) = arm.get("guard") {
                 let names = self.names.len();
                 self.bind_all(fit.bindings.clone(), |_, _| true);
@@ -176,7 +166,7 @@ impl Lowering<'_, '_> {
                 // All values that are left fit.
                 fit.test = self.boolean(true);
             }
-            branches.push(self.branch(fit, comments, arm.last(), target)?);
+            branches.push(self.branch(fit, arm.last(), target)?);
         }
         self.join(branches, target)
     }

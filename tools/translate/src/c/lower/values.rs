@@ -18,7 +18,13 @@ impl Lowering<'_, '_> {
                 let second = self.alone("what may not run", second, &Type::Boolean)?;
                 Ok(self.test(operator(sign), first, second))
             }
-            ("try", [value]) => self.question(value),
+            ("try", [value]) => {
+                let hint = self.hint.take();
+                let found = self.any(value)?;
+                self.hint = hint;
+                let is_option = matches!(self.known(&found.of), Type::Of(Form::Option, _));
+                self.defined(if is_option { "Option?" } else { "Result?" }, vec![found], &[])
+            }
             ("matches", [value, pattern]) => Ok(self.fits(value, pattern)?.test),
             ("boolean" | "byte" | "text" | "integer", _) => Ok(self.literal(tree)),
             _ => self.operation(tree),
@@ -240,14 +246,5 @@ impl Lowering<'_, '_> {
         let of = self.known(&terms[0].of);
         self.require(of.is_slice(), "a part of what is no slice")?;
         Ok(self.make(Kind::Part(name), terms, of))
-    }
-
-    // `VALUE?`: leaves with the error, or goes on with the value.
-    fn question(&mut self, value: &Node) -> Done<Term> {
-        let hint = self.hint.take();
-        let found = self.any(value)?;
-        self.hint = hint;
-        let is_option = matches!(self.known(&found.of), Type::Of(Form::Option, _));
-        self.defined(if is_option { "Option?" } else { "Result?" }, vec![found], &[])
     }
 }
