@@ -357,6 +357,24 @@ TK_CONSTEXPR size_t tk_index(size_t index, size_t len)
     return index;
 }
 
+/* Parts of a slice. */
+#define TK_PARTS(slice)                                                                                                \
+    TK_CONSTEXPR slice slice##_from(slice s, size_t low)                                                               \
+    {                                                                                                                  \
+        TORKETTLE_CHECK(low <= s.len);                                                                                 \
+        return slice##_of(s.at + low, s.len - low);                                                                    \
+    }                                                                                                                  \
+    TK_CONSTEXPR slice slice##_to(slice s, size_t high)                                                                \
+    {                                                                                                                  \
+        TORKETTLE_CHECK(high <= s.len);                                                                                \
+        return slice##_of(s.at, high);                                                                                 \
+    }                                                                                                                  \
+    TK_CONSTEXPR slice slice##_between(slice s, size_t low, size_t high)                                               \
+    {                                                                                                                  \
+        TORKETTLE_CHECK(low <= high && high <= s.len);                                                                 \
+        return slice##_of(s.at + low, high - low);                                                                     \
+    }
+
 TK_CONSTEXPR bool tk_u8_is_digit(uint8_t byte) { return '0' <= byte && byte <= '9'; }
 TK_CONSTEXPR uint32_t tk_u32_min(uint32_t a, uint32_t b) { return b < a ? b : a; }
 TK_CONSTEXPR size_t tk_size_min(size_t a, size_t b) { return b < a ? b : a; }
@@ -566,6 +584,8 @@ TK_CONSTEXPR tk_bytes tk_bytes_of(const uint8_t *at, size_t len)
 {
     return TK_MAKE(tk_bytes, at, len);
 }
+
+TK_PARTS(tk_bytes)
 
 typedef struct tk_pair_i64_size {
     int64_t first;
@@ -1011,12 +1031,6 @@ static const uint64_t tk_factors[8] = {
     UINT64_C(2561) << 16,
     UINT64_C(2561) << 8,
 };
-
-TK_CONSTEXPR tk_bytes tk_bytes_from(tk_bytes s, size_t low)
-{
-    TORKETTLE_CHECK(low <= s.len);
-    return tk_bytes_of(s.at + low, s.len - low);
-}
 
 #define TK_MOST_IN_TWO_WORDS UINT64_C(1000000000000000000)
 
@@ -3650,6 +3664,7 @@ const char *torkettle_version(void) TORKETTLE_SYMBOL_(version);
 #undef TK_MOST_IN_WORD
 #undef TK_NOINLINE
 #undef TK_NUMBER
+#undef TK_PARTS
 #undef TK_TEXT
 #undef TK_ZEROS
 #undef TK_CALLED

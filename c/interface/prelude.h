@@ -82,6 +82,24 @@ TK_CONSTEXPR size_t tk_index(size_t index, size_t len)
     return index;
 }
 
+/* Parts of a slice. */
+#define TK_PARTS(slice)                                                                                                \
+    TK_CONSTEXPR slice slice##_from(slice s, size_t low)                                                               \
+    {                                                                                                                  \
+        TORKETTLE_CHECK(low <= s.len);                                                                                 \
+        return slice##_of(s.at + low, s.len - low);                                                                    \
+    }                                                                                                                  \
+    TK_CONSTEXPR slice slice##_to(slice s, size_t high)                                                                \
+    {                                                                                                                  \
+        TORKETTLE_CHECK(high <= s.len);                                                                                \
+        return slice##_of(s.at, high);                                                                                 \
+    }                                                                                                                  \
+    TK_CONSTEXPR slice slice##_between(slice s, size_t low, size_t high)                                               \
+    {                                                                                                                  \
+        TORKETTLE_CHECK(low <= high && high <= s.len);                                                                 \
+        return slice##_of(s.at + low, high - low);                                                                     \
+    }
+
 TK_CONSTEXPR bool tk_u8_is_digit(uint8_t byte) { return '0' <= byte && byte <= '9'; }
 TK_CONSTEXPR uint32_t tk_u32_min(uint32_t a, uint32_t b) { return b < a ? b : a; }
 TK_CONSTEXPR size_t tk_size_min(size_t a, size_t b) { return b < a ? b : a; }

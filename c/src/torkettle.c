@@ -400,6 +400,8 @@ TK_CONSTEXPR tk_room_u8 tk_room_u8_of(uint8_t *at, size_t len)
     return TK_MAKE(tk_room_u8, at, len);
 }
 
+TK_PARTS(tk_room_u8)
+
 typedef struct tk_pair_u128_u8 {
     tk_u128 first;
     uint8_t second;
@@ -1178,6 +1180,8 @@ TK_CONSTEXPR tk_room_i8 tk_room_i8_of(int8_t *at, size_t len)
     return TK_MAKE(tk_room_i8, at, len);
 }
 
+TK_PARTS(tk_room_i8)
+
 typedef struct tk_pair_bool_u128 {
     bool first;
     tk_u128 second;
@@ -1198,6 +1202,8 @@ TK_CONSTEXPR tk_slice_i8 tk_slice_i8_of(const int8_t *at, size_t len)
     return TK_MAKE(tk_slice_i8, at, len);
 }
 
+TK_PARTS(tk_slice_i8)
+
 typedef struct tk_room_i16 {
     int16_t *at;
     size_t len;
@@ -1207,6 +1213,8 @@ TK_CONSTEXPR tk_room_i16 tk_room_i16_of(int16_t *at, size_t len)
 {
     return TK_MAKE(tk_room_i16, at, len);
 }
+
+TK_PARTS(tk_room_i16)
 
 typedef struct tk_slice_i16 {
     const int16_t *at;
@@ -1218,6 +1226,8 @@ TK_CONSTEXPR tk_slice_i16 tk_slice_i16_of(const int16_t *at, size_t len)
     return TK_MAKE(tk_slice_i16, at, len);
 }
 
+TK_PARTS(tk_slice_i16)
+
 typedef struct tk_room_u16 {
     uint16_t *at;
     size_t len;
@@ -1227,6 +1237,8 @@ TK_CONSTEXPR tk_room_u16 tk_room_u16_of(uint16_t *at, size_t len)
 {
     return TK_MAKE(tk_room_u16, at, len);
 }
+
+TK_PARTS(tk_room_u16)
 
 typedef struct tk_slice_u16 {
     const uint16_t *at;
@@ -1238,6 +1250,8 @@ TK_CONSTEXPR tk_slice_u16 tk_slice_u16_of(const uint16_t *at, size_t len)
     return TK_MAKE(tk_slice_u16, at, len);
 }
 
+TK_PARTS(tk_slice_u16)
+
 typedef struct tk_room_i32 {
     int32_t *at;
     size_t len;
@@ -1247,6 +1261,8 @@ TK_CONSTEXPR tk_room_i32 tk_room_i32_of(int32_t *at, size_t len)
 {
     return TK_MAKE(tk_room_i32, at, len);
 }
+
+TK_PARTS(tk_room_i32)
 
 typedef struct tk_slice_i32 {
     const int32_t *at;
@@ -1258,6 +1274,8 @@ TK_CONSTEXPR tk_slice_i32 tk_slice_i32_of(const int32_t *at, size_t len)
     return TK_MAKE(tk_slice_i32, at, len);
 }
 
+TK_PARTS(tk_slice_i32)
+
 typedef struct tk_room_u32 {
     uint32_t *at;
     size_t len;
@@ -1267,6 +1285,8 @@ TK_CONSTEXPR tk_room_u32 tk_room_u32_of(uint32_t *at, size_t len)
 {
     return TK_MAKE(tk_room_u32, at, len);
 }
+
+TK_PARTS(tk_room_u32)
 
 typedef struct tk_slice_u32 {
     const uint32_t *at;
@@ -1278,6 +1298,8 @@ TK_CONSTEXPR tk_slice_u32 tk_slice_u32_of(const uint32_t *at, size_t len)
     return TK_MAKE(tk_slice_u32, at, len);
 }
 
+TK_PARTS(tk_slice_u32)
+
 typedef struct tk_room_i64 {
     int64_t *at;
     size_t len;
@@ -1287,6 +1309,8 @@ TK_CONSTEXPR tk_room_i64 tk_room_i64_of(int64_t *at, size_t len)
 {
     return TK_MAKE(tk_room_i64, at, len);
 }
+
+TK_PARTS(tk_room_i64)
 
 typedef struct tk_slice_i64 {
     const int64_t *at;
@@ -1298,6 +1322,8 @@ TK_CONSTEXPR tk_slice_i64 tk_slice_i64_of(const int64_t *at, size_t len)
     return TK_MAKE(tk_slice_i64, at, len);
 }
 
+TK_PARTS(tk_slice_i64)
+
 typedef struct tk_room_u64 {
     uint64_t *at;
     size_t len;
@@ -1307,6 +1333,8 @@ TK_CONSTEXPR tk_room_u64 tk_room_u64_of(uint64_t *at, size_t len)
 {
     return TK_MAKE(tk_room_u64, at, len);
 }
+
+TK_PARTS(tk_room_u64)
 
 typedef struct tk_slice_u64 {
     const uint64_t *at;
@@ -1318,6 +1346,8 @@ TK_CONSTEXPR tk_slice_u64 tk_slice_u64_of(const uint64_t *at, size_t len)
     return TK_MAKE(tk_slice_u64, at, len);
 }
 
+TK_PARTS(tk_slice_u64)
+
 typedef struct tk_room_i128 {
     tk_i128 *at;
     size_t len;
@@ -1327,6 +1357,8 @@ TK_CONSTEXPR tk_room_i128 tk_room_i128_of(tk_i128 *at, size_t len)
 {
     return TK_MAKE(tk_room_i128, at, len);
 }
+
+TK_PARTS(tk_room_i128)
 
 typedef struct tk_slice_i128 {
     const tk_i128 *at;
@@ -1338,6 +1370,8 @@ TK_CONSTEXPR tk_slice_i128 tk_slice_i128_of(const tk_i128 *at, size_t len)
     return TK_MAKE(tk_slice_i128, at, len);
 }
 
+TK_PARTS(tk_slice_i128)
+
 typedef struct tk_room_u128 {
     tk_u128 *at;
     size_t len;
@@ -1348,6 +1382,8 @@ TK_CONSTEXPR tk_room_u128 tk_room_u128_of(tk_u128 *at, size_t len)
     return TK_MAKE(tk_room_u128, at, len);
 }
 
+TK_PARTS(tk_room_u128)
+
 typedef struct tk_slice_u128 {
     const tk_u128 *at;
     size_t len;
@@ -1357,6 +1393,8 @@ TK_CONSTEXPR tk_slice_u128 tk_slice_u128_of(const tk_u128 *at, size_t len)
 {
     return TK_MAKE(tk_slice_u128, at, len);
 }
+
+TK_PARTS(tk_slice_u128)
 
 /*
  * What is read of a slice of fewer than four bytes, and a factor for each length, in one table, to which
@@ -1378,19 +1416,7 @@ static const uint8_t tk_short[9][8] = {
 
 #define TK_MOST_IN_THREE_WORDS UINT64_C(9999999999999999999)
 
-TK_CONSTEXPR tk_room_u8 tk_room_u8_between(tk_room_u8 s, size_t low, size_t high)
-{
-    TORKETTLE_CHECK(low <= high && high <= s.len);
-    return tk_room_u8_of(s.at + low, high - low);
-}
-
 #define TK_SHOWN_BYTES 48
-
-TK_CONSTEXPR tk_bytes tk_bytes_to(tk_bytes s, size_t high)
-{
-    TORKETTLE_CHECK(high <= s.len);
-    return tk_bytes_of(s.at, high);
-}
 
 /* What is guessed of the first field. */
 static const tk_guess tk_no_guess = {0, false, true, false};
@@ -1403,111 +1429,7 @@ static const tk_guess tk_long = {0, false, false, false};
 
 #define TK_PART 4
 
-TK_CONSTEXPR tk_room_i8 tk_room_i8_between(tk_room_i8 s, size_t low, size_t high)
-{
-    TORKETTLE_CHECK(low <= high && high <= s.len);
-    return tk_room_i8_of(s.at + low, high - low);
-}
-
-TK_CONSTEXPR tk_slice_i8 tk_slice_i8_shared(tk_room_i8 s)
-{
-    return tk_slice_i8_of(s.at, s.len);
-}
-
 #define TK_LONG_PART 1024
-
-TK_CONSTEXPR tk_bytes tk_bytes_shared(tk_room_u8 s)
-{
-    return tk_bytes_of(s.at, s.len);
-}
-
-TK_CONSTEXPR tk_room_i16 tk_room_i16_between(tk_room_i16 s, size_t low, size_t high)
-{
-    TORKETTLE_CHECK(low <= high && high <= s.len);
-    return tk_room_i16_of(s.at + low, high - low);
-}
-
-TK_CONSTEXPR tk_slice_i16 tk_slice_i16_shared(tk_room_i16 s)
-{
-    return tk_slice_i16_of(s.at, s.len);
-}
-
-TK_CONSTEXPR tk_room_u16 tk_room_u16_between(tk_room_u16 s, size_t low, size_t high)
-{
-    TORKETTLE_CHECK(low <= high && high <= s.len);
-    return tk_room_u16_of(s.at + low, high - low);
-}
-
-TK_CONSTEXPR tk_slice_u16 tk_slice_u16_shared(tk_room_u16 s)
-{
-    return tk_slice_u16_of(s.at, s.len);
-}
-
-TK_CONSTEXPR tk_room_i32 tk_room_i32_between(tk_room_i32 s, size_t low, size_t high)
-{
-    TORKETTLE_CHECK(low <= high && high <= s.len);
-    return tk_room_i32_of(s.at + low, high - low);
-}
-
-TK_CONSTEXPR tk_slice_i32 tk_slice_i32_shared(tk_room_i32 s)
-{
-    return tk_slice_i32_of(s.at, s.len);
-}
-
-TK_CONSTEXPR tk_room_u32 tk_room_u32_between(tk_room_u32 s, size_t low, size_t high)
-{
-    TORKETTLE_CHECK(low <= high && high <= s.len);
-    return tk_room_u32_of(s.at + low, high - low);
-}
-
-TK_CONSTEXPR tk_slice_u32 tk_slice_u32_shared(tk_room_u32 s)
-{
-    return tk_slice_u32_of(s.at, s.len);
-}
-
-TK_CONSTEXPR tk_room_i64 tk_room_i64_between(tk_room_i64 s, size_t low, size_t high)
-{
-    TORKETTLE_CHECK(low <= high && high <= s.len);
-    return tk_room_i64_of(s.at + low, high - low);
-}
-
-TK_CONSTEXPR tk_slice_i64 tk_slice_i64_shared(tk_room_i64 s)
-{
-    return tk_slice_i64_of(s.at, s.len);
-}
-
-TK_CONSTEXPR tk_room_u64 tk_room_u64_between(tk_room_u64 s, size_t low, size_t high)
-{
-    TORKETTLE_CHECK(low <= high && high <= s.len);
-    return tk_room_u64_of(s.at + low, high - low);
-}
-
-TK_CONSTEXPR tk_slice_u64 tk_slice_u64_shared(tk_room_u64 s)
-{
-    return tk_slice_u64_of(s.at, s.len);
-}
-
-TK_CONSTEXPR tk_room_i128 tk_room_i128_between(tk_room_i128 s, size_t low, size_t high)
-{
-    TORKETTLE_CHECK(low <= high && high <= s.len);
-    return tk_room_i128_of(s.at + low, high - low);
-}
-
-TK_CONSTEXPR tk_slice_i128 tk_slice_i128_shared(tk_room_i128 s)
-{
-    return tk_slice_i128_of(s.at, s.len);
-}
-
-TK_CONSTEXPR tk_room_u128 tk_room_u128_between(tk_room_u128 s, size_t low, size_t high)
-{
-    TORKETTLE_CHECK(low <= high && high <= s.len);
-    return tk_room_u128_of(s.at + low, high - low);
-}
-
-TK_CONSTEXPR tk_slice_u128 tk_slice_u128_shared(tk_room_u128 s)
-{
-    return tk_slice_u128_of(s.at, s.len);
-}
 
 /* atoi_fast/src/loads.rt:88 */
 TK_HINTED uint32_t tk_load_last_four(tk_bytes s)
@@ -7099,8 +7021,8 @@ TK_HINTED size_t tk_fields_read_i8(tk_fields *self, tk_room_i8 values)
             break;
         }
         size_t used = tk_size_saturating_sub(before, self->rest.len);
-        guess = tk_guess_after_i8(tk_slice_i8_shared(tk_room_i8_between(values, from, read)), used, self->rest,
-                                  self->is_lines);
+        tk_room_i8 all = tk_room_i8_between(values, from, read);
+        guess = tk_guess_after_i8(tk_slice_i8_of(all.at, all.len), used, self->rest, self->is_lines);
         size_t run = tk_fields_read_guessed_i8(self, values, read, guess);
         read += run;
         part = run < TK_PART ? tk_size_min(16 * part, TK_LONG_PART) : TK_PART;
@@ -7351,8 +7273,8 @@ TK_HINTED size_t tk_fields_read_u8(tk_fields *self, tk_room_u8 values)
             break;
         }
         size_t used = tk_size_saturating_sub(before, self->rest.len);
-        guess = tk_guess_after_u8(tk_bytes_shared(tk_room_u8_between(values, from, read)), used, self->rest,
-                                  self->is_lines);
+        tk_room_u8 all = tk_room_u8_between(values, from, read);
+        guess = tk_guess_after_u8(tk_bytes_of(all.at, all.len), used, self->rest, self->is_lines);
         size_t run = tk_fields_read_guessed_u8(self, values, read, guess);
         read += run;
         part = run < TK_PART ? tk_size_min(16 * part, TK_LONG_PART) : TK_PART;
@@ -7607,8 +7529,8 @@ TK_HINTED size_t tk_fields_read_i16(tk_fields *self, tk_room_i16 values)
             break;
         }
         size_t used = tk_size_saturating_sub(before, self->rest.len);
-        guess = tk_guess_after_i16(tk_slice_i16_shared(tk_room_i16_between(values, from, read)), used, self->rest,
-                                   self->is_lines);
+        tk_room_i16 all = tk_room_i16_between(values, from, read);
+        guess = tk_guess_after_i16(tk_slice_i16_of(all.at, all.len), used, self->rest, self->is_lines);
         size_t run = tk_fields_read_guessed_i16(self, values, read, guess);
         read += run;
         part = run < TK_PART ? tk_size_min(16 * part, TK_LONG_PART) : TK_PART;
@@ -7860,8 +7782,8 @@ TK_HINTED size_t tk_fields_read_u16(tk_fields *self, tk_room_u16 values)
             break;
         }
         size_t used = tk_size_saturating_sub(before, self->rest.len);
-        guess = tk_guess_after_u16(tk_slice_u16_shared(tk_room_u16_between(values, from, read)), used, self->rest,
-                                   self->is_lines);
+        tk_room_u16 all = tk_room_u16_between(values, from, read);
+        guess = tk_guess_after_u16(tk_slice_u16_of(all.at, all.len), used, self->rest, self->is_lines);
         size_t run = tk_fields_read_guessed_u16(self, values, read, guess);
         read += run;
         part = run < TK_PART ? tk_size_min(16 * part, TK_LONG_PART) : TK_PART;
@@ -8116,8 +8038,8 @@ TK_HINTED size_t tk_fields_read_i32(tk_fields *self, tk_room_i32 values)
             break;
         }
         size_t used = tk_size_saturating_sub(before, self->rest.len);
-        guess = tk_guess_after_i32(tk_slice_i32_shared(tk_room_i32_between(values, from, read)), used, self->rest,
-                                   self->is_lines);
+        tk_room_i32 all = tk_room_i32_between(values, from, read);
+        guess = tk_guess_after_i32(tk_slice_i32_of(all.at, all.len), used, self->rest, self->is_lines);
         size_t run = tk_fields_read_guessed_i32(self, values, read, guess);
         read += run;
         part = run < TK_PART ? tk_size_min(16 * part, TK_LONG_PART) : TK_PART;
@@ -8369,8 +8291,8 @@ TK_HINTED size_t tk_fields_read_u32(tk_fields *self, tk_room_u32 values)
             break;
         }
         size_t used = tk_size_saturating_sub(before, self->rest.len);
-        guess = tk_guess_after_u32(tk_slice_u32_shared(tk_room_u32_between(values, from, read)), used, self->rest,
-                                   self->is_lines);
+        tk_room_u32 all = tk_room_u32_between(values, from, read);
+        guess = tk_guess_after_u32(tk_slice_u32_of(all.at, all.len), used, self->rest, self->is_lines);
         size_t run = tk_fields_read_guessed_u32(self, values, read, guess);
         read += run;
         part = run < TK_PART ? tk_size_min(16 * part, TK_LONG_PART) : TK_PART;
@@ -8625,8 +8547,8 @@ TK_HINTED size_t tk_fields_read_i64(tk_fields *self, tk_room_i64 values)
             break;
         }
         size_t used = tk_size_saturating_sub(before, self->rest.len);
-        guess = tk_guess_after_i64(tk_slice_i64_shared(tk_room_i64_between(values, from, read)), used, self->rest,
-                                   self->is_lines);
+        tk_room_i64 all = tk_room_i64_between(values, from, read);
+        guess = tk_guess_after_i64(tk_slice_i64_of(all.at, all.len), used, self->rest, self->is_lines);
         size_t run = tk_fields_read_guessed_i64(self, values, read, guess);
         read += run;
         part = run < TK_PART ? tk_size_min(16 * part, TK_LONG_PART) : TK_PART;
@@ -8878,8 +8800,8 @@ TK_HINTED size_t tk_fields_read_u64(tk_fields *self, tk_room_u64 values)
             break;
         }
         size_t used = tk_size_saturating_sub(before, self->rest.len);
-        guess = tk_guess_after_u64(tk_slice_u64_shared(tk_room_u64_between(values, from, read)), used, self->rest,
-                                   self->is_lines);
+        tk_room_u64 all = tk_room_u64_between(values, from, read);
+        guess = tk_guess_after_u64(tk_slice_u64_of(all.at, all.len), used, self->rest, self->is_lines);
         size_t run = tk_fields_read_guessed_u64(self, values, read, guess);
         read += run;
         part = run < TK_PART ? tk_size_min(16 * part, TK_LONG_PART) : TK_PART;
@@ -9139,8 +9061,8 @@ TK_HINTED size_t tk_fields_read_i128(tk_fields *self, tk_room_i128 values)
             break;
         }
         size_t used = tk_size_saturating_sub(before, self->rest.len);
-        guess = tk_guess_after_i128(tk_slice_i128_shared(tk_room_i128_between(values, from, read)), used, self->rest,
-                                    self->is_lines);
+        tk_room_i128 all = tk_room_i128_between(values, from, read);
+        guess = tk_guess_after_i128(tk_slice_i128_of(all.at, all.len), used, self->rest, self->is_lines);
         size_t run = tk_fields_read_guessed_i128(self, values, read, guess);
         read += run;
         part = run < TK_PART ? tk_size_min(16 * part, TK_LONG_PART) : TK_PART;
@@ -9397,8 +9319,8 @@ TK_HINTED size_t tk_fields_read_u128(tk_fields *self, tk_room_u128 values)
             break;
         }
         size_t used = tk_size_saturating_sub(before, self->rest.len);
-        guess = tk_guess_after_u128(tk_slice_u128_shared(tk_room_u128_between(values, from, read)), used, self->rest,
-                                    self->is_lines);
+        tk_room_u128 all = tk_room_u128_between(values, from, read);
+        guess = tk_guess_after_u128(tk_slice_u128_of(all.at, all.len), used, self->rest, self->is_lines);
         size_t run = tk_fields_read_guessed_u128(self, values, read, guess);
         read += run;
         part = run < TK_PART ? tk_size_min(16 * part, TK_LONG_PART) : TK_PART;

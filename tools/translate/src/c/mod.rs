@@ -70,7 +70,8 @@ pub fn made(top: &Path, is_checked: bool) -> Done<[(&'static str, String); 2]> {
     let world = World::new(&scopes);
     let (inline, rest) = print(&world, ROOTS, TYPES, is_checked)?;
     let part = |name: &str| Done::Ok(Source::read(top, &Path::new(INTERFACE).join(name))?.text);
-    let inline = format!("{}\n{inline}", part("prelude.h")?);
+    let checked = if is_checked { part("checked.h")? } else { String::new() };
+    let inline = format!("{}\n{checked}{inline}", part("prelude.h")?);
     let names = inline
         .lines()
         .filter_map(|line| line.trim_start_matches('#').trim().strip_prefix("define TK_"));

@@ -17,7 +17,7 @@ pub struct Printer<'a> {
     pub names: BTreeMap<Instance, String>,
     /// Whether operators say that nothing overflows.
     pub is_checked: bool,
-    /// Small functions and constants.
+    /// Constants.
     pub helpers: Vec<String>,
     /// What has a name, and what it is.
     pub known: BTreeMap<String, String>,
@@ -80,32 +80,7 @@ impl<'a> Printer<'a> {
         Ok(())
     }
 
-    /// Adds a function that returns a value under a condition, unless it is there.
-    pub fn small(&mut self, name: &str, head: &str, check: &str, value: &str) {
-        let check =
-            if check.is_empty() { "".into() } else { format!("    TORKETTLE_CHECK({check});\n") };
-        self.helper(name, format!("TK_CONSTEXPR {head}\n{{\n{check}    return {value};\n}}\n"));
-    }
-
-    /// Adds the function that makes a part of a slice, and returns its name.
-    pub fn part(&mut self, kind: &str, from: &Type, of: &Type) -> Done<String> {
-        let (offsets, check, value) = match kind {
-            "from" => (", size_t low", "low <= s.len", "s.at + low, s.len - low"),
-            "to" => (", size_t high", "high <= s.len", "s.at, high"),
-            "between" => {
-                let check = "low <= high && high <= s.len";
-                (", size_t low, size_t high", check, "s.at + low, high - low")
-            }
-            _ => ("", "", "s.at, s.len"),
-        };
-        let (of, from) = (self.name(of)?, self.name(from)?);
-        let name = format!("{of}_{kind}");
-        let head = format!("{of} {name}({from} s{offsets})");
-        self.small(&name, &head, check, &format!("{of}_of({value})"));
-        Ok(name)
-    }
-
-    /// Adds a small function or a constant, unless it is there.
+    /// Adds a constant, unless it is there.
     pub fn helper(&mut self, name: &str, text: String) {
         if self.known.insert(name.to_string(), text.clone()).is_none() {
             self.helpers.push(text);

@@ -96,8 +96,7 @@ fn part(printer: &mut Printer, term: &Term, texts: &[Text]) -> Done<Text> {
             return Ok(Text::new(format!("{own}.at + ({own}.len - {})", argument(1)), SUM));
         }
         (Kind::Part(name), _) => {
-            let name = printer.part(name, &first.of, &term.of)?;
-            return Ok(call(name, texts));
+            return Ok(call(format!("{}_{name}", printer.name(&first.of)?), texts));
         }
         _ => return Err(refuse(printer, term, "this operation")),
     }))
@@ -213,32 +212,32 @@ fn cast_to(to: Integer, text: &Text) -> Text {
     Text::atom(format!("TK_CAST({}, {})", to.type_name(), text.text))
 }
 
-// Operators, their levels, the names of the functions that stand for them, and what is proved of their operands.
-pub const OPERATORS: [(&str, u8, &str, &str); 18] = [
-    ("||", OR, "", ""),
-    ("&&", AND, "", ""),
-    ("==", EQUALITY, "equal", ""),
-    ("!=", EQUALITY, "equal", ""),
-    ("<", 10, "less", ""),
-    (">", 10, "less", ""),
-    ("<=", 10, "less", ""),
-    (">=", 10, "less", ""),
-    ("|", 6, "or", ""),
-    ("^", 7, "xor", ""),
-    ("&", 8, "and", ""),
-    ("<<", SHIFT, "shift_left", "b < BITS"),
-    (">>", SHIFT, "shift_right", "b < BITS"),
-    ("+", SUM, "add", "TK_CAST(TYPE, a + b) >= a"),
-    ("-", SUM, "sub", "a >= b"),
-    ("*", 13, "mul", "b == 0 || a <= TK_CAST(TYPE, -1) / b"),
-    ("/", 13, "div", "b != 0"),
-    ("%", 13, "rem", "b != 0"),
+// Operators, their levels, and the names of the functions that stand for them.
+pub const OPERATORS: [(&str, u8, &str); 18] = [
+    ("||", OR, ""),
+    ("&&", AND, ""),
+    ("==", EQUALITY, "equal"),
+    ("!=", EQUALITY, "equal"),
+    ("<", 10, "less"),
+    (">", 10, "less"),
+    ("<=", 10, "less"),
+    (">=", 10, "less"),
+    ("|", 6, "or"),
+    ("^", 7, "xor"),
+    ("&", 8, "and"),
+    ("<<", SHIFT, "shift_left"),
+    (">>", SHIFT, "shift_right"),
+    ("+", SUM, "add"),
+    ("-", SUM, "sub"),
+    ("*", 13, "mul"),
+    ("/", 13, "div"),
+    ("%", 13, "rem"),
 ];
 
-// Returns the level of an operator, its function, and what is proved.
-fn known(operator: &str) -> (u8, &'static str, &'static str) {
+// Returns the level of an operator, and its function.
+fn known(operator: &str) -> (u8, &'static str) {
     let known = OPERATORS.iter().find(|it| it.0 == operator);
-    known.map_or((0, "", ""), |(_, level, function, proved)| (*level, function, proved))
+    known.map_or((0, ""), |(_, level, function)| (*level, function))
 }
 
 fn binary(
@@ -270,11 +269,11 @@ fn binary(
         let is_long = own.bits() == 64;
         texts[0].text = if is_long { format!("UINT64_C({value})") } else { format!("{value}u") };
     }
-    let checked = if is_wrapping { None } else { checked(printer, own, operator) };
-    Ok(match checked {
-        Some(name) => call(name, &texts),
-        None => narrow(own, joined(operator, &texts)),
-    })
+    // A function asserts what is proved of the operands.
+    if printer.is_checked && !is_wrapping && !own.is_signed() {
+        return Ok(call(format!("tk_{}_{}", own.name(), known(operator).1), &texts));
+    }
+    Ok(narrow(own, joined(operator, &texts)))
 }
 
 // An operator on 128 bits, as a call: not all compilers have such numbers.
@@ -303,20 +302,6 @@ fn joined(sign: &str, texts: &[Text]) -> Text {
     };
     let (left, right) = (side(&texts[0], level, true), side(&texts[1], level + 1, false));
     Text::new(format!("{left} {sign} {right}"), level)
-}
-
-// Adds a function that asserts what is proved of the operands of an operator, if that is wanted, and returns its name.
-fn checked(printer: &mut Printer, own: Integer, operator: &str) -> Option<String> {
-    let (_, function, proved) = known(operator);
-    if !printer.is_checked || own.is_signed() || proved.is_empty() {
-        return None;
-    }
-    let (of, name) = (own.type_name(), format!("tk_{}_{function}", own.name()));
-    let check = proved.replace("TYPE", &of).replace("BITS", &own.bits().to_string());
-    let second = if is_shift(operator) { "uint64_t" } else { of.as_str() };
-    let value = narrow(own, Text::new(format!("a {operator} b"), 0)).text;
-    printer.small(&name, &format!("{of} {name}({of} a, {second} b)"), &check, &value);
-    Some(name)
 }
 
 // C computes with `int` where a type has fewer bits.

@@ -106,6 +106,9 @@ impl Printer<'_> {
         for shape in &shapes {
             text += &self.maker(name, shape, &members)?;
         }
+        if of.is_slice() {
+            text += &format!("\nTK_PARTS({name})\n");
+        }
         Ok(text)
     }
 

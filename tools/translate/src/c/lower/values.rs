@@ -197,7 +197,9 @@ impl Lowering<'_, '_> {
         Ok(match (self.known(&term.of), &term.kind) {
             (Type::Of(Form::Slice { is_mutable: true }, parts), _) if !is_mutable => {
                 let of = Type::slice(parts[0].clone(), false);
-                self.make(Kind::Part("shared"), vec![term], of)
+                let all = self.keep(term, "all");
+                let parts = self.parts(&all, PLAIN)?.1;
+                self.make(Kind::Make(PLAIN), parts, of)
             }
             (_, Kind::Elements) if !is_mutable => self.hold(term, "bytes", false),
             (of, _) if is_mutable && !of.can_write() => {
