@@ -339,6 +339,9 @@ TK_INLINE const uint8_t *tk_either_at(bool is_first, const uint8_t *first, const
 #endif
 }
 
+#define TK_EITHER(is_first, a, b)                                                                                      \
+    tk_bytes_of(tk_either_at(is_first, (a).at, (b).at), tk_either(is_first, (a).len, (b).len))
+
 /* 1 or 0. As gcc 12 would set only a byte of a register, the processor would wait for what was last in it. */
 TK_INLINE uint64_t tk_bit(bool is_set)
 {
@@ -3656,6 +3659,7 @@ const char *torkettle_version(void) TORKETTLE_SYMBOL_(version);
 #undef TK_CAST
 #undef TK_COLD
 #undef TK_CONSTEXPR
+#undef TK_EITHER
 #undef TK_FAR
 #undef TK_HINTED
 #undef TK_INLINE

@@ -1478,7 +1478,7 @@ TK_INLINE uint64_t tk_factor_of(size_t len)
 TK_INLINE uint64_t tk_load_flipped(tk_bytes s)
 {
     tk_bytes short_ = tk_bytes_of(tk_short[tk_index(0, 9)], 8);
-    tk_bytes fours = tk_bytes_of(tk_either_at(s.len < 4, short_.at, s.at), tk_either(s.len < 4, short_.len, s.len));
+    tk_bytes fours = TK_EITHER(s.len < 4, short_, s);
     uint32_t front = (TK_CAST(uint32_t, s.at[tk_index(0, s.len)]) | tk_load_four_from(fours, 0)) ^ TK_FOUR_ZEROS;
     uint32_t back = (tk_load_last_four(fours) | (tk_load_last_two(s) << 16)) ^ TK_FOUR_ZEROS;
     /* A product takes less time than a shift. */

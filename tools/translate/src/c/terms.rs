@@ -56,9 +56,7 @@ pub fn print(printer: &mut Printer, term: &Term) -> Done<Text> {
             if term.of == Type::slice(Type::BYTE, false)
                 && term.parts[1..].iter().all(|it| matches!(it.kind, Kind::Local(_))) =>
         {
-            let [test, a, b] = [0, 1, 2].map(|part| &texts[part].text);
-            let at = format!("tk_either_at({test}, {a}.at, {b}.at)");
-            Text::atom(format!("tk_bytes_of({at}, tk_either({test}, {a}.len, {b}.len))"))
+            call("TK_EITHER".into(), &texts)
         }
         Kind::Choice => {
             let [test, then, other] = [texts[0].at(OR), texts[1].at(OR), texts[2].at(CHOICE)];

@@ -142,17 +142,14 @@ impl Lowering<'_, '_> {
 
     /// Returns when a value fits a pattern.
     pub fn fits(&mut self, value: &Node, pattern: &Node) -> Done<Fit> {
-        let found = self.found(value)?;
+        let found = self.any(value)?;
+        let found = self.keep(found, "found");
         self.fit(pattern, &found)
     }
 
-    fn found(&mut self, value: &Node) -> Done<Term> {
-        let found = self.any(value)?;
-        Ok(self.keep(found, "found"))
-    }
-
     fn match_arms(&mut self, value: &Node, arms: &[Node], target: Target) -> Done<Term> {
-        let found = self.found(value)?;
+        let found = self.any(value)?;
+        let found = self.keep(found, "found");
         let mut branches = Vec::new();
         for (number, arm) in arms.iter().enumerate() {
             let mut fit = self.fit(&arm.parts[usize::from(arm.has("comments"))], &found)?;
