@@ -1408,20 +1408,20 @@ TK_INLINE tk_option_pair_i64_size tk_prefix_of_two_words_i64(bool minus, uint64_
     uint64_t next = tk_load_full(tk_bytes_from(s, 8));
     uint32_t more = tk_leading_digits(next);
     if (more == 8) {
-        tk_option_pair_i64_size found_found = tk_prefix_of_three_words_i64(minus, high, next, s);
-        if (!found_found.is_some) {
+        tk_option_pair_i64_size found = tk_prefix_of_three_words_i64(minus, high, next, s);
+        if (!found.is_some) {
             return tk_none_pair_i64_size();
         }
-        tk_pair_i64_size found = found_found.value;
-        return tk_some_pair_i64_size(found);
+        tk_pair_i64_size found_2 = found.value;
+        return tk_some_pair_i64_size(found_2);
     }
     uint64_t low = tk_value_by_product(next - TK_ZEROS, more);
     uint64_t magnitude = high * tk_power_of_ten(more) + low;
-    tk_option_i64 number_found = tk_number_in_range_i64(TK_MOST_IN_TWO_WORDS, minus, magnitude);
-    if (!number_found.is_some) {
+    tk_option_i64 found = tk_number_in_range_i64(TK_MOST_IN_TWO_WORDS, minus, magnitude);
+    if (!found.is_some) {
         return tk_none_pair_i64_size();
     }
-    int64_t number = number_found.value;
+    int64_t number = found.value;
     return tk_some_pair_i64_size(tk_new_pair_i64_size(number, 8 + TK_CAST(size_t, more)));
 }
 
@@ -1455,11 +1455,11 @@ TK_INLINE tk_option_pair_i64_size tk_prefix_of_words_i64(tk_bytes s)
         return tk_prefix_of_two_words_i64(minus, tk_sum_of(digits), s);
     }
     uint32_t len = tk_u64_trailing_zeros(marks) / 8;
-    tk_option_i64 number_found = tk_number_in_range_i64(TK_MOST_IN_WORD, minus, tk_value_by_product(digits, len));
-    if (!number_found.is_some) {
+    tk_option_i64 found = tk_number_in_range_i64(TK_MOST_IN_WORD, minus, tk_value_by_product(digits, len));
+    if (!found.is_some) {
         return tk_none_pair_i64_size();
     }
-    int64_t number = number_found.value;
+    int64_t number = found.value;
     return tk_some_pair_i64_size(tk_new_pair_i64_size(number, TK_CAST(size_t, len)));
 }
 
@@ -1469,20 +1469,20 @@ TK_INLINE tk_option_pair_u64_size tk_prefix_of_two_words_u64(bool minus, uint64_
     uint64_t next = tk_load_full(tk_bytes_from(s, 8));
     uint32_t more = tk_leading_digits(next);
     if (more == 8) {
-        tk_option_pair_u64_size found_found = tk_prefix_of_three_words_u64(minus, high, next, s);
-        if (!found_found.is_some) {
+        tk_option_pair_u64_size found = tk_prefix_of_three_words_u64(minus, high, next, s);
+        if (!found.is_some) {
             return tk_none_pair_u64_size();
         }
-        tk_pair_u64_size found = found_found.value;
-        return tk_some_pair_u64_size(found);
+        tk_pair_u64_size found_2 = found.value;
+        return tk_some_pair_u64_size(found_2);
     }
     uint64_t low = tk_value_by_product(next - TK_ZEROS, more);
     uint64_t magnitude = high * tk_power_of_ten(more) + low;
-    tk_option_u64 number_found = tk_number_in_range_u64(TK_MOST_IN_TWO_WORDS, minus, magnitude);
-    if (!number_found.is_some) {
+    tk_option_u64 found = tk_number_in_range_u64(TK_MOST_IN_TWO_WORDS, minus, magnitude);
+    if (!found.is_some) {
         return tk_none_pair_u64_size();
     }
-    uint64_t number = number_found.value;
+    uint64_t number = found.value;
     return tk_some_pair_u64_size(tk_new_pair_u64_size(number, 8 + TK_CAST(size_t, more)));
 }
 
@@ -1512,11 +1512,11 @@ TK_INLINE tk_option_pair_u64_size tk_prefix_of_words_u64(tk_bytes s)
         return tk_prefix_of_two_words_u64(minus, tk_sum_of(digits), s);
     }
     uint32_t len = tk_u64_trailing_zeros(marks) / 8;
-    tk_option_u64 number_found = tk_number_in_range_u64(TK_MOST_IN_WORD, minus, tk_value_by_product(digits, len));
-    if (!number_found.is_some) {
+    tk_option_u64 found = tk_number_in_range_u64(TK_MOST_IN_WORD, minus, tk_value_by_product(digits, len));
+    if (!found.is_some) {
         return tk_none_pair_u64_size();
     }
-    uint64_t number = number_found.value;
+    uint64_t number = found.value;
     return tk_some_pair_u64_size(tk_new_pair_u64_size(number, TK_CAST(size_t, len)));
 }
 
@@ -1544,36 +1544,36 @@ TK_INLINE tk_option_pair_u64_size tk_few_digits(tk_bytes s, uint8_t separator)
     if (s.len >= 3 && s.at[2] == separator) {
         uint8_t first = s.at[0];
         uint8_t second = s.at[1];
-        tk_option_u64 tens_found = tk_digit_of(first);
-        if (!tens_found.is_some) {
-            return tk_none_pair_u64_size();
-        }
-        uint64_t tens = tens_found.value;
-        tk_option_u64 found = tk_digit_of(second);
+        tk_option_u64 found = tk_digit_of(first);
         if (!found.is_some) {
             return tk_none_pair_u64_size();
         }
-        return tk_some_pair_u64_size(tk_new_pair_u64_size(10 * tens + found.value, 2));
+        uint64_t tens = found.value;
+        tk_option_u64 found_2 = tk_digit_of(second);
+        if (!found_2.is_some) {
+            return tk_none_pair_u64_size();
+        }
+        return tk_some_pair_u64_size(tk_new_pair_u64_size(10 * tens + found_2.value, 2));
     }
     if (s.len >= 4 && s.at[3] == separator) {
         uint8_t first = s.at[0];
         uint8_t second = s.at[1];
         uint8_t third = s.at[2];
-        tk_option_u64 hundreds_found = tk_digit_of(first);
-        if (!hundreds_found.is_some) {
-            return tk_none_pair_u64_size();
-        }
-        uint64_t hundreds = hundreds_found.value;
-        tk_option_u64 tens_found = tk_digit_of(second);
-        if (!tens_found.is_some) {
-            return tk_none_pair_u64_size();
-        }
-        uint64_t tens = tens_found.value;
-        tk_option_u64 found = tk_digit_of(third);
+        tk_option_u64 found = tk_digit_of(first);
         if (!found.is_some) {
             return tk_none_pair_u64_size();
         }
-        return tk_some_pair_u64_size(tk_new_pair_u64_size(100 * hundreds + 10 * tens + found.value, 3));
+        uint64_t hundreds = found.value;
+        tk_option_u64 found_2 = tk_digit_of(second);
+        if (!found_2.is_some) {
+            return tk_none_pair_u64_size();
+        }
+        uint64_t tens = found_2.value;
+        tk_option_u64 found_3 = tk_digit_of(third);
+        if (!found_3.is_some) {
+            return tk_none_pair_u64_size();
+        }
+        return tk_some_pair_u64_size(tk_new_pair_u64_size(100 * hundreds + 10 * tens + found_3.value, 3));
     }
     return tk_none_pair_u64_size();
 }
@@ -1588,11 +1588,11 @@ TK_INLINE tk_option_pair_i8_size tk_prefix_of_two_words_i8(bool minus, uint64_t 
     }
     uint64_t low = tk_value_by_product(next - TK_ZEROS, more);
     uint64_t magnitude = high * tk_power_of_ten(more) + low;
-    tk_option_i8 number_found = tk_number_in_range_i8(TK_MOST_IN_TWO_WORDS, minus, magnitude);
-    if (!number_found.is_some) {
+    tk_option_i8 found = tk_number_in_range_i8(TK_MOST_IN_TWO_WORDS, minus, magnitude);
+    if (!found.is_some) {
         return tk_none_pair_i8_size();
     }
-    int8_t number = number_found.value;
+    int8_t number = found.value;
     return tk_some_pair_i8_size(tk_new_pair_i8_size(number, 8 + TK_CAST(size_t, more)));
 }
 
@@ -1622,11 +1622,11 @@ TK_INLINE tk_option_pair_i8_size tk_prefix_of_words_i8(tk_bytes s)
         return tk_prefix_of_two_words_i8(minus, tk_sum_of(digits), s);
     }
     uint32_t len = tk_u64_trailing_zeros(marks) / 8;
-    tk_option_i8 number_found = tk_number_in_range_i8(TK_MOST_IN_WORD, minus, tk_value_by_product(digits, len));
-    if (!number_found.is_some) {
+    tk_option_i8 found = tk_number_in_range_i8(TK_MOST_IN_WORD, minus, tk_value_by_product(digits, len));
+    if (!found.is_some) {
         return tk_none_pair_i8_size();
     }
-    int8_t number = number_found.value;
+    int8_t number = found.value;
     return tk_some_pair_i8_size(tk_new_pair_i8_size(number, TK_CAST(size_t, len)));
 }
 
@@ -1638,11 +1638,11 @@ TK_INLINE tk_option_pair_i8_size tk_quick_field_i8(tk_bytes s, uint8_t separator
     if (found.is_some) {
         uint64_t magnitude = found.value.first;
         size_t len = found.value.second;
-        tk_option_i8 number_found = tk_number_in_range_i8(999, false, magnitude);
-        if (!number_found.is_some) {
+        tk_option_i8 found_2 = tk_number_in_range_i8(999, false, magnitude);
+        if (!found_2.is_some) {
             return tk_none_pair_i8_size();
         }
-        int8_t number = number_found.value;
+        int8_t number = found_2.value;
         return tk_some_pair_i8_size(tk_new_pair_i8_size(number, len));
     }
     if (s.len < 16) {
@@ -1670,11 +1670,11 @@ TK_INLINE tk_option_pair_u8_size tk_prefix_of_two_words_u8(bool minus, uint64_t 
     }
     uint64_t low = tk_value_by_product(next - TK_ZEROS, more);
     uint64_t magnitude = high * tk_power_of_ten(more) + low;
-    tk_option_u8 number_found = tk_number_in_range_u8(TK_MOST_IN_TWO_WORDS, minus, magnitude);
-    if (!number_found.is_some) {
+    tk_option_u8 found = tk_number_in_range_u8(TK_MOST_IN_TWO_WORDS, minus, magnitude);
+    if (!found.is_some) {
         return tk_none_pair_u8_size();
     }
-    uint8_t number = number_found.value;
+    uint8_t number = found.value;
     return tk_some_pair_u8_size(tk_new_pair_u8_size(number, 8 + TK_CAST(size_t, more)));
 }
 
@@ -1704,11 +1704,11 @@ TK_INLINE tk_option_pair_u8_size tk_prefix_of_words_u8(tk_bytes s)
         return tk_prefix_of_two_words_u8(minus, tk_sum_of(digits), s);
     }
     uint32_t len = tk_u64_trailing_zeros(marks) / 8;
-    tk_option_u8 number_found = tk_number_in_range_u8(TK_MOST_IN_WORD, minus, tk_value_by_product(digits, len));
-    if (!number_found.is_some) {
+    tk_option_u8 found = tk_number_in_range_u8(TK_MOST_IN_WORD, minus, tk_value_by_product(digits, len));
+    if (!found.is_some) {
         return tk_none_pair_u8_size();
     }
-    uint8_t number = number_found.value;
+    uint8_t number = found.value;
     return tk_some_pair_u8_size(tk_new_pair_u8_size(number, TK_CAST(size_t, len)));
 }
 
@@ -1719,11 +1719,11 @@ TK_INLINE tk_option_pair_u8_size tk_quick_field_u8(tk_bytes s, uint8_t separator
     if (found.is_some) {
         uint64_t magnitude = found.value.first;
         size_t len = found.value.second;
-        tk_option_u8 number_found = tk_number_in_range_u8(999, false, magnitude);
-        if (!number_found.is_some) {
+        tk_option_u8 found_2 = tk_number_in_range_u8(999, false, magnitude);
+        if (!found_2.is_some) {
             return tk_none_pair_u8_size();
         }
-        uint8_t number = number_found.value;
+        uint8_t number = found_2.value;
         return tk_some_pair_u8_size(tk_new_pair_u8_size(number, len));
     }
     if (s.len < 16) {
@@ -1751,11 +1751,11 @@ TK_INLINE tk_option_pair_i16_size tk_prefix_of_two_words_i16(bool minus, uint64_
     }
     uint64_t low = tk_value_by_product(next - TK_ZEROS, more);
     uint64_t magnitude = high * tk_power_of_ten(more) + low;
-    tk_option_i16 number_found = tk_number_in_range_i16(TK_MOST_IN_TWO_WORDS, minus, magnitude);
-    if (!number_found.is_some) {
+    tk_option_i16 found = tk_number_in_range_i16(TK_MOST_IN_TWO_WORDS, minus, magnitude);
+    if (!found.is_some) {
         return tk_none_pair_i16_size();
     }
-    int16_t number = number_found.value;
+    int16_t number = found.value;
     return tk_some_pair_i16_size(tk_new_pair_i16_size(number, 8 + TK_CAST(size_t, more)));
 }
 
@@ -1785,11 +1785,11 @@ TK_INLINE tk_option_pair_i16_size tk_prefix_of_words_i16(tk_bytes s)
         return tk_prefix_of_two_words_i16(minus, tk_sum_of(digits), s);
     }
     uint32_t len = tk_u64_trailing_zeros(marks) / 8;
-    tk_option_i16 number_found = tk_number_in_range_i16(TK_MOST_IN_WORD, minus, tk_value_by_product(digits, len));
-    if (!number_found.is_some) {
+    tk_option_i16 found = tk_number_in_range_i16(TK_MOST_IN_WORD, minus, tk_value_by_product(digits, len));
+    if (!found.is_some) {
         return tk_none_pair_i16_size();
     }
-    int16_t number = number_found.value;
+    int16_t number = found.value;
     return tk_some_pair_i16_size(tk_new_pair_i16_size(number, TK_CAST(size_t, len)));
 }
 
@@ -1800,11 +1800,11 @@ TK_INLINE tk_option_pair_i16_size tk_quick_field_i16(tk_bytes s, uint8_t separat
     if (found.is_some) {
         uint64_t magnitude = found.value.first;
         size_t len = found.value.second;
-        tk_option_i16 number_found = tk_number_in_range_i16(999, false, magnitude);
-        if (!number_found.is_some) {
+        tk_option_i16 found_2 = tk_number_in_range_i16(999, false, magnitude);
+        if (!found_2.is_some) {
             return tk_none_pair_i16_size();
         }
-        int16_t number = number_found.value;
+        int16_t number = found_2.value;
         return tk_some_pair_i16_size(tk_new_pair_i16_size(number, len));
     }
     if (s.len < 16) {
@@ -1832,11 +1832,11 @@ TK_INLINE tk_option_pair_u16_size tk_prefix_of_two_words_u16(bool minus, uint64_
     }
     uint64_t low = tk_value_by_product(next - TK_ZEROS, more);
     uint64_t magnitude = high * tk_power_of_ten(more) + low;
-    tk_option_u16 number_found = tk_number_in_range_u16(TK_MOST_IN_TWO_WORDS, minus, magnitude);
-    if (!number_found.is_some) {
+    tk_option_u16 found = tk_number_in_range_u16(TK_MOST_IN_TWO_WORDS, minus, magnitude);
+    if (!found.is_some) {
         return tk_none_pair_u16_size();
     }
-    uint16_t number = number_found.value;
+    uint16_t number = found.value;
     return tk_some_pair_u16_size(tk_new_pair_u16_size(number, 8 + TK_CAST(size_t, more)));
 }
 
@@ -1866,11 +1866,11 @@ TK_INLINE tk_option_pair_u16_size tk_prefix_of_words_u16(tk_bytes s)
         return tk_prefix_of_two_words_u16(minus, tk_sum_of(digits), s);
     }
     uint32_t len = tk_u64_trailing_zeros(marks) / 8;
-    tk_option_u16 number_found = tk_number_in_range_u16(TK_MOST_IN_WORD, minus, tk_value_by_product(digits, len));
-    if (!number_found.is_some) {
+    tk_option_u16 found = tk_number_in_range_u16(TK_MOST_IN_WORD, minus, tk_value_by_product(digits, len));
+    if (!found.is_some) {
         return tk_none_pair_u16_size();
     }
-    uint16_t number = number_found.value;
+    uint16_t number = found.value;
     return tk_some_pair_u16_size(tk_new_pair_u16_size(number, TK_CAST(size_t, len)));
 }
 
@@ -1881,11 +1881,11 @@ TK_INLINE tk_option_pair_u16_size tk_quick_field_u16(tk_bytes s, uint8_t separat
     if (found.is_some) {
         uint64_t magnitude = found.value.first;
         size_t len = found.value.second;
-        tk_option_u16 number_found = tk_number_in_range_u16(999, false, magnitude);
-        if (!number_found.is_some) {
+        tk_option_u16 found_2 = tk_number_in_range_u16(999, false, magnitude);
+        if (!found_2.is_some) {
             return tk_none_pair_u16_size();
         }
-        uint16_t number = number_found.value;
+        uint16_t number = found_2.value;
         return tk_some_pair_u16_size(tk_new_pair_u16_size(number, len));
     }
     if (s.len < 16) {
@@ -1913,11 +1913,11 @@ TK_INLINE tk_option_pair_i32_size tk_prefix_of_two_words_i32(bool minus, uint64_
     }
     uint64_t low = tk_value_by_product(next - TK_ZEROS, more);
     uint64_t magnitude = high * tk_power_of_ten(more) + low;
-    tk_option_i32 number_found = tk_number_in_range_i32(TK_MOST_IN_TWO_WORDS, minus, magnitude);
-    if (!number_found.is_some) {
+    tk_option_i32 found = tk_number_in_range_i32(TK_MOST_IN_TWO_WORDS, minus, magnitude);
+    if (!found.is_some) {
         return tk_none_pair_i32_size();
     }
-    int32_t number = number_found.value;
+    int32_t number = found.value;
     return tk_some_pair_i32_size(tk_new_pair_i32_size(number, 8 + TK_CAST(size_t, more)));
 }
 
@@ -1947,11 +1947,11 @@ TK_INLINE tk_option_pair_i32_size tk_prefix_of_words_i32(tk_bytes s)
         return tk_prefix_of_two_words_i32(minus, tk_sum_of(digits), s);
     }
     uint32_t len = tk_u64_trailing_zeros(marks) / 8;
-    tk_option_i32 number_found = tk_number_in_range_i32(TK_MOST_IN_WORD, minus, tk_value_by_product(digits, len));
-    if (!number_found.is_some) {
+    tk_option_i32 found = tk_number_in_range_i32(TK_MOST_IN_WORD, minus, tk_value_by_product(digits, len));
+    if (!found.is_some) {
         return tk_none_pair_i32_size();
     }
-    int32_t number = number_found.value;
+    int32_t number = found.value;
     return tk_some_pair_i32_size(tk_new_pair_i32_size(number, TK_CAST(size_t, len)));
 }
 
@@ -1962,11 +1962,11 @@ TK_INLINE tk_option_pair_i32_size tk_quick_field_i32(tk_bytes s, uint8_t separat
     if (found.is_some) {
         uint64_t magnitude = found.value.first;
         size_t len = found.value.second;
-        tk_option_i32 number_found = tk_number_in_range_i32(999, false, magnitude);
-        if (!number_found.is_some) {
+        tk_option_i32 found_2 = tk_number_in_range_i32(999, false, magnitude);
+        if (!found_2.is_some) {
             return tk_none_pair_i32_size();
         }
-        int32_t number = number_found.value;
+        int32_t number = found_2.value;
         return tk_some_pair_i32_size(tk_new_pair_i32_size(number, len));
     }
     if (s.len < 16) {
@@ -1994,11 +1994,11 @@ TK_INLINE tk_option_pair_u32_size tk_prefix_of_two_words_u32(bool minus, uint64_
     }
     uint64_t low = tk_value_by_product(next - TK_ZEROS, more);
     uint64_t magnitude = high * tk_power_of_ten(more) + low;
-    tk_option_u32 number_found = tk_number_in_range_u32(TK_MOST_IN_TWO_WORDS, minus, magnitude);
-    if (!number_found.is_some) {
+    tk_option_u32 found = tk_number_in_range_u32(TK_MOST_IN_TWO_WORDS, minus, magnitude);
+    if (!found.is_some) {
         return tk_none_pair_u32_size();
     }
-    uint32_t number = number_found.value;
+    uint32_t number = found.value;
     return tk_some_pair_u32_size(tk_new_pair_u32_size(number, 8 + TK_CAST(size_t, more)));
 }
 
@@ -2028,11 +2028,11 @@ TK_INLINE tk_option_pair_u32_size tk_prefix_of_words_u32(tk_bytes s)
         return tk_prefix_of_two_words_u32(minus, tk_sum_of(digits), s);
     }
     uint32_t len = tk_u64_trailing_zeros(marks) / 8;
-    tk_option_u32 number_found = tk_number_in_range_u32(TK_MOST_IN_WORD, minus, tk_value_by_product(digits, len));
-    if (!number_found.is_some) {
+    tk_option_u32 found = tk_number_in_range_u32(TK_MOST_IN_WORD, minus, tk_value_by_product(digits, len));
+    if (!found.is_some) {
         return tk_none_pair_u32_size();
     }
-    uint32_t number = number_found.value;
+    uint32_t number = found.value;
     return tk_some_pair_u32_size(tk_new_pair_u32_size(number, TK_CAST(size_t, len)));
 }
 
@@ -2043,11 +2043,11 @@ TK_INLINE tk_option_pair_u32_size tk_quick_field_u32(tk_bytes s, uint8_t separat
     if (found.is_some) {
         uint64_t magnitude = found.value.first;
         size_t len = found.value.second;
-        tk_option_u32 number_found = tk_number_in_range_u32(999, false, magnitude);
-        if (!number_found.is_some) {
+        tk_option_u32 found_2 = tk_number_in_range_u32(999, false, magnitude);
+        if (!found_2.is_some) {
             return tk_none_pair_u32_size();
         }
-        uint32_t number = number_found.value;
+        uint32_t number = found_2.value;
         return tk_some_pair_u32_size(tk_new_pair_u32_size(number, len));
     }
     if (s.len < 16) {
@@ -2072,11 +2072,11 @@ TK_INLINE tk_option_pair_i64_size tk_quick_field_i64(tk_bytes s, uint8_t separat
     if (found.is_some) {
         uint64_t magnitude = found.value.first;
         size_t len = found.value.second;
-        tk_option_i64 number_found = tk_number_in_range_i64(999, false, magnitude);
-        if (!number_found.is_some) {
+        tk_option_i64 found_2 = tk_number_in_range_i64(999, false, magnitude);
+        if (!found_2.is_some) {
             return tk_none_pair_i64_size();
         }
-        int64_t number = number_found.value;
+        int64_t number = found_2.value;
         return tk_some_pair_i64_size(tk_new_pair_i64_size(number, len));
     }
     if (s.len < 16) {
@@ -2101,11 +2101,11 @@ TK_INLINE tk_option_pair_u64_size tk_quick_field_u64(tk_bytes s, uint8_t separat
     if (found.is_some) {
         uint64_t magnitude = found.value.first;
         size_t len = found.value.second;
-        tk_option_u64 number_found = tk_number_in_range_u64(999, false, magnitude);
-        if (!number_found.is_some) {
+        tk_option_u64 found_2 = tk_number_in_range_u64(999, false, magnitude);
+        if (!found_2.is_some) {
             return tk_none_pair_u64_size();
         }
-        uint64_t number = number_found.value;
+        uint64_t number = found_2.value;
         return tk_some_pair_u64_size(tk_new_pair_u64_size(number, len));
     }
     if (s.len < 16) {
@@ -2133,11 +2133,11 @@ TK_INLINE tk_option_pair_i128_size tk_prefix_of_two_words_i128(bool minus, uint6
     }
     uint64_t low = tk_value_by_product(next - TK_ZEROS, more);
     uint64_t magnitude = high * tk_power_of_ten(more) + low;
-    tk_option_i128 number_found = tk_number_in_range_i128(TK_MOST_IN_TWO_WORDS, minus, magnitude);
-    if (!number_found.is_some) {
+    tk_option_i128 found = tk_number_in_range_i128(TK_MOST_IN_TWO_WORDS, minus, magnitude);
+    if (!found.is_some) {
         return tk_none_pair_i128_size();
     }
-    tk_i128 number = number_found.value;
+    tk_i128 number = found.value;
     return tk_some_pair_i128_size(tk_new_pair_i128_size(number, 8 + TK_CAST(size_t, more)));
 }
 
@@ -2167,11 +2167,11 @@ TK_INLINE tk_option_pair_i128_size tk_prefix_of_words_i128(tk_bytes s)
         return tk_prefix_of_two_words_i128(minus, tk_sum_of(digits), s);
     }
     uint32_t len = tk_u64_trailing_zeros(marks) / 8;
-    tk_option_i128 number_found = tk_number_in_range_i128(TK_MOST_IN_WORD, minus, tk_value_by_product(digits, len));
-    if (!number_found.is_some) {
+    tk_option_i128 found = tk_number_in_range_i128(TK_MOST_IN_WORD, minus, tk_value_by_product(digits, len));
+    if (!found.is_some) {
         return tk_none_pair_i128_size();
     }
-    tk_i128 number = number_found.value;
+    tk_i128 number = found.value;
     return tk_some_pair_i128_size(tk_new_pair_i128_size(number, TK_CAST(size_t, len)));
 }
 
@@ -2182,11 +2182,11 @@ TK_INLINE tk_option_pair_i128_size tk_quick_field_i128(tk_bytes s, uint8_t separ
     if (found.is_some) {
         uint64_t magnitude = found.value.first;
         size_t len = found.value.second;
-        tk_option_i128 number_found = tk_number_in_range_i128(999, false, magnitude);
-        if (!number_found.is_some) {
+        tk_option_i128 found_2 = tk_number_in_range_i128(999, false, magnitude);
+        if (!found_2.is_some) {
             return tk_none_pair_i128_size();
         }
-        tk_i128 number = number_found.value;
+        tk_i128 number = found_2.value;
         return tk_some_pair_i128_size(tk_new_pair_i128_size(number, len));
     }
     if (s.len < 16) {
@@ -2214,11 +2214,11 @@ TK_INLINE tk_option_pair_u128_size tk_prefix_of_two_words_u128(bool minus, uint6
     }
     uint64_t low = tk_value_by_product(next - TK_ZEROS, more);
     uint64_t magnitude = high * tk_power_of_ten(more) + low;
-    tk_option_u128 number_found = tk_number_in_range_u128(TK_MOST_IN_TWO_WORDS, minus, magnitude);
-    if (!number_found.is_some) {
+    tk_option_u128 found = tk_number_in_range_u128(TK_MOST_IN_TWO_WORDS, minus, magnitude);
+    if (!found.is_some) {
         return tk_none_pair_u128_size();
     }
-    tk_u128 number = number_found.value;
+    tk_u128 number = found.value;
     return tk_some_pair_u128_size(tk_new_pair_u128_size(number, 8 + TK_CAST(size_t, more)));
 }
 
@@ -2248,11 +2248,11 @@ TK_INLINE tk_option_pair_u128_size tk_prefix_of_words_u128(tk_bytes s)
         return tk_prefix_of_two_words_u128(minus, tk_sum_of(digits), s);
     }
     uint32_t len = tk_u64_trailing_zeros(marks) / 8;
-    tk_option_u128 number_found = tk_number_in_range_u128(TK_MOST_IN_WORD, minus, tk_value_by_product(digits, len));
-    if (!number_found.is_some) {
+    tk_option_u128 found = tk_number_in_range_u128(TK_MOST_IN_WORD, minus, tk_value_by_product(digits, len));
+    if (!found.is_some) {
         return tk_none_pair_u128_size();
     }
-    tk_u128 number = number_found.value;
+    tk_u128 number = found.value;
     return tk_some_pair_u128_size(tk_new_pair_u128_size(number, TK_CAST(size_t, len)));
 }
 
@@ -2263,11 +2263,11 @@ TK_INLINE tk_option_pair_u128_size tk_quick_field_u128(tk_bytes s, uint8_t separ
     if (found.is_some) {
         uint64_t magnitude = found.value.first;
         size_t len = found.value.second;
-        tk_option_u128 number_found = tk_number_in_range_u128(999, false, magnitude);
-        if (!number_found.is_some) {
+        tk_option_u128 found_2 = tk_number_in_range_u128(999, false, magnitude);
+        if (!found_2.is_some) {
             return tk_none_pair_u128_size();
         }
-        tk_u128 number = number_found.value;
+        tk_u128 number = found_2.value;
         return tk_some_pair_u128_size(tk_new_pair_u128_size(number, len));
     }
     if (s.len < 16) {
@@ -2295,12 +2295,12 @@ TK_INLINE tk_option_pair_i8_size tk_three_or_more_i8(tk_bytes s)
         uint8_t third = s.at[2];
         uint64_t tens = 10 * TK_CAST(uint64_t, TK_CAST(uint8_t, first - '0')) + TK_CAST(uint64_t,
                                                                                         TK_CAST(uint8_t, second - '0'));
-        tk_option_i8 number_found = tk_number_in_range_i8(999, false,
-                                                          10 * tens + TK_CAST(uint64_t, TK_CAST(uint8_t, third - '0')));
-        if (!number_found.is_some) {
+        tk_option_i8 found = tk_number_in_range_i8(999, false,
+                                                   10 * tens + TK_CAST(uint64_t, TK_CAST(uint8_t, third - '0')));
+        if (!found.is_some) {
             return tk_none_pair_i8_size();
         }
-        int8_t number = number_found.value;
+        int8_t number = found.value;
         return tk_some_pair_i8_size(tk_new_pair_i8_size(number, 3));
     }
     return tk_prefix_of_words_i8(s);
@@ -2350,11 +2350,11 @@ TK_INLINE tk_option_pair_u8_size tk_prefix_in_word_u8(uint64_t word, uint32_t le
 {
     (void)s;
     uint64_t magnitude = tk_value_by_product(word - TK_ZEROS, len);
-    tk_option_u8 number_found = tk_number_in_range_u8(TK_MOST_IN_WORD, false, magnitude);
-    if (!number_found.is_some) {
+    tk_option_u8 found = tk_number_in_range_u8(TK_MOST_IN_WORD, false, magnitude);
+    if (!found.is_some) {
         return tk_none_pair_u8_size();
     }
-    uint8_t number = number_found.value;
+    uint8_t number = found.value;
     return tk_some_pair_u8_size(tk_new_pair_u8_size(number, TK_CAST(size_t, len)));
 }
 
@@ -2378,11 +2378,11 @@ TK_INLINE tk_option_pair_u8_size tk_prefix_by_length_u8(tk_bytes s)
     }
     if ((marks & UINT64_C(0xFFFFFFFF)) != 0) {
         uint64_t three = 10 * two + TK_CAST(uint64_t, tk_lowest_byte(digits >> 16));
-        tk_option_u8 number_found = tk_number_in_range_u8(TK_MOST_IN_WORD, false, three);
-        if (!number_found.is_some) {
+        tk_option_u8 found = tk_number_in_range_u8(TK_MOST_IN_WORD, false, three);
+        if (!found.is_some) {
             return tk_none_pair_u8_size();
         }
-        uint8_t number = number_found.value;
+        uint8_t number = found.value;
         return tk_some_pair_u8_size(tk_new_pair_u8_size(number, 3));
     }
     if (marks == 0) {
@@ -2431,13 +2431,12 @@ TK_INLINE tk_option_pair_i16_size tk_three_or_more_i16(tk_bytes s)
         uint8_t third = s.at[2];
         uint64_t tens = 10 * TK_CAST(uint64_t, TK_CAST(uint8_t, first - '0')) + TK_CAST(uint64_t,
                                                                                         TK_CAST(uint8_t, second - '0'));
-        tk_option_i16 number_found = tk_number_in_range_i16(999, false,
-                                                            10 * tens + TK_CAST(uint64_t,
-                                                                                TK_CAST(uint8_t, third - '0')));
-        if (!number_found.is_some) {
+        tk_option_i16 found = tk_number_in_range_i16(999, false,
+                                                     10 * tens + TK_CAST(uint64_t, TK_CAST(uint8_t, third - '0')));
+        if (!found.is_some) {
             return tk_none_pair_i16_size();
         }
-        int16_t number = number_found.value;
+        int16_t number = found.value;
         return tk_some_pair_i16_size(tk_new_pair_i16_size(number, 3));
     }
     return tk_prefix_of_words_i16(s);
@@ -2481,11 +2480,11 @@ TK_INLINE tk_option_pair_u16_size tk_prefix_in_word_u16(uint64_t word, uint32_t 
 {
     (void)s;
     uint64_t magnitude = tk_value_by_product(word - TK_ZEROS, len);
-    tk_option_u16 number_found = tk_number_in_range_u16(TK_MOST_IN_WORD, false, magnitude);
-    if (!number_found.is_some) {
+    tk_option_u16 found = tk_number_in_range_u16(TK_MOST_IN_WORD, false, magnitude);
+    if (!found.is_some) {
         return tk_none_pair_u16_size();
     }
-    uint16_t number = number_found.value;
+    uint16_t number = found.value;
     return tk_some_pair_u16_size(tk_new_pair_u16_size(number, TK_CAST(size_t, len)));
 }
 
@@ -2508,11 +2507,11 @@ TK_INLINE tk_option_pair_u16_size tk_prefix_by_length_u16(tk_bytes s)
     }
     if ((marks & UINT64_C(0xFFFFFFFF)) != 0) {
         uint64_t three = 10 * two + TK_CAST(uint64_t, tk_lowest_byte(digits >> 16));
-        tk_option_u16 number_found = tk_number_in_range_u16(TK_MOST_IN_WORD, false, three);
-        if (!number_found.is_some) {
+        tk_option_u16 found = tk_number_in_range_u16(TK_MOST_IN_WORD, false, three);
+        if (!found.is_some) {
             return tk_none_pair_u16_size();
         }
-        uint16_t number = number_found.value;
+        uint16_t number = found.value;
         return tk_some_pair_u16_size(tk_new_pair_u16_size(number, 3));
     }
     if (marks == 0) {
@@ -2561,13 +2560,12 @@ TK_INLINE tk_option_pair_i32_size tk_three_or_more_i32(tk_bytes s)
         uint8_t third = s.at[2];
         uint64_t tens = 10 * TK_CAST(uint64_t, TK_CAST(uint8_t, first - '0')) + TK_CAST(uint64_t,
                                                                                         TK_CAST(uint8_t, second - '0'));
-        tk_option_i32 number_found = tk_number_in_range_i32(999, false,
-                                                            10 * tens + TK_CAST(uint64_t,
-                                                                                TK_CAST(uint8_t, third - '0')));
-        if (!number_found.is_some) {
+        tk_option_i32 found = tk_number_in_range_i32(999, false,
+                                                     10 * tens + TK_CAST(uint64_t, TK_CAST(uint8_t, third - '0')));
+        if (!found.is_some) {
             return tk_none_pair_i32_size();
         }
-        int32_t number = number_found.value;
+        int32_t number = found.value;
         return tk_some_pair_i32_size(tk_new_pair_i32_size(number, 3));
     }
     return tk_prefix_of_words_i32(s);
@@ -2611,11 +2609,11 @@ TK_INLINE tk_option_pair_u32_size tk_prefix_in_word_u32(uint64_t word, uint32_t 
 {
     (void)s;
     uint64_t magnitude = tk_value_by_product(word - TK_ZEROS, len);
-    tk_option_u32 number_found = tk_number_in_range_u32(TK_MOST_IN_WORD, false, magnitude);
-    if (!number_found.is_some) {
+    tk_option_u32 found = tk_number_in_range_u32(TK_MOST_IN_WORD, false, magnitude);
+    if (!found.is_some) {
         return tk_none_pair_u32_size();
     }
-    uint32_t number = number_found.value;
+    uint32_t number = found.value;
     return tk_some_pair_u32_size(tk_new_pair_u32_size(number, TK_CAST(size_t, len)));
 }
 
@@ -2638,11 +2636,11 @@ TK_INLINE tk_option_pair_u32_size tk_prefix_by_length_u32(tk_bytes s)
     }
     if ((marks & UINT64_C(0xFFFFFFFF)) != 0) {
         uint64_t three = 10 * two + TK_CAST(uint64_t, tk_lowest_byte(digits >> 16));
-        tk_option_u32 number_found = tk_number_in_range_u32(TK_MOST_IN_WORD, false, three);
-        if (!number_found.is_some) {
+        tk_option_u32 found = tk_number_in_range_u32(TK_MOST_IN_WORD, false, three);
+        if (!found.is_some) {
             return tk_none_pair_u32_size();
         }
-        uint32_t number = number_found.value;
+        uint32_t number = found.value;
         return tk_some_pair_u32_size(tk_new_pair_u32_size(number, 3));
     }
     if (marks == 0) {
@@ -2691,13 +2689,12 @@ TK_INLINE tk_option_pair_i64_size tk_three_or_more_i64(tk_bytes s)
         uint8_t third = s.at[2];
         uint64_t tens = 10 * TK_CAST(uint64_t, TK_CAST(uint8_t, first - '0')) + TK_CAST(uint64_t,
                                                                                         TK_CAST(uint8_t, second - '0'));
-        tk_option_i64 number_found = tk_number_in_range_i64(999, false,
-                                                            10 * tens + TK_CAST(uint64_t,
-                                                                                TK_CAST(uint8_t, third - '0')));
-        if (!number_found.is_some) {
+        tk_option_i64 found = tk_number_in_range_i64(999, false,
+                                                     10 * tens + TK_CAST(uint64_t, TK_CAST(uint8_t, third - '0')));
+        if (!found.is_some) {
             return tk_none_pair_i64_size();
         }
-        int64_t number = number_found.value;
+        int64_t number = found.value;
         return tk_some_pair_i64_size(tk_new_pair_i64_size(number, 3));
     }
     return tk_prefix_of_words_i64(s);
@@ -2741,11 +2738,11 @@ TK_INLINE tk_option_pair_u64_size tk_prefix_in_word_u64(uint64_t word, uint32_t 
 {
     (void)s;
     uint64_t magnitude = tk_value_by_product(word - TK_ZEROS, len);
-    tk_option_u64 number_found = tk_number_in_range_u64(TK_MOST_IN_WORD, false, magnitude);
-    if (!number_found.is_some) {
+    tk_option_u64 found = tk_number_in_range_u64(TK_MOST_IN_WORD, false, magnitude);
+    if (!found.is_some) {
         return tk_none_pair_u64_size();
     }
-    uint64_t number = number_found.value;
+    uint64_t number = found.value;
     return tk_some_pair_u64_size(tk_new_pair_u64_size(number, TK_CAST(size_t, len)));
 }
 
@@ -2768,11 +2765,11 @@ TK_INLINE tk_option_pair_u64_size tk_prefix_by_length_u64(tk_bytes s)
     }
     if ((marks & UINT64_C(0xFFFFFFFF)) != 0) {
         uint64_t three = 10 * two + TK_CAST(uint64_t, tk_lowest_byte(digits >> 16));
-        tk_option_u64 number_found = tk_number_in_range_u64(TK_MOST_IN_WORD, false, three);
-        if (!number_found.is_some) {
+        tk_option_u64 found = tk_number_in_range_u64(TK_MOST_IN_WORD, false, three);
+        if (!found.is_some) {
             return tk_none_pair_u64_size();
         }
-        uint64_t number = number_found.value;
+        uint64_t number = found.value;
         return tk_some_pair_u64_size(tk_new_pair_u64_size(number, 3));
     }
     if (marks == 0) {
@@ -2821,13 +2818,12 @@ TK_INLINE tk_option_pair_i128_size tk_three_or_more_i128(tk_bytes s)
         uint8_t third = s.at[2];
         uint64_t tens = 10 * TK_CAST(uint64_t, TK_CAST(uint8_t, first - '0')) + TK_CAST(uint64_t,
                                                                                         TK_CAST(uint8_t, second - '0'));
-        tk_option_i128 number_found = tk_number_in_range_i128(999, false,
-                                                              10 * tens + TK_CAST(uint64_t,
-                                                                                  TK_CAST(uint8_t, third - '0')));
-        if (!number_found.is_some) {
+        tk_option_i128 found = tk_number_in_range_i128(999, false,
+                                                       10 * tens + TK_CAST(uint64_t, TK_CAST(uint8_t, third - '0')));
+        if (!found.is_some) {
             return tk_none_pair_i128_size();
         }
-        tk_i128 number = number_found.value;
+        tk_i128 number = found.value;
         return tk_some_pair_i128_size(tk_new_pair_i128_size(number, 3));
     }
     return tk_prefix_of_words_i128(s);
@@ -2871,11 +2867,11 @@ TK_INLINE tk_option_pair_u128_size tk_prefix_in_word_u128(uint64_t word, uint32_
 {
     (void)s;
     uint64_t magnitude = tk_value_by_product(word - TK_ZEROS, len);
-    tk_option_u128 number_found = tk_number_in_range_u128(TK_MOST_IN_WORD, false, magnitude);
-    if (!number_found.is_some) {
+    tk_option_u128 found = tk_number_in_range_u128(TK_MOST_IN_WORD, false, magnitude);
+    if (!found.is_some) {
         return tk_none_pair_u128_size();
     }
-    tk_u128 number = number_found.value;
+    tk_u128 number = found.value;
     return tk_some_pair_u128_size(tk_new_pair_u128_size(number, TK_CAST(size_t, len)));
 }
 
@@ -2898,11 +2894,11 @@ TK_INLINE tk_option_pair_u128_size tk_prefix_by_length_u128(tk_bytes s)
     }
     if ((marks & UINT64_C(0xFFFFFFFF)) != 0) {
         uint64_t three = 10 * two + TK_CAST(uint64_t, tk_lowest_byte(digits >> 16));
-        tk_option_u128 number_found = tk_number_in_range_u128(TK_MOST_IN_WORD, false, three);
-        if (!number_found.is_some) {
+        tk_option_u128 found = tk_number_in_range_u128(TK_MOST_IN_WORD, false, three);
+        if (!found.is_some) {
             return tk_none_pair_u128_size();
         }
-        tk_u128 number = number_found.value;
+        tk_u128 number = found.value;
         return tk_some_pair_u128_size(tk_new_pair_u128_size(number, 3));
     }
     if (marks == 0) {

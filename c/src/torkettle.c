@@ -2008,11 +2008,11 @@ TK_FAR tk_option_pair_i64_size tk_prefix_of_three_words_i64(bool minus, uint64_t
     }
     uint64_t low = tk_four_by_product(third - TK_ZEROS, more);
     uint64_t magnitude = high_2 * tk_power_of_ten(more) + low;
-    tk_option_i64 number_found = tk_number_in_range_i64(TK_MOST_IN_THREE_WORDS, minus, magnitude);
-    if (!number_found.is_some) {
+    tk_option_i64 found = tk_number_in_range_i64(TK_MOST_IN_THREE_WORDS, minus, magnitude);
+    if (!found.is_some) {
         return tk_none_pair_i64_size();
     }
-    int64_t number = number_found.value;
+    int64_t number = found.value;
     return tk_some_pair_i64_size(tk_new_pair_i64_size(number, 16 + TK_CAST(size_t, more)));
 }
 
@@ -2046,11 +2046,11 @@ TK_FAR tk_option_pair_u64_size tk_prefix_of_three_words_u64(bool minus, uint64_t
     }
     uint64_t low = tk_four_by_product(third - TK_ZEROS, more);
     uint64_t magnitude = high_2 * tk_power_of_ten(more) + low;
-    tk_option_u64 number_found = tk_number_in_range_u64(TK_MOST_IN_THREE_WORDS, minus, magnitude);
-    if (!number_found.is_some) {
+    tk_option_u64 found = tk_number_in_range_u64(TK_MOST_IN_THREE_WORDS, minus, magnitude);
+    if (!found.is_some) {
         return tk_none_pair_u64_size();
     }
-    uint64_t number = number_found.value;
+    uint64_t number = found.value;
     return tk_some_pair_u64_size(tk_new_pair_u64_size(number, 16 + TK_CAST(size_t, more)));
 }
 
@@ -2264,11 +2264,11 @@ TK_HINTED tk_result_u64 tk_narrow_within_bound(uint64_t bound, size_t len, uint6
 TK_HINTED tk_result_u64 tk_narrow_answer(uint64_t bound, size_t len, bool is_whole, uint64_t number, tk_bytes s)
 {
     if (!is_whole) {
-        tk_result_u64 number_found = tk_narrow_within_bound(bound, len, number, s);
-        if (!number_found.is_ok) {
-            return tk_err_u64(number_found.error);
+        tk_result_u64 found = tk_narrow_within_bound(bound, len, number, s);
+        if (!found.is_ok) {
+            return tk_err_u64(found.error);
         }
-        uint64_t number_2 = number_found.value;
+        uint64_t number_2 = found.value;
         return tk_err_u64(tk_error_invalid64(number_2, len, s));
     }
     return tk_narrow_within_bound(bound, len, number, s);
@@ -2693,19 +2693,19 @@ TK_INLINE tk_result_u128 tk_whole_by_size(uint32_t bits, bool is_signed, tk_u128
 {
     tk_u128 bound = tk_greatest_magnitude(greatest, minus);
     if (bits <= 32) {
-        tk_result_u64 number_found = tk_narrow_whole_windows(tk_u128_low(bound), s);
-        if (!number_found.is_ok) {
-            return tk_err_u128(number_found.error);
+        tk_result_u64 found = tk_narrow_whole_windows(tk_u128_low(bound), s);
+        if (!found.is_ok) {
+            return tk_err_u128(found.error);
         }
-        uint64_t number = number_found.value;
+        uint64_t number = found.value;
         return tk_ok_u128(tk_u128_of(number));
     }
     if (bits == 64) {
-        tk_result_u64 number_found = tk_whole_64(tk_u128_low(bound), tk_limit_64(is_signed), skip, s);
-        if (!number_found.is_ok) {
-            return tk_err_u128(number_found.error);
+        tk_result_u64 found = tk_whole_64(tk_u128_low(bound), tk_limit_64(is_signed), skip, s);
+        if (!found.is_ok) {
+            return tk_err_u128(found.error);
         }
-        uint64_t number = number_found.value;
+        uint64_t number = found.value;
         return tk_ok_u128(tk_u128_of(number));
     }
     return tk_whole_128(bound, skip, s);
@@ -2718,11 +2718,11 @@ TK_INLINE tk_result_u128 tk_whole_by_size(uint32_t bits, bool is_signed, tk_u128
 /* atoi_core/src/calls.rt:136 */
 TK_INLINE tk_result_i8 tk_whole_with_sign_i8(bool minus, bool skip, tk_bytes s)
 {
-    tk_result_u128 magnitude_found = tk_whole_by_size(8, true, tk_u128_of(127), minus, skip, s);
-    if (!magnitude_found.is_ok) {
-        return tk_err_i8(magnitude_found.error);
+    tk_result_u128 found = tk_whole_by_size(8, true, tk_u128_of(127), minus, skip, s);
+    if (!found.is_ok) {
+        return tk_err_i8(found.error);
     }
-    tk_u128 magnitude = magnitude_found.value;
+    tk_u128 magnitude = found.value;
     return tk_ok_i8(tk_from_parts_i8(minus, magnitude));
 }
 
@@ -2780,11 +2780,11 @@ TK_NOINLINE tk_option_u8 tk_loaded_slice_u8(tk_bytes s)
 /* atoi_core/src/calls.rt:136 */
 TK_INLINE tk_result_u8 tk_whole_with_sign_u8(bool minus, bool skip, tk_bytes s)
 {
-    tk_result_u128 magnitude_found = tk_whole_by_size(8, false, tk_u128_of(255), minus, skip, s);
-    if (!magnitude_found.is_ok) {
-        return tk_err_u8(magnitude_found.error);
+    tk_result_u128 found = tk_whole_by_size(8, false, tk_u128_of(255), minus, skip, s);
+    if (!found.is_ok) {
+        return tk_err_u8(found.error);
     }
-    tk_u128 magnitude = magnitude_found.value;
+    tk_u128 magnitude = found.value;
     return tk_ok_u8(tk_from_parts_u8(minus, magnitude));
 }
 
@@ -2837,11 +2837,11 @@ TK_NOINLINE tk_option_i16 tk_loaded_slice_i16(tk_bytes s)
 /* atoi_core/src/calls.rt:136 */
 TK_INLINE tk_result_i16 tk_whole_with_sign_i16(bool minus, bool skip, tk_bytes s)
 {
-    tk_result_u128 magnitude_found = tk_whole_by_size(16, true, tk_u128_of(32767), minus, skip, s);
-    if (!magnitude_found.is_ok) {
-        return tk_err_i16(magnitude_found.error);
+    tk_result_u128 found = tk_whole_by_size(16, true, tk_u128_of(32767), minus, skip, s);
+    if (!found.is_ok) {
+        return tk_err_i16(found.error);
     }
-    tk_u128 magnitude = magnitude_found.value;
+    tk_u128 magnitude = found.value;
     return tk_ok_i16(tk_from_parts_i16(minus, magnitude));
 }
 
@@ -2894,11 +2894,11 @@ TK_NOINLINE tk_option_u16 tk_loaded_slice_u16(tk_bytes s)
 /* atoi_core/src/calls.rt:136 */
 TK_INLINE tk_result_u16 tk_whole_with_sign_u16(bool minus, bool skip, tk_bytes s)
 {
-    tk_result_u128 magnitude_found = tk_whole_by_size(16, false, tk_u128_of(65535), minus, skip, s);
-    if (!magnitude_found.is_ok) {
-        return tk_err_u16(magnitude_found.error);
+    tk_result_u128 found = tk_whole_by_size(16, false, tk_u128_of(65535), minus, skip, s);
+    if (!found.is_ok) {
+        return tk_err_u16(found.error);
     }
-    tk_u128 magnitude = magnitude_found.value;
+    tk_u128 magnitude = found.value;
     return tk_ok_u16(tk_from_parts_u16(minus, magnitude));
 }
 
@@ -2951,11 +2951,11 @@ TK_NOINLINE tk_option_i32 tk_loaded_slice_i32(tk_bytes s)
 /* atoi_core/src/calls.rt:136 */
 TK_INLINE tk_result_i32 tk_whole_with_sign_i32(bool minus, bool skip, tk_bytes s)
 {
-    tk_result_u128 magnitude_found = tk_whole_by_size(32, true, tk_u128_of(2147483647), minus, skip, s);
-    if (!magnitude_found.is_ok) {
-        return tk_err_i32(magnitude_found.error);
+    tk_result_u128 found = tk_whole_by_size(32, true, tk_u128_of(2147483647), minus, skip, s);
+    if (!found.is_ok) {
+        return tk_err_i32(found.error);
     }
-    tk_u128 magnitude = magnitude_found.value;
+    tk_u128 magnitude = found.value;
     return tk_ok_i32(tk_from_parts_i32(minus, magnitude));
 }
 
@@ -3008,11 +3008,11 @@ TK_NOINLINE tk_option_u32 tk_loaded_slice_u32(tk_bytes s)
 /* atoi_core/src/calls.rt:136 */
 TK_INLINE tk_result_u32 tk_whole_with_sign_u32(bool minus, bool skip, tk_bytes s)
 {
-    tk_result_u128 magnitude_found = tk_whole_by_size(32, false, tk_u128_of(UINT64_C(4294967295)), minus, skip, s);
-    if (!magnitude_found.is_ok) {
-        return tk_err_u32(magnitude_found.error);
+    tk_result_u128 found = tk_whole_by_size(32, false, tk_u128_of(UINT64_C(4294967295)), minus, skip, s);
+    if (!found.is_ok) {
+        return tk_err_u32(found.error);
     }
-    tk_u128 magnitude = magnitude_found.value;
+    tk_u128 magnitude = found.value;
     return tk_ok_u32(tk_from_parts_u32(minus, magnitude));
 }
 
@@ -3065,12 +3065,11 @@ TK_NOINLINE tk_option_i64 tk_loaded_slice_i64(tk_bytes s)
 /* atoi_core/src/calls.rt:136 */
 TK_INLINE tk_result_i64 tk_whole_with_sign_i64(bool minus, bool skip, tk_bytes s)
 {
-    tk_result_u128 magnitude_found = tk_whole_by_size(64, true, tk_u128_of(UINT64_C(9223372036854775807)), minus, skip,
-                                                      s);
-    if (!magnitude_found.is_ok) {
-        return tk_err_i64(magnitude_found.error);
+    tk_result_u128 found = tk_whole_by_size(64, true, tk_u128_of(UINT64_C(9223372036854775807)), minus, skip, s);
+    if (!found.is_ok) {
+        return tk_err_i64(found.error);
     }
-    tk_u128 magnitude = magnitude_found.value;
+    tk_u128 magnitude = found.value;
     return tk_ok_i64(tk_from_parts_i64(minus, magnitude));
 }
 
@@ -3123,12 +3122,11 @@ TK_NOINLINE tk_option_u64 tk_loaded_slice_u64(tk_bytes s)
 /* atoi_core/src/calls.rt:136 */
 TK_INLINE tk_result_u64 tk_whole_with_sign_u64(bool minus, bool skip, tk_bytes s)
 {
-    tk_result_u128 magnitude_found = tk_whole_by_size(64, false, tk_u128_of(UINT64_C(18446744073709551615)), minus,
-                                                      skip, s);
-    if (!magnitude_found.is_ok) {
-        return tk_err_u64(magnitude_found.error);
+    tk_result_u128 found = tk_whole_by_size(64, false, tk_u128_of(UINT64_C(18446744073709551615)), minus, skip, s);
+    if (!found.is_ok) {
+        return tk_err_u64(found.error);
     }
-    tk_u128 magnitude = magnitude_found.value;
+    tk_u128 magnitude = found.value;
     return tk_ok_u64(tk_from_parts_u64(minus, magnitude));
 }
 
@@ -3181,13 +3179,13 @@ TK_NOINLINE tk_option_i128 tk_loaded_slice_i128(tk_bytes s)
 /* atoi_core/src/calls.rt:136 */
 TK_INLINE tk_result_i128 tk_whole_with_sign_i128(bool minus, bool skip, tk_bytes s)
 {
-    tk_result_u128 magnitude_found = tk_whole_by_size(128, true,
-                                                      tk_u128_make(UINT64_C(9223372036854775807),
-                                                                   UINT64_C(18446744073709551615)), minus, skip, s);
-    if (!magnitude_found.is_ok) {
-        return tk_err_i128(magnitude_found.error);
+    tk_result_u128 found = tk_whole_by_size(128, true,
+                                            tk_u128_make(UINT64_C(9223372036854775807), UINT64_C(18446744073709551615)),
+                                                minus, skip, s);
+    if (!found.is_ok) {
+        return tk_err_i128(found.error);
     }
-    tk_u128 magnitude = magnitude_found.value;
+    tk_u128 magnitude = found.value;
     return tk_ok_i128(tk_from_parts_i128(minus, magnitude));
 }
 
@@ -3240,13 +3238,13 @@ TK_NOINLINE tk_option_u128 tk_loaded_slice_u128(tk_bytes s)
 /* atoi_core/src/calls.rt:136 */
 TK_INLINE tk_result_u128 tk_whole_with_sign_u128(bool minus, bool skip, tk_bytes s)
 {
-    tk_result_u128 magnitude_found = tk_whole_by_size(128, false,
-                                                      tk_u128_make(UINT64_C(18446744073709551615),
-                                                                   UINT64_C(18446744073709551615)), minus, skip, s);
-    if (!magnitude_found.is_ok) {
-        return tk_err_u128(magnitude_found.error);
+    tk_result_u128 found = tk_whole_by_size(128, false,
+                                            tk_u128_make(UINT64_C(18446744073709551615),
+                                                         UINT64_C(18446744073709551615)), minus, skip, s);
+    if (!found.is_ok) {
+        return tk_err_u128(found.error);
     }
-    tk_u128 magnitude = magnitude_found.value;
+    tk_u128 magnitude = found.value;
     return tk_ok_u128(tk_from_parts_u128(minus, magnitude));
 }
 
@@ -4296,11 +4294,11 @@ TK_INLINE tk_option_pair_i8_size tk_prefix_in_word_i8(uint64_t word, uint32_t le
 {
     (void)s;
     uint64_t magnitude = tk_value_by_product(word - TK_ZEROS, len);
-    tk_option_i8 number_found = tk_number_in_range_i8(TK_MOST_IN_WORD, false, magnitude);
-    if (!number_found.is_some) {
+    tk_option_i8 found = tk_number_in_range_i8(TK_MOST_IN_WORD, false, magnitude);
+    if (!found.is_some) {
         return tk_none_pair_i8_size();
     }
-    int8_t number = number_found.value;
+    int8_t number = found.value;
     return tk_some_pair_i8_size(tk_new_pair_i8_size(number, TK_CAST(size_t, len)));
 }
 
@@ -4388,11 +4386,11 @@ TK_INLINE tk_option_pair_i16_size tk_prefix_in_word_i16(uint64_t word, uint32_t 
 {
     (void)s;
     uint64_t magnitude = tk_value_by_product(word - TK_ZEROS, len);
-    tk_option_i16 number_found = tk_number_in_range_i16(TK_MOST_IN_WORD, false, magnitude);
-    if (!number_found.is_some) {
+    tk_option_i16 found = tk_number_in_range_i16(TK_MOST_IN_WORD, false, magnitude);
+    if (!found.is_some) {
         return tk_none_pair_i16_size();
     }
-    int16_t number = number_found.value;
+    int16_t number = found.value;
     return tk_some_pair_i16_size(tk_new_pair_i16_size(number, TK_CAST(size_t, len)));
 }
 
@@ -4474,11 +4472,11 @@ TK_INLINE tk_option_pair_i32_size tk_prefix_in_word_i32(uint64_t word, uint32_t 
 {
     (void)s;
     uint64_t magnitude = tk_value_by_product(word - TK_ZEROS, len);
-    tk_option_i32 number_found = tk_number_in_range_i32(TK_MOST_IN_WORD, false, magnitude);
-    if (!number_found.is_some) {
+    tk_option_i32 found = tk_number_in_range_i32(TK_MOST_IN_WORD, false, magnitude);
+    if (!found.is_some) {
         return tk_none_pair_i32_size();
     }
-    int32_t number = number_found.value;
+    int32_t number = found.value;
     return tk_some_pair_i32_size(tk_new_pair_i32_size(number, TK_CAST(size_t, len)));
 }
 
@@ -4560,11 +4558,11 @@ TK_INLINE tk_option_pair_i64_size tk_prefix_in_word_i64(uint64_t word, uint32_t 
 {
     (void)s;
     uint64_t magnitude = tk_value_by_product(word - TK_ZEROS, len);
-    tk_option_i64 number_found = tk_number_in_range_i64(TK_MOST_IN_WORD, false, magnitude);
-    if (!number_found.is_some) {
+    tk_option_i64 found = tk_number_in_range_i64(TK_MOST_IN_WORD, false, magnitude);
+    if (!found.is_some) {
         return tk_none_pair_i64_size();
     }
-    int64_t number = number_found.value;
+    int64_t number = found.value;
     return tk_some_pair_i64_size(tk_new_pair_i64_size(number, TK_CAST(size_t, len)));
 }
 
@@ -4646,11 +4644,11 @@ TK_INLINE tk_option_pair_i128_size tk_prefix_in_word_i128(uint64_t word, uint32_
 {
     (void)s;
     uint64_t magnitude = tk_value_by_product(word - TK_ZEROS, len);
-    tk_option_i128 number_found = tk_number_in_range_i128(TK_MOST_IN_WORD, false, magnitude);
-    if (!number_found.is_some) {
+    tk_option_i128 found = tk_number_in_range_i128(TK_MOST_IN_WORD, false, magnitude);
+    if (!found.is_some) {
         return tk_none_pair_i128_size();
     }
-    tk_i128 number = number_found.value;
+    tk_i128 number = found.value;
     return tk_some_pair_i128_size(tk_new_pair_i128_size(number, TK_CAST(size_t, len)));
 }
 
@@ -5679,11 +5677,11 @@ TK_INLINE tk_option_pair_i8_bytes tk_accepted_field_i8(tk_bytes rest, uint8_t se
     }
     int8_t value = found.value.first;
     size_t count = found.value.second;
-    tk_option_bytes following_found = tk_after_field(tk_bytes_from(rest, count), separator, is_lines);
-    if (!following_found.is_some) {
+    tk_option_bytes found_2 = tk_after_field(tk_bytes_from(rest, count), separator, is_lines);
+    if (!found_2.is_some) {
         return tk_none_pair_i8_bytes();
     }
-    tk_bytes following = following_found.value;
+    tk_bytes following = found_2.value;
     return tk_some_pair_i8_bytes(tk_new_pair_i8_bytes(value, following));
 }
 
@@ -5817,11 +5815,11 @@ TK_INLINE tk_option_pair_u8_bytes tk_accepted_field_u8(tk_bytes rest, uint8_t se
     }
     uint8_t value = found.value.first;
     size_t count = found.value.second;
-    tk_option_bytes following_found = tk_after_field(tk_bytes_from(rest, count), separator, is_lines);
-    if (!following_found.is_some) {
+    tk_option_bytes found_2 = tk_after_field(tk_bytes_from(rest, count), separator, is_lines);
+    if (!found_2.is_some) {
         return tk_none_pair_u8_bytes();
     }
-    tk_bytes following = following_found.value;
+    tk_bytes following = found_2.value;
     return tk_some_pair_u8_bytes(tk_new_pair_u8_bytes(value, following));
 }
 
@@ -5914,11 +5912,11 @@ TK_INLINE tk_option_pair_i16_bytes tk_accepted_field_i16(tk_bytes rest, uint8_t 
     }
     int16_t value = found.value.first;
     size_t count = found.value.second;
-    tk_option_bytes following_found = tk_after_field(tk_bytes_from(rest, count), separator, is_lines);
-    if (!following_found.is_some) {
+    tk_option_bytes found_2 = tk_after_field(tk_bytes_from(rest, count), separator, is_lines);
+    if (!found_2.is_some) {
         return tk_none_pair_i16_bytes();
     }
-    tk_bytes following = following_found.value;
+    tk_bytes following = found_2.value;
     return tk_some_pair_i16_bytes(tk_new_pair_i16_bytes(value, following));
 }
 
@@ -6010,11 +6008,11 @@ TK_INLINE tk_option_pair_u16_bytes tk_accepted_field_u16(tk_bytes rest, uint8_t 
     }
     uint16_t value = found.value.first;
     size_t count = found.value.second;
-    tk_option_bytes following_found = tk_after_field(tk_bytes_from(rest, count), separator, is_lines);
-    if (!following_found.is_some) {
+    tk_option_bytes found_2 = tk_after_field(tk_bytes_from(rest, count), separator, is_lines);
+    if (!found_2.is_some) {
         return tk_none_pair_u16_bytes();
     }
-    tk_bytes following = following_found.value;
+    tk_bytes following = found_2.value;
     return tk_some_pair_u16_bytes(tk_new_pair_u16_bytes(value, following));
 }
 
@@ -6108,11 +6106,11 @@ TK_INLINE tk_option_pair_i32_bytes tk_accepted_field_i32(tk_bytes rest, uint8_t 
     }
     int32_t value = found.value.first;
     size_t count = found.value.second;
-    tk_option_bytes following_found = tk_after_field(tk_bytes_from(rest, count), separator, is_lines);
-    if (!following_found.is_some) {
+    tk_option_bytes found_2 = tk_after_field(tk_bytes_from(rest, count), separator, is_lines);
+    if (!found_2.is_some) {
         return tk_none_pair_i32_bytes();
     }
-    tk_bytes following = following_found.value;
+    tk_bytes following = found_2.value;
     return tk_some_pair_i32_bytes(tk_new_pair_i32_bytes(value, following));
 }
 
@@ -6204,11 +6202,11 @@ TK_INLINE tk_option_pair_u32_bytes tk_accepted_field_u32(tk_bytes rest, uint8_t 
     }
     uint32_t value = found.value.first;
     size_t count = found.value.second;
-    tk_option_bytes following_found = tk_after_field(tk_bytes_from(rest, count), separator, is_lines);
-    if (!following_found.is_some) {
+    tk_option_bytes found_2 = tk_after_field(tk_bytes_from(rest, count), separator, is_lines);
+    if (!found_2.is_some) {
         return tk_none_pair_u32_bytes();
     }
-    tk_bytes following = following_found.value;
+    tk_bytes following = found_2.value;
     return tk_some_pair_u32_bytes(tk_new_pair_u32_bytes(value, following));
 }
 
@@ -6302,11 +6300,11 @@ TK_INLINE tk_option_pair_i64_bytes tk_accepted_field_i64(tk_bytes rest, uint8_t 
     }
     int64_t value = found.value.first;
     size_t count = found.value.second;
-    tk_option_bytes following_found = tk_after_field(tk_bytes_from(rest, count), separator, is_lines);
-    if (!following_found.is_some) {
+    tk_option_bytes found_2 = tk_after_field(tk_bytes_from(rest, count), separator, is_lines);
+    if (!found_2.is_some) {
         return tk_none_pair_i64_bytes();
     }
-    tk_bytes following = following_found.value;
+    tk_bytes following = found_2.value;
     return tk_some_pair_i64_bytes(tk_new_pair_i64_bytes(value, following));
 }
 
@@ -6398,11 +6396,11 @@ TK_INLINE tk_option_pair_u64_bytes tk_accepted_field_u64(tk_bytes rest, uint8_t 
     }
     uint64_t value = found.value.first;
     size_t count = found.value.second;
-    tk_option_bytes following_found = tk_after_field(tk_bytes_from(rest, count), separator, is_lines);
-    if (!following_found.is_some) {
+    tk_option_bytes found_2 = tk_after_field(tk_bytes_from(rest, count), separator, is_lines);
+    if (!found_2.is_some) {
         return tk_none_pair_u64_bytes();
     }
-    tk_bytes following = following_found.value;
+    tk_bytes following = found_2.value;
     return tk_some_pair_u64_bytes(tk_new_pair_u64_bytes(value, following));
 }
 
@@ -6496,11 +6494,11 @@ TK_INLINE tk_option_pair_i128_bytes tk_accepted_field_i128(tk_bytes rest, uint8_
     }
     tk_i128 value = found.value.first;
     size_t count = found.value.second;
-    tk_option_bytes following_found = tk_after_field(tk_bytes_from(rest, count), separator, is_lines);
-    if (!following_found.is_some) {
+    tk_option_bytes found_2 = tk_after_field(tk_bytes_from(rest, count), separator, is_lines);
+    if (!found_2.is_some) {
         return tk_none_pair_i128_bytes();
     }
-    tk_bytes following = following_found.value;
+    tk_bytes following = found_2.value;
     return tk_some_pair_i128_bytes(tk_new_pair_i128_bytes(value, following));
 }
 
@@ -6592,11 +6590,11 @@ TK_INLINE tk_option_pair_u128_bytes tk_accepted_field_u128(tk_bytes rest, uint8_
     }
     tk_u128 value = found.value.first;
     size_t count = found.value.second;
-    tk_option_bytes following_found = tk_after_field(tk_bytes_from(rest, count), separator, is_lines);
-    if (!following_found.is_some) {
+    tk_option_bytes found_2 = tk_after_field(tk_bytes_from(rest, count), separator, is_lines);
+    if (!found_2.is_some) {
         return tk_none_pair_u128_bytes();
     }
-    tk_bytes following = following_found.value;
+    tk_bytes following = found_2.value;
     return tk_some_pair_u128_bytes(tk_new_pair_u128_bytes(value, following));
 }
 
@@ -6698,11 +6696,11 @@ TK_HINTED uint64_t tk_sum_of_shifted(uint64_t digits, uint32_t shift)
 /* atoi_column/src/words.rt:34 */
 TK_INLINE tk_option_u64 tk_number_before(tk_bytes s, size_t width, uint64_t end_word, size_t end_len)
 {
-    tk_option_u64 word_found = tk_first_word(s);
-    if (!word_found.is_some) {
+    tk_option_u64 found = tk_first_word(s);
+    if (!found.is_some) {
         return tk_none_u64();
     }
-    uint64_t word = word_found.value;
+    uint64_t word = found.value;
     uint32_t shift = 64 - 8 * TK_CAST(uint32_t, width);
     /* In two steps, since no shift is by 64 bits. */
     uint64_t end = (end_word << (56 - shift)) << 8;
@@ -6739,11 +6737,11 @@ TK_INLINE tk_option_pair_i8_size tk_number_with_end_i8(tk_bytes rest, size_t wid
     if (!found.is_some) {
         return tk_none_pair_i8_size();
     }
-    tk_option_i8 value_found = tk_signed_i8(sign == 1, found.value);
-    if (!value_found.is_some) {
+    tk_option_i8 found_2 = tk_signed_i8(sign == 1, found.value);
+    if (!found_2.is_some) {
         return tk_none_pair_i8_size();
     }
-    int8_t value = value_found.value;
+    int8_t value = found_2.value;
     return tk_some_pair_i8_size(tk_new_pair_i8_size(value, sign + width));
 }
 
@@ -6774,16 +6772,16 @@ TK_INLINE tk_option_u64 tk_number_of_width(tk_bytes s, size_t width)
         return tk_number_before(s, width, 0, 0);
     }
     size_t front = width - 8;
-    tk_option_u64 high_found = tk_number_before(s, front, 0, 0);
-    if (!high_found.is_some) {
+    tk_option_u64 found = tk_number_before(s, front, 0, 0);
+    if (!found.is_some) {
         return tk_none_u64();
     }
-    uint64_t high = high_found.value;
-    tk_option_u64 low_found = tk_number_before(tk_bytes_from(s, front), 8, 0, 0);
-    if (!low_found.is_some) {
+    uint64_t high = found.value;
+    tk_option_u64 found_2 = tk_number_before(tk_bytes_from(s, front), 8, 0, 0);
+    if (!found_2.is_some) {
         return tk_none_u64();
     }
-    uint64_t low = low_found.value;
+    uint64_t low = found_2.value;
     return tk_some_u64(high * 100000000 + low);
 }
 
@@ -6805,11 +6803,11 @@ TK_INLINE tk_option_pair_i8_size tk_number_of_digits_i8(tk_bytes rest, size_t wi
     if (!found.is_some) {
         return tk_none_pair_i8_size();
     }
-    tk_option_i8 value_found = tk_signed_i8(sign == 1, found.value);
-    if (!value_found.is_some) {
+    tk_option_i8 found_2 = tk_signed_i8(sign == 1, found.value);
+    if (!found_2.is_some) {
         return tk_none_pair_i8_size();
     }
-    int8_t value = value_found.value;
+    int8_t value = found_2.value;
     return tk_some_pair_i8_size(tk_new_pair_i8_size(value, sign + width));
 }
 
@@ -7052,11 +7050,11 @@ TK_INLINE tk_option_pair_u8_size tk_number_with_end_u8(tk_bytes rest, size_t wid
     if (!found.is_some) {
         return tk_none_pair_u8_size();
     }
-    tk_option_u8 value_found = tk_signed_u8(sign == 1, found.value);
-    if (!value_found.is_some) {
+    tk_option_u8 found_2 = tk_signed_u8(sign == 1, found.value);
+    if (!found_2.is_some) {
         return tk_none_pair_u8_size();
     }
-    uint8_t value = value_found.value;
+    uint8_t value = found_2.value;
     return tk_some_pair_u8_size(tk_new_pair_u8_size(value, sign + width));
 }
 
@@ -7089,11 +7087,11 @@ TK_INLINE tk_option_pair_u8_size tk_number_of_digits_u8(tk_bytes rest, size_t wi
     if (!found.is_some) {
         return tk_none_pair_u8_size();
     }
-    tk_option_u8 value_found = tk_signed_u8(sign == 1, found.value);
-    if (!value_found.is_some) {
+    tk_option_u8 found_2 = tk_signed_u8(sign == 1, found.value);
+    if (!found_2.is_some) {
         return tk_none_pair_u8_size();
     }
-    uint8_t value = value_found.value;
+    uint8_t value = found_2.value;
     return tk_some_pair_u8_size(tk_new_pair_u8_size(value, sign + width));
 }
 
@@ -7304,11 +7302,11 @@ TK_INLINE tk_option_pair_i16_size tk_number_with_end_i16(tk_bytes rest, size_t w
     if (!found.is_some) {
         return tk_none_pair_i16_size();
     }
-    tk_option_i16 value_found = tk_signed_i16(sign == 1, found.value);
-    if (!value_found.is_some) {
+    tk_option_i16 found_2 = tk_signed_i16(sign == 1, found.value);
+    if (!found_2.is_some) {
         return tk_none_pair_i16_size();
     }
-    int16_t value = value_found.value;
+    int16_t value = found_2.value;
     return tk_some_pair_i16_size(tk_new_pair_i16_size(value, sign + width));
 }
 
@@ -7341,11 +7339,11 @@ TK_INLINE tk_option_pair_i16_size tk_number_of_digits_i16(tk_bytes rest, size_t 
     if (!found.is_some) {
         return tk_none_pair_i16_size();
     }
-    tk_option_i16 value_found = tk_signed_i16(sign == 1, found.value);
-    if (!value_found.is_some) {
+    tk_option_i16 found_2 = tk_signed_i16(sign == 1, found.value);
+    if (!found_2.is_some) {
         return tk_none_pair_i16_size();
     }
-    int16_t value = value_found.value;
+    int16_t value = found_2.value;
     return tk_some_pair_i16_size(tk_new_pair_i16_size(value, sign + width));
 }
 
@@ -7560,11 +7558,11 @@ TK_INLINE tk_option_pair_u16_size tk_number_with_end_u16(tk_bytes rest, size_t w
     if (!found.is_some) {
         return tk_none_pair_u16_size();
     }
-    tk_option_u16 value_found = tk_signed_u16(sign == 1, found.value);
-    if (!value_found.is_some) {
+    tk_option_u16 found_2 = tk_signed_u16(sign == 1, found.value);
+    if (!found_2.is_some) {
         return tk_none_pair_u16_size();
     }
-    uint16_t value = value_found.value;
+    uint16_t value = found_2.value;
     return tk_some_pair_u16_size(tk_new_pair_u16_size(value, sign + width));
 }
 
@@ -7597,11 +7595,11 @@ TK_INLINE tk_option_pair_u16_size tk_number_of_digits_u16(tk_bytes rest, size_t 
     if (!found.is_some) {
         return tk_none_pair_u16_size();
     }
-    tk_option_u16 value_found = tk_signed_u16(sign == 1, found.value);
-    if (!value_found.is_some) {
+    tk_option_u16 found_2 = tk_signed_u16(sign == 1, found.value);
+    if (!found_2.is_some) {
         return tk_none_pair_u16_size();
     }
-    uint16_t value = value_found.value;
+    uint16_t value = found_2.value;
     return tk_some_pair_u16_size(tk_new_pair_u16_size(value, sign + width));
 }
 
@@ -7813,11 +7811,11 @@ TK_INLINE tk_option_pair_i32_size tk_number_with_end_i32(tk_bytes rest, size_t w
     if (!found.is_some) {
         return tk_none_pair_i32_size();
     }
-    tk_option_i32 value_found = tk_signed_i32(sign == 1, found.value);
-    if (!value_found.is_some) {
+    tk_option_i32 found_2 = tk_signed_i32(sign == 1, found.value);
+    if (!found_2.is_some) {
         return tk_none_pair_i32_size();
     }
-    int32_t value = value_found.value;
+    int32_t value = found_2.value;
     return tk_some_pair_i32_size(tk_new_pair_i32_size(value, sign + width));
 }
 
@@ -7850,11 +7848,11 @@ TK_INLINE tk_option_pair_i32_size tk_number_of_digits_i32(tk_bytes rest, size_t 
     if (!found.is_some) {
         return tk_none_pair_i32_size();
     }
-    tk_option_i32 value_found = tk_signed_i32(sign == 1, found.value);
-    if (!value_found.is_some) {
+    tk_option_i32 found_2 = tk_signed_i32(sign == 1, found.value);
+    if (!found_2.is_some) {
         return tk_none_pair_i32_size();
     }
-    int32_t value = value_found.value;
+    int32_t value = found_2.value;
     return tk_some_pair_i32_size(tk_new_pair_i32_size(value, sign + width));
 }
 
@@ -8069,11 +8067,11 @@ TK_INLINE tk_option_pair_u32_size tk_number_with_end_u32(tk_bytes rest, size_t w
     if (!found.is_some) {
         return tk_none_pair_u32_size();
     }
-    tk_option_u32 value_found = tk_signed_u32(sign == 1, found.value);
-    if (!value_found.is_some) {
+    tk_option_u32 found_2 = tk_signed_u32(sign == 1, found.value);
+    if (!found_2.is_some) {
         return tk_none_pair_u32_size();
     }
-    uint32_t value = value_found.value;
+    uint32_t value = found_2.value;
     return tk_some_pair_u32_size(tk_new_pair_u32_size(value, sign + width));
 }
 
@@ -8106,11 +8104,11 @@ TK_INLINE tk_option_pair_u32_size tk_number_of_digits_u32(tk_bytes rest, size_t 
     if (!found.is_some) {
         return tk_none_pair_u32_size();
     }
-    tk_option_u32 value_found = tk_signed_u32(sign == 1, found.value);
-    if (!value_found.is_some) {
+    tk_option_u32 found_2 = tk_signed_u32(sign == 1, found.value);
+    if (!found_2.is_some) {
         return tk_none_pair_u32_size();
     }
-    uint32_t value = value_found.value;
+    uint32_t value = found_2.value;
     return tk_some_pair_u32_size(tk_new_pair_u32_size(value, sign + width));
 }
 
@@ -8322,11 +8320,11 @@ TK_INLINE tk_option_pair_i64_size tk_number_with_end_i64(tk_bytes rest, size_t w
     if (!found.is_some) {
         return tk_none_pair_i64_size();
     }
-    tk_option_i64 value_found = tk_signed_i64(sign == 1, found.value);
-    if (!value_found.is_some) {
+    tk_option_i64 found_2 = tk_signed_i64(sign == 1, found.value);
+    if (!found_2.is_some) {
         return tk_none_pair_i64_size();
     }
-    int64_t value = value_found.value;
+    int64_t value = found_2.value;
     return tk_some_pair_i64_size(tk_new_pair_i64_size(value, sign + width));
 }
 
@@ -8359,11 +8357,11 @@ TK_INLINE tk_option_pair_i64_size tk_number_of_digits_i64(tk_bytes rest, size_t 
     if (!found.is_some) {
         return tk_none_pair_i64_size();
     }
-    tk_option_i64 value_found = tk_signed_i64(sign == 1, found.value);
-    if (!value_found.is_some) {
+    tk_option_i64 found_2 = tk_signed_i64(sign == 1, found.value);
+    if (!found_2.is_some) {
         return tk_none_pair_i64_size();
     }
-    int64_t value = value_found.value;
+    int64_t value = found_2.value;
     return tk_some_pair_i64_size(tk_new_pair_i64_size(value, sign + width));
 }
 
@@ -8578,11 +8576,11 @@ TK_INLINE tk_option_pair_u64_size tk_number_with_end_u64(tk_bytes rest, size_t w
     if (!found.is_some) {
         return tk_none_pair_u64_size();
     }
-    tk_option_u64 value_found = tk_signed_u64(sign == 1, found.value);
-    if (!value_found.is_some) {
+    tk_option_u64 found_2 = tk_signed_u64(sign == 1, found.value);
+    if (!found_2.is_some) {
         return tk_none_pair_u64_size();
     }
-    uint64_t value = value_found.value;
+    uint64_t value = found_2.value;
     return tk_some_pair_u64_size(tk_new_pair_u64_size(value, sign + width));
 }
 
@@ -8615,11 +8613,11 @@ TK_INLINE tk_option_pair_u64_size tk_number_of_digits_u64(tk_bytes rest, size_t 
     if (!found.is_some) {
         return tk_none_pair_u64_size();
     }
-    tk_option_u64 value_found = tk_signed_u64(sign == 1, found.value);
-    if (!value_found.is_some) {
+    tk_option_u64 found_2 = tk_signed_u64(sign == 1, found.value);
+    if (!found_2.is_some) {
         return tk_none_pair_u64_size();
     }
-    uint64_t value = value_found.value;
+    uint64_t value = found_2.value;
     return tk_some_pair_u64_size(tk_new_pair_u64_size(value, sign + width));
 }
 
@@ -8834,11 +8832,11 @@ TK_INLINE tk_option_pair_i128_size tk_number_with_end_i128(tk_bytes rest, size_t
     if (!found.is_some) {
         return tk_none_pair_i128_size();
     }
-    tk_option_i128 value_found = tk_signed_i128(sign == 1, found.value);
-    if (!value_found.is_some) {
+    tk_option_i128 found_2 = tk_signed_i128(sign == 1, found.value);
+    if (!found_2.is_some) {
         return tk_none_pair_i128_size();
     }
-    tk_i128 value = value_found.value;
+    tk_i128 value = found_2.value;
     return tk_some_pair_i128_size(tk_new_pair_i128_size(value, sign + width));
 }
 
@@ -8871,11 +8869,11 @@ TK_INLINE tk_option_pair_i128_size tk_number_of_digits_i128(tk_bytes rest, size_
     if (!found.is_some) {
         return tk_none_pair_i128_size();
     }
-    tk_option_i128 value_found = tk_signed_i128(sign == 1, found.value);
-    if (!value_found.is_some) {
+    tk_option_i128 found_2 = tk_signed_i128(sign == 1, found.value);
+    if (!found_2.is_some) {
         return tk_none_pair_i128_size();
     }
-    tk_i128 value = value_found.value;
+    tk_i128 value = found_2.value;
     return tk_some_pair_i128_size(tk_new_pair_i128_size(value, sign + width));
 }
 
@@ -9095,11 +9093,11 @@ TK_INLINE tk_option_pair_u128_size tk_number_with_end_u128(tk_bytes rest, size_t
     if (!found.is_some) {
         return tk_none_pair_u128_size();
     }
-    tk_option_u128 value_found = tk_signed_u128(sign == 1, found.value);
-    if (!value_found.is_some) {
+    tk_option_u128 found_2 = tk_signed_u128(sign == 1, found.value);
+    if (!found_2.is_some) {
         return tk_none_pair_u128_size();
     }
-    tk_u128 value = value_found.value;
+    tk_u128 value = found_2.value;
     return tk_some_pair_u128_size(tk_new_pair_u128_size(value, sign + width));
 }
 
@@ -9132,11 +9130,11 @@ TK_INLINE tk_option_pair_u128_size tk_number_of_digits_u128(tk_bytes rest, size_
     if (!found.is_some) {
         return tk_none_pair_u128_size();
     }
-    tk_option_u128 value_found = tk_signed_u128(sign == 1, found.value);
-    if (!value_found.is_some) {
+    tk_option_u128 found_2 = tk_signed_u128(sign == 1, found.value);
+    if (!found_2.is_some) {
         return tk_none_pair_u128_size();
     }
-    tk_u128 value = value_found.value;
+    tk_u128 value = found_2.value;
     return tk_some_pair_u128_size(tk_new_pair_u128_size(value, sign + width));
 }
 

@@ -67,13 +67,9 @@ impl Lowering<'_, '_> {
         let (head, block) = self.expect(row, "this method has no rule")?;
         let mut block = parse(&Source::new(Path::new("C"), block.into()), "block")?;
         block.iter_mut().for_each(|it| fill(it, trees, self.at));
-        let hint = self.hint.take();
         let outer = self.names.len();
         for (name, term) in head[1..].iter().zip(terms) {
-            let kept = match &hint {
-                Some(hint) if *name == "found" => self.keep(term, &format!("{hint}_found")),
-                _ => self.keep(term, name),
-            };
+            let kept = self.keep(term, name);
             self.names.push((name.to_string(), kept));
         }
         let value = self.block(&block, Target::Value);

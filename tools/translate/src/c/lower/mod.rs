@@ -37,8 +37,6 @@ struct Lowering<'w, 'i> {
     /// The statements of the block that is made.
     statements: Vec<Term>,
     result: Type,
-    /// The name of the next variable that holds a value.
-    hint: Option<String>,
 }
 
 /// Where the value of an expression goes.
@@ -129,7 +127,6 @@ impl<'w, 'i> Lowering<'w, 'i> {
             names: Vec::new(),
             statements: Vec::new(),
             result: Type::UNIT,
-            hint: None,
         })
     }
 

@@ -181,7 +181,7 @@ fn is_rest(pattern: &Node) -> bool {
     pattern.kind == "rest" || pattern.kind == "binding" && inner(pattern).iter().any(is_rest)
 }
 
-/// Returns the pattern behind a name and `@`, if there is one.
-pub fn inner(binding: &Node) -> &[Node] {
+// Returns the pattern behind a name and `@`, if there is one.
+fn inner(binding: &Node) -> &[Node] {
     &binding.parts[usize::from(binding.has("mutable")) + 1..]
 }

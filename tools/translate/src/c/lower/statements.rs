@@ -1,6 +1,6 @@
 //! Statements: blocks, variables, loops, assignments, and branches, which end in statements, a choice, or a variable.
 
-use super::patterns::{Fit, inner};
+use super::patterns::Fit;
 use super::{Done, Lowering, Target};
 use crate::c::ir::{Kind, Term, Type};
 use crate::tree::Node;
@@ -81,11 +81,7 @@ impl Lowering<'_, '_> {
         let of = annotation.map(|it| self.world.type_in(&self.place, it.last())).transpose()?;
         let of = of.unwrap_or_else(|| self.fresh(false));
         self.at = pattern.span;
-        if pattern.kind == "binding" && inner(pattern).is_empty() {
-            self.hint = Some(pattern.name().into());
-        }
         let found = self.term(&tree.parts[1 + usize::from(annotation.is_some())], &of)?;
-        self.hint = None;
         self.destructure(pattern, found, tree.get("otherwise").map(Node::last))
     }
 

@@ -19,9 +19,7 @@ impl Lowering<'_, '_> {
                 Ok(self.test(operator(sign), first, second))
             }
             ("try", [value]) => {
-                let hint = self.hint.take();
                 let found = self.any(value)?;
-                self.hint = hint;
                 let is_option = matches!(self.known(&found.of), Type::Of(Form::Option, _));
                 self.defined(if is_option { "Option?" } else { "Result?" }, vec![found], &[])
             }
