@@ -379,6 +379,12 @@ TK_CONSTEXPR size_t tk_index(size_t index, size_t len)
     }
 
 TK_CONSTEXPR bool tk_u8_is_digit(uint8_t byte) { return '0' <= byte && byte <= '9'; }
+TK_CONSTEXPR uint32_t tk_u32_wrapping_add(uint32_t a, uint32_t b) { return a + b; }
+TK_CONSTEXPR uint32_t tk_u32_wrapping_sub(uint32_t a, uint32_t b) { return a - b; }
+TK_CONSTEXPR uint32_t tk_u32_wrapping_mul(uint32_t a, uint32_t b) { return a * b; }
+TK_CONSTEXPR uint64_t tk_u64_wrapping_add(uint64_t a, uint64_t b) { return a + b; }
+TK_CONSTEXPR uint64_t tk_u64_wrapping_sub(uint64_t a, uint64_t b) { return a - b; }
+TK_CONSTEXPR uint64_t tk_u64_wrapping_mul(uint64_t a, uint64_t b) { return a * b; }
 TK_CONSTEXPR uint32_t tk_u32_min(uint32_t a, uint32_t b) { return b < a ? b : a; }
 TK_CONSTEXPR size_t tk_size_min(size_t a, size_t b) { return b < a ? b : a; }
 TK_CONSTEXPR size_t tk_size_max(size_t a, size_t b) { return a < b ? b : a; }
@@ -1242,7 +1248,7 @@ TK_INLINE tk_option_u128 tk_one_digit_u128(tk_bytes s)
 TK_HINTED uint64_t tk_sum_of_product(uint64_t product)
 {
     uint64_t tens = (product >> 8) & UINT64_C(0x00FF00FF00FF00FF);
-    uint64_t hundreds = tens * 0x640001;
+    uint64_t hundreds = tk_u64_wrapping_mul(tens, 0x640001);
     return ((hundreds >> 16) & 0xFFFF) * 10000 + (hundreds >> 48);
 }
 
@@ -1250,7 +1256,7 @@ TK_HINTED uint64_t tk_sum_of_product(uint64_t product)
 /* atoi_fast/src/digits.rt:113 */
 TK_HINTED uint64_t tk_sum_of(uint64_t digits)
 {
-    return tk_sum_of_product(digits * 0xA01);
+    return tk_sum_of_product(tk_u64_wrapping_mul(digits, 0xA01));
 }
 
 /*
@@ -1281,8 +1287,8 @@ TK_HINTED uint64_t tk_load_full(tk_bytes s)
 /* atoi_fast/src/digits.rt:19 */
 TK_HINTED uint32_t tk_leading_digits(uint64_t word)
 {
-    uint64_t above = word + UINT64_C(0x4646464646464646);
-    uint64_t below = word - TK_ZEROS;
+    uint64_t above = tk_u64_wrapping_add(word, UINT64_C(0x4646464646464646));
+    uint64_t below = tk_u64_wrapping_sub(word, TK_ZEROS);
     uint64_t marks = (above | below) & UINT64_C(0x8080808080808080);
     if (marks == 0) {
         return 8;
@@ -1398,7 +1404,7 @@ TK_HINTED uint8_t tk_lowest_byte(uint64_t word)
 /* atoi_fast/src/digits.rt:145 */
 TK_HINTED uint64_t tk_value_by_product(uint64_t digits, uint32_t len)
 {
-    return tk_sum_of_product(digits * tk_factors[tk_index(TK_CAST(size_t, len), 8)]);
+    return tk_sum_of_product(tk_u64_wrapping_mul(digits, tk_factors[tk_index(TK_CAST(size_t, len), 8)]));
 }
 
 /* The number of 8 to 15 bytes, of which the first eight spell `high`, with a zero for a minus. */
@@ -1415,7 +1421,7 @@ TK_INLINE tk_option_pair_i64_size tk_prefix_of_two_words_i64(bool minus, uint64_
         tk_pair_i64_size found_2 = found.value;
         return tk_some_pair_i64_size(found_2);
     }
-    uint64_t low = tk_value_by_product(next - TK_ZEROS, more);
+    uint64_t low = tk_value_by_product(tk_u64_wrapping_sub(next, TK_ZEROS), more);
     uint64_t magnitude = high * tk_power_of_ten(more) + low;
     tk_option_i64 found = tk_number_in_range_i64(TK_MOST_IN_TWO_WORDS, minus, magnitude);
     if (!found.is_some) {
@@ -1434,8 +1440,8 @@ TK_INLINE tk_option_pair_i64_size tk_prefix_of_words_i64(tk_bytes s)
 {
     uint64_t word = tk_load_full(s);
     /* A `-` borrows from the next byte, so that a `0` there looks like no digit. */
-    uint64_t above = word + UINT64_C(0x4646464646464646);
-    uint64_t below = word - TK_ZEROS;
+    uint64_t above = tk_u64_wrapping_add(word, UINT64_C(0x4646464646464646));
+    uint64_t below = tk_u64_wrapping_sub(word, TK_ZEROS);
     uint64_t marks = (above | below) & UINT64_C(0x8080808080808000);
     if ((marks & 0x8000) != 0) {
         /* Many texts have mostly one digit: the next load waits for nothing. */
@@ -1447,7 +1453,7 @@ TK_INLINE tk_option_pair_i64_size tk_prefix_of_words_i64(tk_bytes s)
     }
     bool minus = true & (tk_lowest_byte(word) == '-');
     /* The digit of a `-` is 0, and takes the borrow back. */
-    uint64_t digits = below + 3 * tk_bit(minus);
+    uint64_t digits = tk_u64_wrapping_add(below, 3 * tk_bit(minus));
     if (tk_lowest_byte(digits) > 9) {
         return tk_none_pair_i64_size();
     }
@@ -1476,7 +1482,7 @@ TK_INLINE tk_option_pair_u64_size tk_prefix_of_two_words_u64(bool minus, uint64_
         tk_pair_u64_size found_2 = found.value;
         return tk_some_pair_u64_size(found_2);
     }
-    uint64_t low = tk_value_by_product(next - TK_ZEROS, more);
+    uint64_t low = tk_value_by_product(tk_u64_wrapping_sub(next, TK_ZEROS), more);
     uint64_t magnitude = high * tk_power_of_ten(more) + low;
     tk_option_u64 found = tk_number_in_range_u64(TK_MOST_IN_TWO_WORDS, minus, magnitude);
     if (!found.is_some) {
@@ -1491,8 +1497,8 @@ TK_INLINE tk_option_pair_u64_size tk_prefix_of_words_u64(tk_bytes s)
 {
     uint64_t word = tk_load_full(s);
     /* A `-` borrows from the next byte, so that a `0` there looks like no digit. */
-    uint64_t above = word + UINT64_C(0x4646464646464646);
-    uint64_t below = word - TK_ZEROS;
+    uint64_t above = tk_u64_wrapping_add(word, UINT64_C(0x4646464646464646));
+    uint64_t below = tk_u64_wrapping_sub(word, TK_ZEROS);
     uint64_t marks = (above | below) & UINT64_C(0x8080808080808000);
     if ((marks & 0x8000) != 0) {
         /* Many texts have mostly one digit: the next load waits for nothing. */
@@ -1504,7 +1510,7 @@ TK_INLINE tk_option_pair_u64_size tk_prefix_of_words_u64(tk_bytes s)
     }
     bool minus = false & (tk_lowest_byte(word) == '-');
     /* The digit of a `-` is 0, and takes the borrow back. */
-    uint64_t digits = below + 3 * tk_bit(minus);
+    uint64_t digits = tk_u64_wrapping_add(below, 3 * tk_bit(minus));
     if (tk_lowest_byte(digits) > 9) {
         return tk_none_pair_u64_size();
     }
@@ -1586,7 +1592,7 @@ TK_INLINE tk_option_pair_i8_size tk_prefix_of_two_words_i8(bool minus, uint64_t 
     if (more == 8) {
         return tk_none_pair_i8_size();
     }
-    uint64_t low = tk_value_by_product(next - TK_ZEROS, more);
+    uint64_t low = tk_value_by_product(tk_u64_wrapping_sub(next, TK_ZEROS), more);
     uint64_t magnitude = high * tk_power_of_ten(more) + low;
     tk_option_i8 found = tk_number_in_range_i8(TK_MOST_IN_TWO_WORDS, minus, magnitude);
     if (!found.is_some) {
@@ -1601,8 +1607,8 @@ TK_INLINE tk_option_pair_i8_size tk_prefix_of_words_i8(tk_bytes s)
 {
     uint64_t word = tk_load_full(s);
     /* A `-` borrows from the next byte, so that a `0` there looks like no digit. */
-    uint64_t above = word + UINT64_C(0x4646464646464646);
-    uint64_t below = word - TK_ZEROS;
+    uint64_t above = tk_u64_wrapping_add(word, UINT64_C(0x4646464646464646));
+    uint64_t below = tk_u64_wrapping_sub(word, TK_ZEROS);
     uint64_t marks = (above | below) & UINT64_C(0x8080808080808000);
     if ((marks & 0x8000) != 0) {
         /* Many texts have mostly one digit: the next load waits for nothing. */
@@ -1614,7 +1620,7 @@ TK_INLINE tk_option_pair_i8_size tk_prefix_of_words_i8(tk_bytes s)
     }
     bool minus = true & (tk_lowest_byte(word) == '-');
     /* The digit of a `-` is 0, and takes the borrow back. */
-    uint64_t digits = below + 3 * tk_bit(minus);
+    uint64_t digits = tk_u64_wrapping_add(below, 3 * tk_bit(minus));
     if (tk_lowest_byte(digits) > 9) {
         return tk_none_pair_i8_size();
     }
@@ -1668,7 +1674,7 @@ TK_INLINE tk_option_pair_u8_size tk_prefix_of_two_words_u8(bool minus, uint64_t 
     if (more == 8) {
         return tk_none_pair_u8_size();
     }
-    uint64_t low = tk_value_by_product(next - TK_ZEROS, more);
+    uint64_t low = tk_value_by_product(tk_u64_wrapping_sub(next, TK_ZEROS), more);
     uint64_t magnitude = high * tk_power_of_ten(more) + low;
     tk_option_u8 found = tk_number_in_range_u8(TK_MOST_IN_TWO_WORDS, minus, magnitude);
     if (!found.is_some) {
@@ -1683,8 +1689,8 @@ TK_INLINE tk_option_pair_u8_size tk_prefix_of_words_u8(tk_bytes s)
 {
     uint64_t word = tk_load_full(s);
     /* A `-` borrows from the next byte, so that a `0` there looks like no digit. */
-    uint64_t above = word + UINT64_C(0x4646464646464646);
-    uint64_t below = word - TK_ZEROS;
+    uint64_t above = tk_u64_wrapping_add(word, UINT64_C(0x4646464646464646));
+    uint64_t below = tk_u64_wrapping_sub(word, TK_ZEROS);
     uint64_t marks = (above | below) & UINT64_C(0x8080808080808000);
     if ((marks & 0x8000) != 0) {
         /* Many texts have mostly one digit: the next load waits for nothing. */
@@ -1696,7 +1702,7 @@ TK_INLINE tk_option_pair_u8_size tk_prefix_of_words_u8(tk_bytes s)
     }
     bool minus = false & (tk_lowest_byte(word) == '-');
     /* The digit of a `-` is 0, and takes the borrow back. */
-    uint64_t digits = below + 3 * tk_bit(minus);
+    uint64_t digits = tk_u64_wrapping_add(below, 3 * tk_bit(minus));
     if (tk_lowest_byte(digits) > 9) {
         return tk_none_pair_u8_size();
     }
@@ -1749,7 +1755,7 @@ TK_INLINE tk_option_pair_i16_size tk_prefix_of_two_words_i16(bool minus, uint64_
     if (more == 8) {
         return tk_none_pair_i16_size();
     }
-    uint64_t low = tk_value_by_product(next - TK_ZEROS, more);
+    uint64_t low = tk_value_by_product(tk_u64_wrapping_sub(next, TK_ZEROS), more);
     uint64_t magnitude = high * tk_power_of_ten(more) + low;
     tk_option_i16 found = tk_number_in_range_i16(TK_MOST_IN_TWO_WORDS, minus, magnitude);
     if (!found.is_some) {
@@ -1764,8 +1770,8 @@ TK_INLINE tk_option_pair_i16_size tk_prefix_of_words_i16(tk_bytes s)
 {
     uint64_t word = tk_load_full(s);
     /* A `-` borrows from the next byte, so that a `0` there looks like no digit. */
-    uint64_t above = word + UINT64_C(0x4646464646464646);
-    uint64_t below = word - TK_ZEROS;
+    uint64_t above = tk_u64_wrapping_add(word, UINT64_C(0x4646464646464646));
+    uint64_t below = tk_u64_wrapping_sub(word, TK_ZEROS);
     uint64_t marks = (above | below) & UINT64_C(0x8080808080808000);
     if ((marks & 0x8000) != 0) {
         /* Many texts have mostly one digit: the next load waits for nothing. */
@@ -1777,7 +1783,7 @@ TK_INLINE tk_option_pair_i16_size tk_prefix_of_words_i16(tk_bytes s)
     }
     bool minus = true & (tk_lowest_byte(word) == '-');
     /* The digit of a `-` is 0, and takes the borrow back. */
-    uint64_t digits = below + 3 * tk_bit(minus);
+    uint64_t digits = tk_u64_wrapping_add(below, 3 * tk_bit(minus));
     if (tk_lowest_byte(digits) > 9) {
         return tk_none_pair_i16_size();
     }
@@ -1830,7 +1836,7 @@ TK_INLINE tk_option_pair_u16_size tk_prefix_of_two_words_u16(bool minus, uint64_
     if (more == 8) {
         return tk_none_pair_u16_size();
     }
-    uint64_t low = tk_value_by_product(next - TK_ZEROS, more);
+    uint64_t low = tk_value_by_product(tk_u64_wrapping_sub(next, TK_ZEROS), more);
     uint64_t magnitude = high * tk_power_of_ten(more) + low;
     tk_option_u16 found = tk_number_in_range_u16(TK_MOST_IN_TWO_WORDS, minus, magnitude);
     if (!found.is_some) {
@@ -1845,8 +1851,8 @@ TK_INLINE tk_option_pair_u16_size tk_prefix_of_words_u16(tk_bytes s)
 {
     uint64_t word = tk_load_full(s);
     /* A `-` borrows from the next byte, so that a `0` there looks like no digit. */
-    uint64_t above = word + UINT64_C(0x4646464646464646);
-    uint64_t below = word - TK_ZEROS;
+    uint64_t above = tk_u64_wrapping_add(word, UINT64_C(0x4646464646464646));
+    uint64_t below = tk_u64_wrapping_sub(word, TK_ZEROS);
     uint64_t marks = (above | below) & UINT64_C(0x8080808080808000);
     if ((marks & 0x8000) != 0) {
         /* Many texts have mostly one digit: the next load waits for nothing. */
@@ -1858,7 +1864,7 @@ TK_INLINE tk_option_pair_u16_size tk_prefix_of_words_u16(tk_bytes s)
     }
     bool minus = false & (tk_lowest_byte(word) == '-');
     /* The digit of a `-` is 0, and takes the borrow back. */
-    uint64_t digits = below + 3 * tk_bit(minus);
+    uint64_t digits = tk_u64_wrapping_add(below, 3 * tk_bit(minus));
     if (tk_lowest_byte(digits) > 9) {
         return tk_none_pair_u16_size();
     }
@@ -1911,7 +1917,7 @@ TK_INLINE tk_option_pair_i32_size tk_prefix_of_two_words_i32(bool minus, uint64_
     if (more == 8) {
         return tk_none_pair_i32_size();
     }
-    uint64_t low = tk_value_by_product(next - TK_ZEROS, more);
+    uint64_t low = tk_value_by_product(tk_u64_wrapping_sub(next, TK_ZEROS), more);
     uint64_t magnitude = high * tk_power_of_ten(more) + low;
     tk_option_i32 found = tk_number_in_range_i32(TK_MOST_IN_TWO_WORDS, minus, magnitude);
     if (!found.is_some) {
@@ -1926,8 +1932,8 @@ TK_INLINE tk_option_pair_i32_size tk_prefix_of_words_i32(tk_bytes s)
 {
     uint64_t word = tk_load_full(s);
     /* A `-` borrows from the next byte, so that a `0` there looks like no digit. */
-    uint64_t above = word + UINT64_C(0x4646464646464646);
-    uint64_t below = word - TK_ZEROS;
+    uint64_t above = tk_u64_wrapping_add(word, UINT64_C(0x4646464646464646));
+    uint64_t below = tk_u64_wrapping_sub(word, TK_ZEROS);
     uint64_t marks = (above | below) & UINT64_C(0x8080808080808000);
     if ((marks & 0x8000) != 0) {
         /* Many texts have mostly one digit: the next load waits for nothing. */
@@ -1939,7 +1945,7 @@ TK_INLINE tk_option_pair_i32_size tk_prefix_of_words_i32(tk_bytes s)
     }
     bool minus = true & (tk_lowest_byte(word) == '-');
     /* The digit of a `-` is 0, and takes the borrow back. */
-    uint64_t digits = below + 3 * tk_bit(minus);
+    uint64_t digits = tk_u64_wrapping_add(below, 3 * tk_bit(minus));
     if (tk_lowest_byte(digits) > 9) {
         return tk_none_pair_i32_size();
     }
@@ -1992,7 +1998,7 @@ TK_INLINE tk_option_pair_u32_size tk_prefix_of_two_words_u32(bool minus, uint64_
     if (more == 8) {
         return tk_none_pair_u32_size();
     }
-    uint64_t low = tk_value_by_product(next - TK_ZEROS, more);
+    uint64_t low = tk_value_by_product(tk_u64_wrapping_sub(next, TK_ZEROS), more);
     uint64_t magnitude = high * tk_power_of_ten(more) + low;
     tk_option_u32 found = tk_number_in_range_u32(TK_MOST_IN_TWO_WORDS, minus, magnitude);
     if (!found.is_some) {
@@ -2007,8 +2013,8 @@ TK_INLINE tk_option_pair_u32_size tk_prefix_of_words_u32(tk_bytes s)
 {
     uint64_t word = tk_load_full(s);
     /* A `-` borrows from the next byte, so that a `0` there looks like no digit. */
-    uint64_t above = word + UINT64_C(0x4646464646464646);
-    uint64_t below = word - TK_ZEROS;
+    uint64_t above = tk_u64_wrapping_add(word, UINT64_C(0x4646464646464646));
+    uint64_t below = tk_u64_wrapping_sub(word, TK_ZEROS);
     uint64_t marks = (above | below) & UINT64_C(0x8080808080808000);
     if ((marks & 0x8000) != 0) {
         /* Many texts have mostly one digit: the next load waits for nothing. */
@@ -2020,7 +2026,7 @@ TK_INLINE tk_option_pair_u32_size tk_prefix_of_words_u32(tk_bytes s)
     }
     bool minus = false & (tk_lowest_byte(word) == '-');
     /* The digit of a `-` is 0, and takes the borrow back. */
-    uint64_t digits = below + 3 * tk_bit(minus);
+    uint64_t digits = tk_u64_wrapping_add(below, 3 * tk_bit(minus));
     if (tk_lowest_byte(digits) > 9) {
         return tk_none_pair_u32_size();
     }
@@ -2131,7 +2137,7 @@ TK_INLINE tk_option_pair_i128_size tk_prefix_of_two_words_i128(bool minus, uint6
     if (more == 8) {
         return tk_none_pair_i128_size();
     }
-    uint64_t low = tk_value_by_product(next - TK_ZEROS, more);
+    uint64_t low = tk_value_by_product(tk_u64_wrapping_sub(next, TK_ZEROS), more);
     uint64_t magnitude = high * tk_power_of_ten(more) + low;
     tk_option_i128 found = tk_number_in_range_i128(TK_MOST_IN_TWO_WORDS, minus, magnitude);
     if (!found.is_some) {
@@ -2146,8 +2152,8 @@ TK_INLINE tk_option_pair_i128_size tk_prefix_of_words_i128(tk_bytes s)
 {
     uint64_t word = tk_load_full(s);
     /* A `-` borrows from the next byte, so that a `0` there looks like no digit. */
-    uint64_t above = word + UINT64_C(0x4646464646464646);
-    uint64_t below = word - TK_ZEROS;
+    uint64_t above = tk_u64_wrapping_add(word, UINT64_C(0x4646464646464646));
+    uint64_t below = tk_u64_wrapping_sub(word, TK_ZEROS);
     uint64_t marks = (above | below) & UINT64_C(0x8080808080808000);
     if ((marks & 0x8000) != 0) {
         /* Many texts have mostly one digit: the next load waits for nothing. */
@@ -2159,7 +2165,7 @@ TK_INLINE tk_option_pair_i128_size tk_prefix_of_words_i128(tk_bytes s)
     }
     bool minus = true & (tk_lowest_byte(word) == '-');
     /* The digit of a `-` is 0, and takes the borrow back. */
-    uint64_t digits = below + 3 * tk_bit(minus);
+    uint64_t digits = tk_u64_wrapping_add(below, 3 * tk_bit(minus));
     if (tk_lowest_byte(digits) > 9) {
         return tk_none_pair_i128_size();
     }
@@ -2212,7 +2218,7 @@ TK_INLINE tk_option_pair_u128_size tk_prefix_of_two_words_u128(bool minus, uint6
     if (more == 8) {
         return tk_none_pair_u128_size();
     }
-    uint64_t low = tk_value_by_product(next - TK_ZEROS, more);
+    uint64_t low = tk_value_by_product(tk_u64_wrapping_sub(next, TK_ZEROS), more);
     uint64_t magnitude = high * tk_power_of_ten(more) + low;
     tk_option_u128 found = tk_number_in_range_u128(TK_MOST_IN_TWO_WORDS, minus, magnitude);
     if (!found.is_some) {
@@ -2227,8 +2233,8 @@ TK_INLINE tk_option_pair_u128_size tk_prefix_of_words_u128(tk_bytes s)
 {
     uint64_t word = tk_load_full(s);
     /* A `-` borrows from the next byte, so that a `0` there looks like no digit. */
-    uint64_t above = word + UINT64_C(0x4646464646464646);
-    uint64_t below = word - TK_ZEROS;
+    uint64_t above = tk_u64_wrapping_add(word, UINT64_C(0x4646464646464646));
+    uint64_t below = tk_u64_wrapping_sub(word, TK_ZEROS);
     uint64_t marks = (above | below) & UINT64_C(0x8080808080808000);
     if ((marks & 0x8000) != 0) {
         /* Many texts have mostly one digit: the next load waits for nothing. */
@@ -2240,7 +2246,7 @@ TK_INLINE tk_option_pair_u128_size tk_prefix_of_words_u128(tk_bytes s)
     }
     bool minus = false & (tk_lowest_byte(word) == '-');
     /* The digit of a `-` is 0, and takes the borrow back. */
-    uint64_t digits = below + 3 * tk_bit(minus);
+    uint64_t digits = tk_u64_wrapping_add(below, 3 * tk_bit(minus));
     if (tk_lowest_byte(digits) > 9) {
         return tk_none_pair_u128_size();
     }
@@ -2349,7 +2355,7 @@ TK_INLINE tk_option_pair_i8_size tk_quick_prefix_i8(tk_bytes s)
 TK_INLINE tk_option_pair_u8_size tk_prefix_in_word_u8(uint64_t word, uint32_t len, tk_bytes s)
 {
     (void)s;
-    uint64_t magnitude = tk_value_by_product(word - TK_ZEROS, len);
+    uint64_t magnitude = tk_value_by_product(tk_u64_wrapping_sub(word, TK_ZEROS), len);
     tk_option_u8 found = tk_number_in_range_u8(TK_MOST_IN_WORD, false, magnitude);
     if (!found.is_some) {
         return tk_none_pair_u8_size();
@@ -2363,8 +2369,8 @@ TK_INLINE tk_option_pair_u8_size tk_prefix_in_word_u8(uint64_t word, uint32_t le
 TK_INLINE tk_option_pair_u8_size tk_prefix_by_length_u8(tk_bytes s)
 {
     uint64_t word = tk_load_full(s);
-    uint64_t digits = word - TK_ZEROS;
-    uint64_t marks = ((word + UINT64_C(0x4646464646464646)) | digits) & UINT64_C(0x8080808080808080);
+    uint64_t digits = tk_u64_wrapping_sub(word, TK_ZEROS);
+    uint64_t marks = (tk_u64_wrapping_add(word, UINT64_C(0x4646464646464646)) | digits) & UINT64_C(0x8080808080808080);
     if ((marks & 0xFF) != 0) {
         return tk_none_pair_u8_size();
     }
@@ -2479,7 +2485,7 @@ TK_INLINE tk_option_pair_i16_size tk_quick_prefix_i16(tk_bytes s)
 TK_INLINE tk_option_pair_u16_size tk_prefix_in_word_u16(uint64_t word, uint32_t len, tk_bytes s)
 {
     (void)s;
-    uint64_t magnitude = tk_value_by_product(word - TK_ZEROS, len);
+    uint64_t magnitude = tk_value_by_product(tk_u64_wrapping_sub(word, TK_ZEROS), len);
     tk_option_u16 found = tk_number_in_range_u16(TK_MOST_IN_WORD, false, magnitude);
     if (!found.is_some) {
         return tk_none_pair_u16_size();
@@ -2492,8 +2498,8 @@ TK_INLINE tk_option_pair_u16_size tk_prefix_in_word_u16(uint64_t word, uint32_t 
 TK_INLINE tk_option_pair_u16_size tk_prefix_by_length_u16(tk_bytes s)
 {
     uint64_t word = tk_load_full(s);
-    uint64_t digits = word - TK_ZEROS;
-    uint64_t marks = ((word + UINT64_C(0x4646464646464646)) | digits) & UINT64_C(0x8080808080808080);
+    uint64_t digits = tk_u64_wrapping_sub(word, TK_ZEROS);
+    uint64_t marks = (tk_u64_wrapping_add(word, UINT64_C(0x4646464646464646)) | digits) & UINT64_C(0x8080808080808080);
     if ((marks & 0xFF) != 0) {
         return tk_none_pair_u16_size();
     }
@@ -2608,7 +2614,7 @@ TK_INLINE tk_option_pair_i32_size tk_quick_prefix_i32(tk_bytes s)
 TK_INLINE tk_option_pair_u32_size tk_prefix_in_word_u32(uint64_t word, uint32_t len, tk_bytes s)
 {
     (void)s;
-    uint64_t magnitude = tk_value_by_product(word - TK_ZEROS, len);
+    uint64_t magnitude = tk_value_by_product(tk_u64_wrapping_sub(word, TK_ZEROS), len);
     tk_option_u32 found = tk_number_in_range_u32(TK_MOST_IN_WORD, false, magnitude);
     if (!found.is_some) {
         return tk_none_pair_u32_size();
@@ -2621,8 +2627,8 @@ TK_INLINE tk_option_pair_u32_size tk_prefix_in_word_u32(uint64_t word, uint32_t 
 TK_INLINE tk_option_pair_u32_size tk_prefix_by_length_u32(tk_bytes s)
 {
     uint64_t word = tk_load_full(s);
-    uint64_t digits = word - TK_ZEROS;
-    uint64_t marks = ((word + UINT64_C(0x4646464646464646)) | digits) & UINT64_C(0x8080808080808080);
+    uint64_t digits = tk_u64_wrapping_sub(word, TK_ZEROS);
+    uint64_t marks = (tk_u64_wrapping_add(word, UINT64_C(0x4646464646464646)) | digits) & UINT64_C(0x8080808080808080);
     if ((marks & 0xFF) != 0) {
         return tk_none_pair_u32_size();
     }
@@ -2737,7 +2743,7 @@ TK_INLINE tk_option_pair_i64_size tk_quick_prefix_i64(tk_bytes s)
 TK_INLINE tk_option_pair_u64_size tk_prefix_in_word_u64(uint64_t word, uint32_t len, tk_bytes s)
 {
     (void)s;
-    uint64_t magnitude = tk_value_by_product(word - TK_ZEROS, len);
+    uint64_t magnitude = tk_value_by_product(tk_u64_wrapping_sub(word, TK_ZEROS), len);
     tk_option_u64 found = tk_number_in_range_u64(TK_MOST_IN_WORD, false, magnitude);
     if (!found.is_some) {
         return tk_none_pair_u64_size();
@@ -2750,8 +2756,8 @@ TK_INLINE tk_option_pair_u64_size tk_prefix_in_word_u64(uint64_t word, uint32_t 
 TK_INLINE tk_option_pair_u64_size tk_prefix_by_length_u64(tk_bytes s)
 {
     uint64_t word = tk_load_full(s);
-    uint64_t digits = word - TK_ZEROS;
-    uint64_t marks = ((word + UINT64_C(0x4646464646464646)) | digits) & UINT64_C(0x8080808080808080);
+    uint64_t digits = tk_u64_wrapping_sub(word, TK_ZEROS);
+    uint64_t marks = (tk_u64_wrapping_add(word, UINT64_C(0x4646464646464646)) | digits) & UINT64_C(0x8080808080808080);
     if ((marks & 0xFF) != 0) {
         return tk_none_pair_u64_size();
     }
@@ -2866,7 +2872,7 @@ TK_INLINE tk_option_pair_i128_size tk_quick_prefix_i128(tk_bytes s)
 TK_INLINE tk_option_pair_u128_size tk_prefix_in_word_u128(uint64_t word, uint32_t len, tk_bytes s)
 {
     (void)s;
-    uint64_t magnitude = tk_value_by_product(word - TK_ZEROS, len);
+    uint64_t magnitude = tk_value_by_product(tk_u64_wrapping_sub(word, TK_ZEROS), len);
     tk_option_u128 found = tk_number_in_range_u128(TK_MOST_IN_WORD, false, magnitude);
     if (!found.is_some) {
         return tk_none_pair_u128_size();
@@ -2879,8 +2885,8 @@ TK_INLINE tk_option_pair_u128_size tk_prefix_in_word_u128(uint64_t word, uint32_
 TK_INLINE tk_option_pair_u128_size tk_prefix_by_length_u128(tk_bytes s)
 {
     uint64_t word = tk_load_full(s);
-    uint64_t digits = word - TK_ZEROS;
-    uint64_t marks = ((word + UINT64_C(0x4646464646464646)) | digits) & UINT64_C(0x8080808080808080);
+    uint64_t digits = tk_u64_wrapping_sub(word, TK_ZEROS);
+    uint64_t marks = (tk_u64_wrapping_add(word, UINT64_C(0x4646464646464646)) | digits) & UINT64_C(0x8080808080808080);
     if ((marks & 0xFF) != 0) {
         return tk_none_pair_u128_size();
     }

@@ -1482,7 +1482,7 @@ TK_INLINE uint64_t tk_load_flipped(tk_bytes s)
     uint32_t front = (TK_CAST(uint32_t, s.at[tk_index(0, s.len)]) | tk_load_four_from(fours, 0)) ^ TK_FOUR_ZEROS;
     uint32_t back = (tk_load_last_four(fours) | (tk_load_last_two(s) << 16)) ^ TK_FOUR_ZEROS;
     /* A product takes less time than a shift. */
-    uint64_t shifted = TK_CAST(uint64_t, front) * tk_factor_of(s.len);
+    uint64_t shifted = tk_u64_wrapping_mul(TK_CAST(uint64_t, front), tk_factor_of(s.len));
     return shifted | (TK_CAST(uint64_t, back) << 32);
 }
 
@@ -1490,7 +1490,8 @@ TK_INLINE uint64_t tk_load_flipped(tk_bytes s)
 /* atoi_fast/src/digits.rt:35 */
 TK_HINTED uint32_t tk_leading_digits_flipped(uint64_t flipped)
 {
-    uint64_t marks = ((flipped + UINT64_C(0x7676767676767676)) | flipped) & UINT64_C(0x8080808080808080);
+    uint64_t marks = (tk_u64_wrapping_add(flipped,
+                                          UINT64_C(0x7676767676767676)) | flipped) & UINT64_C(0x8080808080808080);
     if (marks == 0) {
         return 8;
     }
@@ -1503,7 +1504,7 @@ TK_INLINE tk_option_i8 tk_short_slice_i8(tk_bytes s)
 {
     bool minus = true & (s.at[tk_index(0, s.len)] == '-');
     /* A `-` that is flipped once more is the digit 0, without a branch. */
-    uint64_t flipped = tk_load_flipped(s) ^ (tk_factor_of(s.len) * (0x1D * tk_bit(minus)));
+    uint64_t flipped = tk_load_flipped(s) ^ tk_u64_wrapping_mul(tk_factor_of(s.len), 0x1D * tk_bit(minus));
     if (tk_leading_digits_flipped(flipped) != 8) {
         return tk_none_i8();
     }
@@ -1524,7 +1525,7 @@ TK_HINTED uint64_t tk_load_last(tk_bytes s)
 /* atoi_fast/src/digits.rt:81 */
 TK_HINTED uint64_t tk_value_of(uint64_t word, uint32_t len)
 {
-    return tk_sum_of((word - TK_ZEROS) << (64 - 8 * len));
+    return tk_sum_of(tk_u64_wrapping_sub(word, TK_ZEROS) << (64 - 8 * len));
 }
 
 /*
@@ -1537,7 +1538,7 @@ TK_INLINE tk_option_i8 tk_slice_of_two_words_i8(tk_bytes s)
     uint64_t word = tk_load_full(s);
     bool minus = true & (s.at[tk_index(0, s.len)] == '-');
     /* A `-` plus 3 is a `0`. */
-    uint64_t first = word + 3 * tk_bit(minus);
+    uint64_t first = tk_u64_wrapping_add(word, 3 * tk_bit(minus));
     uint64_t last = tk_load_last(s);
     if (tk_leading_digits(first) != 8 || tk_leading_digits(last) != 8) {
         return tk_none_i8();
@@ -1565,7 +1566,7 @@ TK_INLINE tk_option_u8 tk_short_slice_u8(tk_bytes s)
 {
     bool minus = false & (s.at[tk_index(0, s.len)] == '-');
     /* A `-` that is flipped once more is the digit 0, without a branch. */
-    uint64_t flipped = tk_load_flipped(s) ^ (tk_factor_of(s.len) * (0x1D * tk_bit(minus)));
+    uint64_t flipped = tk_load_flipped(s) ^ tk_u64_wrapping_mul(tk_factor_of(s.len), 0x1D * tk_bit(minus));
     if (tk_leading_digits_flipped(flipped) != 8) {
         return tk_none_u8();
     }
@@ -1578,7 +1579,7 @@ TK_INLINE tk_option_u8 tk_slice_of_two_words_u8(tk_bytes s)
     uint64_t word = tk_load_full(s);
     bool minus = false & (s.at[tk_index(0, s.len)] == '-');
     /* A `-` plus 3 is a `0`. */
-    uint64_t first = word + 3 * tk_bit(minus);
+    uint64_t first = tk_u64_wrapping_add(word, 3 * tk_bit(minus));
     uint64_t last = tk_load_last(s);
     if (tk_leading_digits(first) != 8 || tk_leading_digits(last) != 8) {
         return tk_none_u8();
@@ -1605,7 +1606,7 @@ TK_INLINE tk_option_i16 tk_short_slice_i16(tk_bytes s)
 {
     bool minus = true & (s.at[tk_index(0, s.len)] == '-');
     /* A `-` that is flipped once more is the digit 0, without a branch. */
-    uint64_t flipped = tk_load_flipped(s) ^ (tk_factor_of(s.len) * (0x1D * tk_bit(minus)));
+    uint64_t flipped = tk_load_flipped(s) ^ tk_u64_wrapping_mul(tk_factor_of(s.len), 0x1D * tk_bit(minus));
     if (tk_leading_digits_flipped(flipped) != 8) {
         return tk_none_i16();
     }
@@ -1618,7 +1619,7 @@ TK_INLINE tk_option_i16 tk_slice_of_two_words_i16(tk_bytes s)
     uint64_t word = tk_load_full(s);
     bool minus = true & (s.at[tk_index(0, s.len)] == '-');
     /* A `-` plus 3 is a `0`. */
-    uint64_t first = word + 3 * tk_bit(minus);
+    uint64_t first = tk_u64_wrapping_add(word, 3 * tk_bit(minus));
     uint64_t last = tk_load_last(s);
     if (tk_leading_digits(first) != 8 || tk_leading_digits(last) != 8) {
         return tk_none_i16();
@@ -1645,7 +1646,7 @@ TK_INLINE tk_option_u16 tk_short_slice_u16(tk_bytes s)
 {
     bool minus = false & (s.at[tk_index(0, s.len)] == '-');
     /* A `-` that is flipped once more is the digit 0, without a branch. */
-    uint64_t flipped = tk_load_flipped(s) ^ (tk_factor_of(s.len) * (0x1D * tk_bit(minus)));
+    uint64_t flipped = tk_load_flipped(s) ^ tk_u64_wrapping_mul(tk_factor_of(s.len), 0x1D * tk_bit(minus));
     if (tk_leading_digits_flipped(flipped) != 8) {
         return tk_none_u16();
     }
@@ -1658,7 +1659,7 @@ TK_INLINE tk_option_u16 tk_slice_of_two_words_u16(tk_bytes s)
     uint64_t word = tk_load_full(s);
     bool minus = false & (s.at[tk_index(0, s.len)] == '-');
     /* A `-` plus 3 is a `0`. */
-    uint64_t first = word + 3 * tk_bit(minus);
+    uint64_t first = tk_u64_wrapping_add(word, 3 * tk_bit(minus));
     uint64_t last = tk_load_last(s);
     if (tk_leading_digits(first) != 8 || tk_leading_digits(last) != 8) {
         return tk_none_u16();
@@ -1685,7 +1686,7 @@ TK_INLINE tk_option_i32 tk_short_slice_i32(tk_bytes s)
 {
     bool minus = true & (s.at[tk_index(0, s.len)] == '-');
     /* A `-` that is flipped once more is the digit 0, without a branch. */
-    uint64_t flipped = tk_load_flipped(s) ^ (tk_factor_of(s.len) * (0x1D * tk_bit(minus)));
+    uint64_t flipped = tk_load_flipped(s) ^ tk_u64_wrapping_mul(tk_factor_of(s.len), 0x1D * tk_bit(minus));
     if (tk_leading_digits_flipped(flipped) != 8) {
         return tk_none_i32();
     }
@@ -1698,7 +1699,7 @@ TK_INLINE tk_option_i32 tk_slice_of_two_words_i32(tk_bytes s)
     uint64_t word = tk_load_full(s);
     bool minus = true & (s.at[tk_index(0, s.len)] == '-');
     /* A `-` plus 3 is a `0`. */
-    uint64_t first = word + 3 * tk_bit(minus);
+    uint64_t first = tk_u64_wrapping_add(word, 3 * tk_bit(minus));
     uint64_t last = tk_load_last(s);
     if (tk_leading_digits(first) != 8 || tk_leading_digits(last) != 8) {
         return tk_none_i32();
@@ -1725,7 +1726,7 @@ TK_INLINE tk_option_u32 tk_short_slice_u32(tk_bytes s)
 {
     bool minus = false & (s.at[tk_index(0, s.len)] == '-');
     /* A `-` that is flipped once more is the digit 0, without a branch. */
-    uint64_t flipped = tk_load_flipped(s) ^ (tk_factor_of(s.len) * (0x1D * tk_bit(minus)));
+    uint64_t flipped = tk_load_flipped(s) ^ tk_u64_wrapping_mul(tk_factor_of(s.len), 0x1D * tk_bit(minus));
     if (tk_leading_digits_flipped(flipped) != 8) {
         return tk_none_u32();
     }
@@ -1738,7 +1739,7 @@ TK_INLINE tk_option_u32 tk_slice_of_two_words_u32(tk_bytes s)
     uint64_t word = tk_load_full(s);
     bool minus = false & (s.at[tk_index(0, s.len)] == '-');
     /* A `-` plus 3 is a `0`. */
-    uint64_t first = word + 3 * tk_bit(minus);
+    uint64_t first = tk_u64_wrapping_add(word, 3 * tk_bit(minus));
     uint64_t last = tk_load_last(s);
     if (tk_leading_digits(first) != 8 || tk_leading_digits(last) != 8) {
         return tk_none_u32();
@@ -1765,7 +1766,7 @@ TK_INLINE tk_option_i64 tk_short_slice_i64(tk_bytes s)
 {
     bool minus = true & (s.at[tk_index(0, s.len)] == '-');
     /* A `-` that is flipped once more is the digit 0, without a branch. */
-    uint64_t flipped = tk_load_flipped(s) ^ (tk_factor_of(s.len) * (0x1D * tk_bit(minus)));
+    uint64_t flipped = tk_load_flipped(s) ^ tk_u64_wrapping_mul(tk_factor_of(s.len), 0x1D * tk_bit(minus));
     if (tk_leading_digits_flipped(flipped) != 8) {
         return tk_none_i64();
     }
@@ -1778,7 +1779,7 @@ TK_INLINE tk_option_i64 tk_slice_of_two_words_i64(tk_bytes s)
     uint64_t word = tk_load_full(s);
     bool minus = true & (s.at[tk_index(0, s.len)] == '-');
     /* A `-` plus 3 is a `0`. */
-    uint64_t first = word + 3 * tk_bit(minus);
+    uint64_t first = tk_u64_wrapping_add(word, 3 * tk_bit(minus));
     uint64_t last = tk_load_last(s);
     if (tk_leading_digits(first) != 8 || tk_leading_digits(last) != 8) {
         return tk_none_i64();
@@ -1805,7 +1806,7 @@ TK_INLINE tk_option_u64 tk_short_slice_u64(tk_bytes s)
 {
     bool minus = false & (s.at[tk_index(0, s.len)] == '-');
     /* A `-` that is flipped once more is the digit 0, without a branch. */
-    uint64_t flipped = tk_load_flipped(s) ^ (tk_factor_of(s.len) * (0x1D * tk_bit(minus)));
+    uint64_t flipped = tk_load_flipped(s) ^ tk_u64_wrapping_mul(tk_factor_of(s.len), 0x1D * tk_bit(minus));
     if (tk_leading_digits_flipped(flipped) != 8) {
         return tk_none_u64();
     }
@@ -1818,7 +1819,7 @@ TK_INLINE tk_option_u64 tk_slice_of_two_words_u64(tk_bytes s)
     uint64_t word = tk_load_full(s);
     bool minus = false & (s.at[tk_index(0, s.len)] == '-');
     /* A `-` plus 3 is a `0`. */
-    uint64_t first = word + 3 * tk_bit(minus);
+    uint64_t first = tk_u64_wrapping_add(word, 3 * tk_bit(minus));
     uint64_t last = tk_load_last(s);
     if (tk_leading_digits(first) != 8 || tk_leading_digits(last) != 8) {
         return tk_none_u64();
@@ -1845,7 +1846,7 @@ TK_INLINE tk_option_i128 tk_short_slice_i128(tk_bytes s)
 {
     bool minus = true & (s.at[tk_index(0, s.len)] == '-');
     /* A `-` that is flipped once more is the digit 0, without a branch. */
-    uint64_t flipped = tk_load_flipped(s) ^ (tk_factor_of(s.len) * (0x1D * tk_bit(minus)));
+    uint64_t flipped = tk_load_flipped(s) ^ tk_u64_wrapping_mul(tk_factor_of(s.len), 0x1D * tk_bit(minus));
     if (tk_leading_digits_flipped(flipped) != 8) {
         return tk_none_i128();
     }
@@ -1858,7 +1859,7 @@ TK_INLINE tk_option_i128 tk_slice_of_two_words_i128(tk_bytes s)
     uint64_t word = tk_load_full(s);
     bool minus = true & (s.at[tk_index(0, s.len)] == '-');
     /* A `-` plus 3 is a `0`. */
-    uint64_t first = word + 3 * tk_bit(minus);
+    uint64_t first = tk_u64_wrapping_add(word, 3 * tk_bit(minus));
     uint64_t last = tk_load_last(s);
     if (tk_leading_digits(first) != 8 || tk_leading_digits(last) != 8) {
         return tk_none_i128();
@@ -1885,7 +1886,7 @@ TK_INLINE tk_option_u128 tk_short_slice_u128(tk_bytes s)
 {
     bool minus = false & (s.at[tk_index(0, s.len)] == '-');
     /* A `-` that is flipped once more is the digit 0, without a branch. */
-    uint64_t flipped = tk_load_flipped(s) ^ (tk_factor_of(s.len) * (0x1D * tk_bit(minus)));
+    uint64_t flipped = tk_load_flipped(s) ^ tk_u64_wrapping_mul(tk_factor_of(s.len), 0x1D * tk_bit(minus));
     if (tk_leading_digits_flipped(flipped) != 8) {
         return tk_none_u128();
     }
@@ -1898,7 +1899,7 @@ TK_INLINE tk_option_u128 tk_slice_of_two_words_u128(tk_bytes s)
     uint64_t word = tk_load_full(s);
     bool minus = false & (s.at[tk_index(0, s.len)] == '-');
     /* A `-` plus 3 is a `0`. */
-    uint64_t first = word + 3 * tk_bit(minus);
+    uint64_t first = tk_u64_wrapping_add(word, 3 * tk_bit(minus));
     uint64_t last = tk_load_last(s);
     if (tk_leading_digits(first) != 8 || tk_leading_digits(last) != 8) {
         return tk_none_u128();
@@ -1987,9 +1988,9 @@ TK_INLINE uint64_t tk_load_from(tk_bytes s, size_t at)
 /* atoi_fast/src/digits.rt:155 */
 TK_HINTED uint64_t tk_four_by_product(uint64_t digits, uint32_t len)
 {
-    uint64_t product = digits * tk_factors[tk_index(TK_CAST(size_t, len), 8)];
+    uint64_t product = tk_u64_wrapping_mul(digits, tk_factors[tk_index(TK_CAST(size_t, len), 8)]);
     uint64_t tens = (product >> 8) & UINT64_C(0x00FF00FF00FF00FF);
-    return (tens * 0x640001) >> 48;
+    return tk_u64_wrapping_mul(tens, 0x640001) >> 48;
 }
 
 /*
@@ -1999,14 +2000,14 @@ TK_HINTED uint64_t tk_four_by_product(uint64_t digits, uint32_t len)
 /* atoi_fast/src/short_prefix.rt:113 */
 TK_FAR tk_option_pair_i64_size tk_prefix_of_three_words_i64(bool minus, uint64_t high, uint64_t second, tk_bytes s)
 {
-    uint64_t high_2 = high * tk_power_of_ten(8) + tk_sum_of(second - TK_ZEROS);
+    uint64_t high_2 = high * tk_power_of_ten(8) + tk_sum_of(tk_u64_wrapping_sub(second, TK_ZEROS));
     uint64_t third = tk_load_from(s, 16);
     uint32_t more = tk_leading_digits(third);
     /* Not more than 19 digits, which no limit refuses. */
     if (more > 3 + TK_CAST(uint32_t, minus)) {
         return tk_none_pair_i64_size();
     }
-    uint64_t low = tk_four_by_product(third - TK_ZEROS, more);
+    uint64_t low = tk_four_by_product(tk_u64_wrapping_sub(third, TK_ZEROS), more);
     uint64_t magnitude = high_2 * tk_power_of_ten(more) + low;
     tk_option_i64 found = tk_number_in_range_i64(TK_MOST_IN_THREE_WORDS, minus, magnitude);
     if (!found.is_some) {
@@ -2037,14 +2038,14 @@ TK_INLINE tk_option_i64 tk_long_slice_i64(tk_bytes s)
 /* atoi_fast/src/short_prefix.rt:113 */
 TK_FAR tk_option_pair_u64_size tk_prefix_of_three_words_u64(bool minus, uint64_t high, uint64_t second, tk_bytes s)
 {
-    uint64_t high_2 = high * tk_power_of_ten(8) + tk_sum_of(second - TK_ZEROS);
+    uint64_t high_2 = high * tk_power_of_ten(8) + tk_sum_of(tk_u64_wrapping_sub(second, TK_ZEROS));
     uint64_t third = tk_load_from(s, 16);
     uint32_t more = tk_leading_digits(third);
     /* Not more than 19 digits, which no limit refuses. */
     if (more > 3 + TK_CAST(uint32_t, minus)) {
         return tk_none_pair_u64_size();
     }
-    uint64_t low = tk_four_by_product(third - TK_ZEROS, more);
+    uint64_t low = tk_four_by_product(tk_u64_wrapping_sub(third, TK_ZEROS), more);
     uint64_t magnitude = high_2 * tk_power_of_ten(more) + low;
     tk_option_u64 found = tk_number_in_range_u64(TK_MOST_IN_THREE_WORDS, minus, magnitude);
     if (!found.is_some) {
@@ -2114,14 +2115,14 @@ TK_HINTED tk_window tk_window_not_full(uint32_t len, uint64_t number)
 /* atoi_fast/src/digits.rt:93 */
 TK_HINTED uint64_t tk_value_below_8(uint64_t word, uint32_t len)
 {
-    return tk_sum_of(((word - TK_ZEROS) << (56 - 8 * len)) << 8);
+    return tk_sum_of((tk_u64_wrapping_sub(word, TK_ZEROS) << (56 - 8 * len)) << 8);
 }
 
 /* `len_zeroes`, from the difference that `leading_digits` and `value_of` compute, too. */
 /* atoi_fast/src/digits.rt:49 */
 TK_HINTED uint32_t tk_zeroes_of(uint64_t word)
 {
-    return tk_u64_trailing_zeros(word - TK_ZEROS) / 8;
+    return tk_u64_trailing_zeros(tk_u64_wrapping_sub(word, TK_ZEROS)) / 8;
 }
 
 /* atoi_fast/src/digits.rt:57 */
@@ -2405,8 +2406,8 @@ TK_INLINE tk_result_pair_u64_size tk_found_or_empty_u64(uint64_t number, size_t 
 /* atoi_fast/src/digits.rt:168 */
 TK_HINTED uint32_t tk_leading_digits_of_four(uint32_t word)
 {
-    uint32_t above = word + 0x46464646;
-    uint32_t below = word - TK_FOUR_ZEROS;
+    uint32_t above = tk_u32_wrapping_add(word, 0x46464646);
+    uint32_t below = tk_u32_wrapping_sub(word, TK_FOUR_ZEROS);
     uint32_t marks = (above | below) & 0x80808080u;
     if (marks == 0) {
         return 4;
@@ -2418,8 +2419,8 @@ TK_HINTED uint32_t tk_leading_digits_of_four(uint32_t word)
 /* atoi_fast/src/digits.rt:104 */
 TK_HINTED uint32_t tk_sum_of_four(uint32_t digits)
 {
-    uint32_t tens = ((digits * 0xA01) >> 8) & 0x00FF00FF;
-    return (tens * 0x640001) >> 16;
+    uint32_t tens = (tk_u32_wrapping_mul(digits, 0xA01) >> 8) & 0x00FF00FF;
+    return tk_u32_wrapping_mul(tens, 0x640001) >> 16;
 }
 
 /* Returns the number that a word of four digits spells after its first `skipped` bytes. */
@@ -2427,7 +2428,7 @@ TK_HINTED uint32_t tk_sum_of_four(uint32_t digits)
 TK_HINTED uint32_t tk_value_after(uint32_t word, size_t skipped)
 {
     size_t bits = 8 * skipped;
-    return tk_sum_of_four(((word - TK_FOUR_ZEROS) >> bits) << bits);
+    return tk_sum_of_four((tk_u32_wrapping_sub(word, TK_FOUR_ZEROS) >> bits) << bits);
 }
 
 /* Returns the number that the bytes after the first 16 spell, if the last four are digits. */
@@ -2461,7 +2462,7 @@ TK_HINTED bool tk_starts_with_digit_of_four(uint32_t word)
 /* atoi_fast/src/digits.rt:191 */
 TK_HINTED uint32_t tk_value_up_to_4(uint32_t word, uint32_t len)
 {
-    return tk_sum_of_four((word - TK_FOUR_ZEROS) << (32 - 8 * len));
+    return tk_sum_of_four(tk_u32_wrapping_sub(word, TK_FOUR_ZEROS) << (32 - 8 * len));
 }
 
 /* atoi_fast/src/after_16.rt:137 */
@@ -4293,7 +4294,7 @@ TK_INLINE tk_result_u128 tk_atoi_simd_parse_pos_u128(tk_bytes s, bool skip)
 TK_INLINE tk_option_pair_i8_size tk_prefix_in_word_i8(uint64_t word, uint32_t len, tk_bytes s)
 {
     (void)s;
-    uint64_t magnitude = tk_value_by_product(word - TK_ZEROS, len);
+    uint64_t magnitude = tk_value_by_product(tk_u64_wrapping_sub(word, TK_ZEROS), len);
     tk_option_i8 found = tk_number_in_range_i8(TK_MOST_IN_WORD, false, magnitude);
     if (!found.is_some) {
         return tk_none_pair_i8_size();
@@ -4385,7 +4386,7 @@ TK_INLINE tk_result_pair_u8_size tk_atoi_simd_parse_prefix_pos_u8(tk_bytes s, bo
 TK_INLINE tk_option_pair_i16_size tk_prefix_in_word_i16(uint64_t word, uint32_t len, tk_bytes s)
 {
     (void)s;
-    uint64_t magnitude = tk_value_by_product(word - TK_ZEROS, len);
+    uint64_t magnitude = tk_value_by_product(tk_u64_wrapping_sub(word, TK_ZEROS), len);
     tk_option_i16 found = tk_number_in_range_i16(TK_MOST_IN_WORD, false, magnitude);
     if (!found.is_some) {
         return tk_none_pair_i16_size();
@@ -4471,7 +4472,7 @@ TK_INLINE tk_result_pair_u16_size tk_atoi_simd_parse_prefix_pos_u16(tk_bytes s, 
 TK_INLINE tk_option_pair_i32_size tk_prefix_in_word_i32(uint64_t word, uint32_t len, tk_bytes s)
 {
     (void)s;
-    uint64_t magnitude = tk_value_by_product(word - TK_ZEROS, len);
+    uint64_t magnitude = tk_value_by_product(tk_u64_wrapping_sub(word, TK_ZEROS), len);
     tk_option_i32 found = tk_number_in_range_i32(TK_MOST_IN_WORD, false, magnitude);
     if (!found.is_some) {
         return tk_none_pair_i32_size();
@@ -4557,7 +4558,7 @@ TK_INLINE tk_result_pair_u32_size tk_atoi_simd_parse_prefix_pos_u32(tk_bytes s, 
 TK_INLINE tk_option_pair_i64_size tk_prefix_in_word_i64(uint64_t word, uint32_t len, tk_bytes s)
 {
     (void)s;
-    uint64_t magnitude = tk_value_by_product(word - TK_ZEROS, len);
+    uint64_t magnitude = tk_value_by_product(tk_u64_wrapping_sub(word, TK_ZEROS), len);
     tk_option_i64 found = tk_number_in_range_i64(TK_MOST_IN_WORD, false, magnitude);
     if (!found.is_some) {
         return tk_none_pair_i64_size();
@@ -4643,7 +4644,7 @@ TK_INLINE tk_result_pair_u64_size tk_atoi_simd_parse_prefix_pos_u64(tk_bytes s, 
 TK_INLINE tk_option_pair_i128_size tk_prefix_in_word_i128(uint64_t word, uint32_t len, tk_bytes s)
 {
     (void)s;
-    uint64_t magnitude = tk_value_by_product(word - TK_ZEROS, len);
+    uint64_t magnitude = tk_value_by_product(tk_u64_wrapping_sub(word, TK_ZEROS), len);
     tk_option_i128 found = tk_number_in_range_i128(TK_MOST_IN_WORD, false, magnitude);
     if (!found.is_some) {
         return tk_none_pair_i128_size();
@@ -6684,8 +6685,8 @@ TK_HINTED tk_option_u64 tk_first_word(tk_bytes s)
 /* atoi_column/src/words.rt:81 */
 TK_HINTED uint64_t tk_sum_of_shifted(uint64_t digits, uint32_t shift)
 {
-    uint64_t tens = ((digits * (UINT64_C(2561) << shift)) >> 8) & UINT64_C(0x00FF00FF00FF00FF);
-    uint64_t hundreds = tens * 0x640001;
+    uint64_t tens = (tk_u64_wrapping_mul(digits, UINT64_C(2561) << shift) >> 8) & UINT64_C(0x00FF00FF00FF00FF);
+    uint64_t hundreds = tk_u64_wrapping_mul(tens, 0x640001);
     return ((hundreds >> 16) & 0xFFFF) * 10000 + (hundreds >> 48);
 }
 
@@ -6705,8 +6706,8 @@ TK_INLINE tk_option_u64 tk_number_before(tk_bytes s, size_t width, uint64_t end_
     /* In two steps, since no shift is by 64 bits. */
     uint64_t end = (end_word << (56 - shift)) << 8;
     uint64_t end_mask = (((UINT64_C(1) << (8 * TK_CAST(uint32_t, end_len))) - 1) << (56 - shift)) << 8;
-    uint64_t digits = word - end - (TK_ZEROS >> shift);
-    uint64_t above = (digits + (UINT64_C(8536140394893047414) >> shift)) | digits;
+    uint64_t digits = tk_u64_wrapping_sub(tk_u64_wrapping_sub(word, end), TK_ZEROS >> shift);
+    uint64_t above = tk_u64_wrapping_add(digits, UINT64_C(8536140394893047414) >> shift) | digits;
     if ((above & ((UINT64_C(9259542123273814144) >> shift) | end_mask)) != 0) {
         return tk_none_u64();
     }

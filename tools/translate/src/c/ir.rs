@@ -101,7 +101,6 @@ pub enum Kind {
     Constant(Id),
     Call(Instance),
     Binary(&'static str),
-    Wrapping(&'static str),
     Not,
     // A function of the prelude, by its name behind that of the type of integers.
     Small(String),

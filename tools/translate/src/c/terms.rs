@@ -42,8 +42,7 @@ pub fn print(printer: &mut Printer, term: &Term) -> Done<Text> {
             }
             call(name, &texts)
         }
-        Kind::Binary(operator) => binary(printer, operator, false, term, texts)?,
-        Kind::Wrapping(operator) => binary(printer, operator, true, term, texts)?,
+        Kind::Binary(operator) => binary(printer, operator, term, texts)?,
         Kind::Not => Text::new(format!("!{}", texts[0].at(UNARY)), UNARY),
         Kind::Cast => cast(printer, &term.parts[0], &texts[0], &term.of)?,
         Kind::Make(variant) => {
@@ -238,23 +237,16 @@ fn known(operator: &str) -> (u8, &'static str) {
     known.map_or((0, ""), |(_, level, function)| (*level, function))
 }
 
-fn binary(
-    printer: &mut Printer,
-    operator: &str,
-    is_wrapping: bool,
-    term: &Term,
-    mut texts: Vec<Text>,
-) -> Done<Text> {
+fn binary(printer: &mut Printer, operator: &str, term: &Term, mut texts: Vec<Text>) -> Done<Text> {
     let own = match term.parts[0].of {
         Type::Integer(own) if own.bits() == 128 => {
-            return Ok(wide(own, operator, is_wrapping, texts));
+            return Ok(wide(own, operator, texts));
         }
         Type::Integer(own) if !is_comparison(operator) => own,
         Type::Integer(_) | Type::Boolean => return Ok(joined(operator, &texts)),
         _ => return Err(refuse(printer, term, "a comparison of these")),
     };
     let refusals = [
-        (is_wrapping && (own.is_signed() || own.bits() < 32), "a wrapping operation on this type"),
         // A product or a shift of 16 bits may be more than an `int`.
         (own.bits() < 32 && matches!(operator, "*" | "<<"), "this operation on so few bits"),
         (own.is_signed() && is_shift(operator), "a shift of a signed number"),
@@ -268,20 +260,18 @@ fn binary(
         texts[0].text = if is_long { format!("UINT64_C({value})") } else { format!("{value}u") };
     }
     // A function asserts what is proved of the operands.
-    if printer.is_checked && !is_wrapping && !own.is_signed() {
+    if printer.is_checked && !own.is_signed() {
         return Ok(call(format!("tk_{}_{}", own.name(), known(operator).1), &texts));
     }
     Ok(narrow(own, joined(operator, &texts)))
 }
 
 // An operator on 128 bits, as a call: not all compilers have such numbers.
-fn wide(own: Integer, operator: &str, is_wrapping: bool, mut texts: Vec<Text>) -> Text {
+fn wide(own: Integer, operator: &str, mut texts: Vec<Text>) -> Text {
     if matches!(operator, ">" | "<=") {
         texts.reverse();
     }
-    let wrapping = if is_wrapping { "wrapping_" } else { "" };
-    let name = format!("tk_{}_{wrapping}{}", own.name(), known(operator).1);
-    let call = call(name, &texts);
+    let call = call(format!("tk_{}_{}", own.name(), known(operator).1), &texts);
     match operator {
         "!=" | "<=" | ">=" => Text::new(format!("!{}", call.text), UNARY),
         _ => call,

@@ -83,9 +83,7 @@ impl Lowering<'_, '_> {
         let terms = self.coerce_all(terms, &types)?;
         let small = Kind::Small(name.into());
         let (kind, of) = match (name, terms.len()) {
-            ("wrapping_add", 2) => (Kind::Wrapping("+"), of),
-            ("wrapping_sub", 2) => (Kind::Wrapping("-"), of),
-            ("wrapping_mul", 2) => (Kind::Wrapping("*"), of),
+            ("wrapping_add" | "wrapping_sub" | "wrapping_mul", 2) => (small, of),
             ("saturating_add" | "saturating_sub" | "min" | "max", 2) => (small, of),
             ("sum_fits" | "product_fits", 2) => (small, Type::Boolean),
             ("is_ascii_digit", 1) => (Kind::Small("is_digit".into()), Type::Boolean),
