@@ -53,9 +53,9 @@ pub struct Instance {
 pub struct Function {
     pub key: Instance,
     pub locals: Vec<Local>,
-    /// The constants of other parameters, by the parameter and their place in its `impl`. They and the constants of
-    /// its generics are its first parameters.
-    pub constants: Vec<(String, Id)>,
+    /// The constants of other parameters, by the parameter and their place in its `impl`, and their variables. They and
+    /// the constants of its generics are its first parameters.
+    pub constants: BTreeMap<(String, Id), usize>,
     pub parameters: Vec<usize>,
     pub result: Type,
     pub body: Term,

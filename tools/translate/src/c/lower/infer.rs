@@ -1,7 +1,7 @@
 //! The types of variables, by unification. What has no rule here is refused.
 
 use super::{Done, Lowering};
-use crate::c::ir::{Form, Function, Instance, Integer, Kind, PLAIN, Term, Type};
+use crate::c::ir::{Form, Integer, Kind, PLAIN, Term, Type};
 
 impl Lowering<'_, '_> {
     /// Returns a type that is not known yet.
@@ -79,22 +79,6 @@ impl Lowering<'_, '_> {
         }
     }
 
-    /// Ends a function: all types get what was found, and calls the functions for them.
-    pub fn finish(&mut self, key: &Instance, parameters: Vec<usize>) -> Done<Function> {
-        let statements = std::mem::take(&mut self.statements);
-        let mut body = self.block_of(statements);
-        self.end(&mut body, &mut Vec::new())?;
-        for local in 0..self.locals.len() {
-            self.locals[local].of = self.settled(&self.locals[local].of.clone())?;
-        }
-        let result = self.settled(&self.result.clone())?;
-        let (constants, given): (Vec<_>, Vec<_>) =
-            std::mem::take(&mut self.constants).into_iter().unzip();
-        let parameters = [given, parameters].concat();
-        let locals = std::mem::take(&mut self.locals);
-        Ok(Function { key: key.clone(), locals, constants, parameters, result, body })
-    }
-
     /// Ends a term, from its last part to the first, as variables that nothing reads behind them are removed.
     pub fn end(&mut self, term: &mut Term, used: &mut Vec<Kind>) -> Done<()> {
         for at in (0..term.parts.len()).rev() {
@@ -112,8 +96,8 @@ impl Lowering<'_, '_> {
         self.settle(term)
     }
 
-    // Returns a type with all that matters of it.
-    fn settled(&mut self, of: &Type) -> Done<Type> {
+    /// Returns a type with all that matters of it.
+    pub fn settled(&mut self, of: &Type) -> Done<Type> {
         let found = self.world.erased(&self.full(of));
         match found.parameter() {
             Some(name) => self.need(name),
@@ -133,8 +117,8 @@ impl Lowering<'_, '_> {
             return self.need(name);
         }
         // What it gets for parameters that do not matter.
-        let constants = self.instances.get(callee).map_or(Vec::new(), |it| it.constants.clone());
-        let constants = constants.into_iter().map(|(name, id)| {
+        let constants = self.instances.get(callee).map(|it| it.constants.clone());
+        let constants = constants.unwrap_or_default().into_keys().map(|(name, id)| {
             let constant = self.world.name(id);
             self.constant_of(&own[&name], constant)
         });

@@ -8,12 +8,13 @@ mod statements;
 mod values;
 
 use super::instances::{Attempt, Instances};
-use super::ir::{Bindings, Done, Id, Instance, Kind, LENGTH, Local, PLAIN, Term, Type};
+use super::ir::{Bindings, Done, Function, Id, Instance, Kind, LENGTH, Local, PLAIN, Term, Type};
 use super::world::World;
 use crate::parser::parse;
 use crate::source::{Source, Span};
 use crate::tree::Node;
 use std::collections::BTreeMap;
+use std::mem::take;
 use std::path::Path;
 
 struct Lowering<'w, 'i> {
@@ -95,7 +96,7 @@ pub fn signature(world: &World, callee: &Instance) -> Done<(Vec<Type>, Type)> {
         return Err(world.fault_of(callee.id, "no function"));
     }
     let parameters =
-        parameters(tree).map(|it| match (it.kind, it.has("shared"), it.has("mutable")) {
+        parameters_of(tree).map(|it| match (it.kind, it.has("shared"), it.has("mutable")) {
             ("receiver", true, true) => Ok(Type::pointer(place.bindings["Self"].clone())),
             ("receiver", ..) => Ok(place.bindings["Self"].clone()),
             _ => world.type_in(&place, it.last()),
@@ -106,7 +107,7 @@ pub fn signature(world: &World, callee: &Instance) -> Done<(Vec<Type>, Type)> {
 }
 
 // Returns the generic constants of a function, the receiver, and the other parameters.
-fn parameters(function: &Node) -> impl Iterator<Item = &Node> {
+fn parameters_of(function: &Node) -> impl Iterator<Item = &Node> {
     let constants = function.generics("generic.constant");
     constants.chain(function.all("receiver")).chain(function.all("parameter"))
 }
@@ -130,22 +131,32 @@ impl<'w, 'i> Lowering<'w, 'i> {
         })
     }
 
-    fn function(&mut self, key: &Instance) -> Done<super::ir::Function> {
+    fn function(&mut self, key: &Instance) -> Done<Function> {
         let world = self.world;
         let tree = world.item(key.id);
         let body = self.expect(tree.get("block"), "no function with a body")?;
         let (types, result) = signature(world, key)?;
         self.require(result != Type::UNIT, "a function without a result")?;
         self.result = result;
-        let mut locals = Vec::new();
-        for (parameter, of) in parameters(tree).zip(types) {
+        let mut parameters = Vec::new();
+        for (parameter, of) in parameters_of(tree).zip(types) {
             let is_mutable = parameter.has("mutable") && !parameter.has("shared");
             let local = self.variable(parameter.name(), of, is_mutable);
             self.names.push((parameter.name().into(), self.local(local)));
-            locals.push(local);
+            parameters.push(local);
         }
         self.evaluate(body, Target::Return)?;
-        self.finish(key, locals)
+        // All types get what was found, and calls the functions for them.
+        let statements = take(&mut self.statements);
+        let mut body = self.block_of(statements);
+        self.end(&mut body, &mut Vec::new())?;
+        for local in 0..self.locals.len() {
+            self.locals[local].of = self.settled(&self.locals[local].of.clone())?;
+        }
+        let result = self.settled(&self.result.clone())?;
+        let (locals, constants) = (take(&mut self.locals), take(&mut self.constants));
+        let parameters = constants.values().copied().chain(parameters).collect();
+        Ok(Function { key: key.clone(), locals, constants, parameters, result, body })
     }
 
     fn refuse<T>(&self, reason: impl std::fmt::Display) -> Done<T> {
@@ -233,7 +244,7 @@ impl<'w, 'i> Lowering<'w, 'i> {
 
     // Makes something in a scope and a list of statements of its own.
     fn apart<R>(&mut self, make: impl FnOnce(&mut Self) -> Done<R>) -> Done<(Vec<Term>, R)> {
-        let (before, names) = (std::mem::take(&mut self.statements), self.names.len());
+        let (before, names) = (take(&mut self.statements), self.names.len());
         let made = make(self);
         self.names.truncate(names);
         Ok((std::mem::replace(&mut self.statements, before), made?))
