@@ -1,15 +1,13 @@
 //! From the tree of a function to its typed form, for what its parameters stand for. Types are inferred on the way.
 
 mod calls;
-mod infer;
-mod methods;
 mod patterns;
 mod statements;
 mod values;
 
 use super::instances::{Attempt, Instances};
-use super::ir::{Bindings, Done, Function, Id, Instance, Kind, LENGTH, Local, PLAIN, Term, Type};
-use super::world::World;
+use super::ir::*;
+use super::world::{World, integer};
 use crate::parser::parse;
 use crate::source::{Source, Span};
 use crate::tree::Node;

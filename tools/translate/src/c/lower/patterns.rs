@@ -1,9 +1,7 @@
 //! Patterns as conditions and variables.
 
 use super::calls::Named;
-use super::{Done, Lowering, Target};
-use crate::c::ir::{Kind, PLAIN, SOME, Term, Type};
-use crate::tree::Node;
+use super::*;
 use std::cmp::Ordering;
 
 /// A name of a pattern, whether it may be changed, and the part that it stands for.

@@ -1,9 +1,7 @@
 //! Statements: blocks, variables, loops, assignments, and branches, which end in statements, a choice, or a variable.
 
 use super::patterns::Fit;
-use super::{Done, Lowering, Target};
-use crate::c::ir::{Kind, Term, Type};
-use crate::tree::Node;
+use super::*;
 
 /// One way that an `if` or `match` goes on.
 struct Branch {
