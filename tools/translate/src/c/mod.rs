@@ -1,7 +1,6 @@
-//! C from the trees: `instances` finds the functions that are needed, for the types that matter, `lower` gives each
-//! its typed form, and `print` writes them.
+//! C from the trees: `lower` finds the functions that are needed, for the types that matter, and gives each its typed
+//! form, and `print` writes them.
 
-pub mod instances;
 pub mod ir;
 pub mod lower;
 pub mod print;
@@ -15,8 +14,8 @@ use crate::modules::Package;
 use crate::resolve::Scopes;
 use crate::source::Source;
 use crate::std_names::has;
-use instances::Instances;
 use ir::{Done, Function, Instance, Type};
+use lower::Instances;
 use print::{Printer, qualifier};
 use std::collections::BTreeSet;
 use std::path::Path;

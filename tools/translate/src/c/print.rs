@@ -1,7 +1,7 @@
 //! Functions and their statements as C.
 
-use super::instances::called;
 use super::ir::{Bindings, Done, Form, Function, Id, Instance, Kind, Local, Term, Type};
+use super::lower::called;
 use super::terms;
 use super::text::{self, comment, wrapped};
 use super::types::{declared, short};
