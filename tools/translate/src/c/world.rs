@@ -39,7 +39,8 @@ impl<'a> World<'a> {
                 let Ok(Instance { bindings, .. }) = world.place(id, &Bindings::new()) else {
                     continue;
                 };
-                let of_trait = it.of_trait().and_then(|path| world.trait_of(module, path));
+                let of_trait = it.of_trait().and_then(|path| scopes.resolve(module, &path.names()));
+                let of_trait = of_trait.and_then(|found| found.definition.item());
                 let target = bindings["Self"].clone();
                 world.implementations.push(Implementation { id, target, of_trait });
             }
@@ -68,10 +69,6 @@ impl<'a> World<'a> {
     /// Returns the name of an item or a member.
     pub fn name(&self, id: Id) -> &'a str {
         self.item(id).name()
-    }
-
-    fn trait_of(&self, module: usize, path: &Node) -> Option<Id> {
-        self.scopes.resolve(module, &path.names())?.definition.item()
     }
 
     /// Returns the place in an item: what it and its owner declare, and what is known of that.
@@ -223,18 +220,12 @@ impl<'a> World<'a> {
         let own = |(it, bindings): (&Implementation, Bindings)| {
             Some(Instance { id: self.position(it.id, name)?, bindings })
         };
-        let provided = |(it, _): (&Implementation, _)| self.provided(it.of_trait?, of, name);
+        // A type that has a trait has the traits before it, too.
+        let provided = |(it, _): (&Implementation, _)| {
+            let id = self.position(it.of_trait?, name)?;
+            Some(Instance { id, bindings: Bindings::from([("Self".to_string(), of.clone())]) })
+        };
         fitting.clone().find_map(own).or_else(|| fitting.clone().find_map(provided))
-    }
-
-    // Finds a member of a trait or of those before it.
-    fn provided(&self, id: Id, of: &Type, name: &str) -> Option<Instance> {
-        if let Some(id) = self.position(id, name) {
-            let bindings = Bindings::from([("Self".to_string(), of.clone())]);
-            return Some(Instance { id, bindings });
-        }
-        let bound = self.item(id).get("path")?;
-        self.provided(self.trait_of(id.module, bound)?, of, name)
     }
 
     // Finds a function or a constant among the members of an item.
