@@ -17,8 +17,7 @@ pub struct Printer<'a> {
     pub names: BTreeMap<Instance, String>,
     /// Whether operators say that nothing overflows.
     pub is_checked: bool,
-    /// Constants.
-    pub helpers: Vec<String>,
+    pub constants: Vec<String>,
     /// What has a name, and what it is.
     pub known: BTreeMap<String, String>,
     pub functions: Vec<String>,
@@ -41,7 +40,7 @@ impl<'a> Printer<'a> {
             definitions: Vec::new(),
             names: names(world, functions)?,
             is_checked,
-            helpers: Vec::new(),
+            constants: Vec::new(),
             known: BTreeMap::new(),
             functions: Vec::new(),
             id: Id { module: 0, item: 0, member: None },
@@ -53,7 +52,7 @@ impl<'a> Printer<'a> {
 
     /// Returns what was printed since the last time.
     pub fn take(&mut self) -> String {
-        let lists = [&mut self.definitions, &mut self.helpers, &mut self.functions];
+        let lists = [&mut self.definitions, &mut self.constants, &mut self.functions];
         lists.map(std::mem::take).concat().join("\n")
     }
 
@@ -78,13 +77,6 @@ impl<'a> Printer<'a> {
         let (place, lines) = (place.trim_start_matches("crates/"), &self.lines);
         self.functions.push(format!("{comment}/* {place} */\n{head}\n{{\n{lines}}}\n"));
         Ok(())
-    }
-
-    /// Adds a constant, unless it is there.
-    pub fn helper(&mut self, name: &str, text: String) {
-        if self.known.insert(name.to_string(), text.clone()).is_none() {
-            self.helpers.push(text);
-        }
     }
 
     // Starts a function, and returns its line.

@@ -139,30 +139,34 @@ fn character(byte: u8) -> Text {
     })
 }
 
-// A number is a macro, and other constants are variables.
+// A number is a macro, and other constants are variables. Two modules may have the same constant.
 fn constant(printer: &mut Printer, id: Id) -> Done<Text> {
     let world = printer.world;
     let value = lower::constant(world, id)?;
     let name = text::snake(world.name(id));
-    if let Type::Integer(_) | Type::Boolean = value.of {
-        let (name, text) = (format!("TK_{}", name.to_uppercase()), print(printer, &value)?.text);
-        let line = format!("#define {name} {text}\n");
-        // Two modules may have constants of one name, which then are the same number.
-        if printer.known.get(&name).is_some_and(|it| *it != line) {
-            return Err(world.fault(id, value.span, "C: two constants of one name"));
-        }
-        printer.helper(&name, line);
-        return Ok(Text::atom(name));
-    }
-    let (name, initial) = (format!("tk_{name}"), initializer(printer, &value)?);
     let (mut of, mut lengths) = (&value.of, String::new());
     while let Type::Of(Form::Array { length }, parts) = of {
         lengths += &format!("[{length}]");
         of = &parts[0];
     }
-    let declared = declared(&printer.name(of)?, &name);
-    let text = explained(world, id) + &format!("static const {declared}{lengths} = {initial};\n");
-    printer.helper(&name, text);
+    let (name, text) = match value.of {
+        Type::Integer(_) | Type::Boolean => {
+            let name = format!("TK_{}", name.to_uppercase());
+            let text = format!("#define {name} {}\n", print(printer, &value)?.text);
+            (name, text)
+        }
+        _ => {
+            let (name, initial) = (format!("tk_{name}"), initializer(printer, &value)?);
+            let declared = declared(&printer.name(of)?, &name);
+            let text = format!("static const {declared}{lengths} = {initial};\n");
+            (name, explained(world, id) + &text)
+        }
+    };
+    match printer.known.insert(name.clone(), text.clone()) {
+        None => printer.constants.push(text),
+        Some(other) if other == text => {}
+        Some(_) => return Err(world.fault(id, value.span, "C: two constants of one name")),
+    }
     Ok(Text::atom(name))
 }
 
