@@ -45,23 +45,21 @@ impl Lowering<'_, '_> {
             Some(Definition::Variant(id, variant)) => {
                 Named::Variant(Type::Of(Form::Item(id), Vec::new()), variant)
             }
-            Some(Definition::Foreign(name)) => self.foreign(&name),
+            Some(Definition::Foreign(name)) => {
+                let (form, count, variant) = match name.as_str() {
+                    "None" => (Form::Option, 1, NONE),
+                    "Some" => (Form::Option, 1, SOME),
+                    "Ok" => (Form::Result, 2, OK),
+                    "Err" => (Form::Result, 2, ERR),
+                    "std::marker::PhantomData" => (Form::Tuple, 0, PLAIN),
+                    _ => return Ok(Named::Unknown),
+                };
+                let parts = (0..count).map(|_| self.fresh(false)).collect();
+                Named::Variant(Type::Of(form, parts), variant)
+            }
             None if !before.is_empty() => Named::Member(self.named_type(before)?, name),
             _ => Named::Unknown,
         })
-    }
-
-    fn foreign(&mut self, name: &str) -> Named<'static> {
-        let (form, count, variant) = match name {
-            "None" => (Form::Option, 1, NONE),
-            "Some" => (Form::Option, 1, SOME),
-            "Ok" => (Form::Result, 2, OK),
-            "Err" => (Form::Result, 2, ERR),
-            "std::marker::PhantomData" => (Form::Tuple, 0, PLAIN),
-            _ => return Named::Unknown,
-        };
-        let parts = (0..count).map(|_| self.fresh(false)).collect();
-        Named::Variant(Type::Of(form, parts), variant)
     }
 
     /// Evaluates a path: a variable, a constant or a variant without fields.

@@ -29,7 +29,14 @@ impl Lowering<'_, '_> {
                 self.push(Kind::Comment(lines.collect()), Vec::new());
             }
             ("done", _) => {}
-            ("let", [pattern, ..]) => self.let_statement(tree, pattern)?,
+            ("let", [pattern, ..]) => {
+                let annotation = tree.get("annotation");
+                let of = annotation.map(|it| self.world.type_in(&self.place, it.last()));
+                let of = of.transpose()?.unwrap_or_else(|| self.fresh(false));
+                self.at = pattern.span;
+                let found = self.term(&tree.parts[1 + usize::from(annotation.is_some())], &of)?;
+                self.destructure(pattern, found, tree.get("otherwise").map(Node::last))?;
+            }
             ("while" | "loop", [condition @ .., body]) => {
                 let condition = match condition {
                     [condition] => {
@@ -71,16 +78,6 @@ impl Lowering<'_, '_> {
         }
         self.names.truncate(names);
         Ok(value)
-    }
-
-    // Declares the variables of a pattern, of which the type may be written.
-    fn let_statement(&mut self, tree: &Node, pattern: &Node) -> Done<()> {
-        let annotation = tree.get("annotation");
-        let of = annotation.map(|it| self.world.type_in(&self.place, it.last())).transpose()?;
-        let of = of.unwrap_or_else(|| self.fresh(false));
-        self.at = pattern.span;
-        let found = self.term(&tree.parts[1 + usize::from(annotation.is_some())], &of)?;
-        self.destructure(pattern, found, tree.get("otherwise").map(Node::last))
     }
 
     // Puts an assignment into the current statements.

@@ -53,9 +53,22 @@ impl Lowering<'_, '_> {
                 let of = Type::Of(Form::Tuple, terms.iter().map(|it| it.of.clone()).collect());
                 Ok(self.make(Kind::Make(PLAIN), terms, of))
             }
-            ("list", parts) => self.array(parts),
+            ("list", parts) => {
+                let element = self.fresh(false);
+                let terms = self.operands(None, parts)?;
+                let terms = self.coerce_all(terms, &vec![element.clone(); parts.len()])?;
+                Ok(self.make(Kind::Elements, terms, Type::array(element, parts.len() as u128)))
+            }
             ("struct", [path, fields @ ..]) => self.structure(path, fields),
-            ("negation", [sign, operand]) => self.negation(&sign.text, operand),
+            ("negation", [sign, operand]) => {
+                let term = self.any(operand)?;
+                match (sign.text.as_str(), self.known(&term.of)) {
+                    ("*", _) => Ok(self.followed(term)),
+                    ("!", Type::Boolean) => Ok(term.negated()),
+                    ("-", of) => Ok(self.make(Kind::Small("negate".into()), vec![term], of)),
+                    _ => self.refuse("this operation has no rule"),
+                }
+            }
             ("reference", [mutable @ .., operand]) => self.borrow(!mutable.is_empty(), operand),
             ("binary", [left, sign, right]) => self.binary(operator(sign), [left, right]),
             ("cast", [value, name]) => {
@@ -75,14 +88,6 @@ impl Lowering<'_, '_> {
             }
             _ => self.refuse("this form has no rule"),
         }
-    }
-
-    fn array(&mut self, parts: &[Node]) -> Done<Term> {
-        let element = self.fresh(false);
-        let terms = self.operands(None, parts)?;
-        let terms = self.coerce_all(terms, &vec![element.clone(); parts.len()])?;
-        let of = Type::array(element, terms.len() as u128);
-        Ok(self.make(Kind::Elements, terms, of))
     }
 
     /// Evaluates operands from left to right, behind a receiver. Each is held in a variable if it changes something or
@@ -176,17 +181,6 @@ impl Lowering<'_, '_> {
             });
         }
         Ok(self.make(Kind::Make(PLAIN), parts, of))
-    }
-
-    fn negation(&mut self, sign: &str, operand: &Node) -> Done<Term> {
-        let term = self.any(operand)?;
-        let of = self.known(&term.of);
-        Ok(match sign {
-            "*" => self.followed(term),
-            "!" if of == Type::Boolean => term.negated(),
-            "!" => return self.refuse("this operation has no rule"),
-            _ => self.make(Kind::Small("negate".into()), vec![term], of),
-        })
     }
 
     fn borrow(&mut self, is_mutable: bool, operand: &Node) -> Done<Term> {
