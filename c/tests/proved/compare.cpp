@@ -9,7 +9,9 @@
 // the files of `.ci/translate --c`, that nothing overflows.
 #include <cassert>
 #ifdef CHECKED
-#define TORKETTLE_CHECK(condition) assert(condition)
+// Whether a call is tried that must not hold.
+static bool is_tried;
+#define TORKETTLE_CHECK(condition) ((condition) ? void() : is_tried ? throw 0 : assert(condition))
 #endif
 #include "torkettle.c"
 
@@ -108,10 +110,48 @@ void test_column(Random &random, unsigned type)
     types[type].columns(test, random, lines);
 }
 
+#ifdef TK_OPERATORS
+template <class Call> bool fails(Call call)
+{
+    is_tried = true;
+    bool has_failed = false;
+    try {
+        call();
+    } catch (int) {
+        has_failed = true;
+    }
+    is_tried = false;
+    return has_failed;
+}
+
+// What is asserted fails where it does not hold.
+void test_checks()
+{
+    const tk_bytes two = TK_TEXT("12");
+    const tk_u128 most = tk_u128_make(UINT64_MAX, UINT64_MAX), one = tk_u128_of(1);
+    assert(fails([] { tk_u8_add(255, 1); }) && !fails([] { tk_u8_add(254, 1); }));
+    assert(fails([] { tk_u16_sub(1, 2); }) && !fails([] { tk_u16_sub(2, 2); }));
+    assert(fails([] { tk_u32_mul(65537, 65535 + 1); }) && !fails([] { tk_u32_mul(65537, 65535); }));
+    assert(fails([] { tk_u64_div(1, 0); }) && !fails([] { tk_u64_div(0, 1); }));
+    assert(fails([] { tk_size_rem(1, 0); }) && !fails([] { tk_size_rem(0, 1); }));
+    assert(fails([] { tk_u32_shift_left(1, 32); }) && !fails([] { tk_u32_shift_left(1, 31); }));
+    assert(fails([] { tk_u64_shift_right(1, 64); }) && !fails([] { tk_u64_shift_right(1, 63); }));
+    assert(fails([=] { tk_bytes_from(two, 3); }) && !fails([=] { tk_bytes_from(two, 2); }));
+    assert(fails([=] { tk_bytes_to(two, 3); }) && !fails([=] { tk_bytes_to(two, 2); }));
+    assert(fails([=] { tk_bytes_between(two, 0, 3); }) && !fails([=] { tk_bytes_between(two, 2, 2); }));
+    assert(fails([=] { tk_bytes_between(two, 2, 1); }) && fails([] { tk_index(2, 2); }));
+    assert(fails([=] { tk_u128_add(most, one); }) && fails([=] { tk_u128_sub(one, most); }));
+    assert(fails([=] { tk_u128_mul(most, tk_u128_of(2)); }) && !fails([=] { tk_u128_mul(most, one); }));
+}
+#endif
+
 } // namespace
 
 int main(int, char **arguments)
 {
+#ifdef TK_OPERATORS
+    test_checks();
+#endif
     const uint64_t texts = std::strtoull(arguments[1], nullptr, 10), columns = std::strtoull(arguments[2], nullptr, 10);
     Random random(std::strtoull(arguments[3], nullptr, 10));
     for (uint64_t number = 0; number < texts; number++) {
