@@ -102,7 +102,7 @@ impl<'a> Names<'a> {
                 let known = if is_own { OWN_METHODS } else { std_names::METHODS };
                 self.assert(has(known, name), *span)?;
             }
-            ("parameter" | "binding" | "generic" | "writer", _) => {
+            ("parameter" | "binding" | "generic", _) => {
                 node.all("name").try_for_each(|name| self.local(name))?;
             }
             ("assign", [place, ..]) => {

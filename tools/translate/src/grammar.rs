@@ -34,10 +34,10 @@ name.crate         = 'crate'
 name.all           = '*'
 name.self          = 'self'
 name.own           = 'Self'
-name.writer        = 'W'
 
 use                = visibility 'use' imports ';'
-imports            ~ imported.crate 'as' renamed / imported ( '::' ( import.all / '{' &name import,* '}' ) )?
+imports            ~ imported.crate 'as' renamed / imported ( '::' ( import.all / '{' model_import? &name import,* '}' ) )?
+model_import       = 'Model' ','
 imported           = ( name.crate / name ) ( '::' name )*
 imported.crate     = name.crate / name
 import             = name
@@ -65,7 +65,7 @@ implementation     = 'impl' generics ( path.trait 'for' )? type members
 members            = '{' ( ghost_use / ghost.defined / notes <! ( visibility <! member ) )* '}'
 member             ~ function / constant / alias
 function           = 'fn' ( !'fmt' name generics / name writer ) parameters output? clause* ( block / ';' )
-writer             = '<' name.writer ':' 'fmt' '::' 'Write' '>'
+writer             = '<' 'W' ':' 'fmt' '::' 'Write' '>'
 parameters         ~ '(' ( receiver ( ',' / &')' ) )? parameter,* ')'
 receiver           = shared? mutable? name.self
 parameter          = mutable? name ':' type
@@ -80,10 +80,11 @@ generic            ~ LIFETIME / generic.constant / generic.type
 generic.constant   = 'const' name ':' type
 generic.type       = name ( ':' path.bound )?
 
-type               ~ reference.type / tuple.type / list.type / path.type
+type               ~ reference.type / tuple.type / list.type / formatter / path.type
 reference.type     = ^'&' LIFETIME? mutable? type
 tuple.type         = '(' ( type ',' &type type,* )? ')'
 list.type          = '[' type ( ';' length )? ']'
+formatter          = 'fmt' '::' 'Formatter' '<' 'W' '>'
 length             ~ INTEGER / path.value
 path.type          = names_of_type
 path.bound         = names_of_type

@@ -52,7 +52,7 @@ pub fn translate(facade: &Source, package: &Package) -> Done<BTreeMap<PathBuf, S
     let exported: Vec<&str> = exports.iter().map(|export| export.name.as_str()).collect();
     let tests = conditions::tests(package, &exported)?;
     let modules = package.modules.iter().zip(&tests);
-    modules.map(|(module, tests)| Ok((module.rust_file(), rust::print(module, tests)?))).collect()
+    Ok(modules.map(|(module, tests)| (module.rust_file(), rust::print(module, tests))).collect())
 }
 
 /// Returns how many files are made, and of those below `top` that differ, what they should hold, if anything.

@@ -4,7 +4,7 @@
 //! file stands in its place, which names those that are tuned for compilers. The clauses are the same, and `.ci/kit`
 //! proves the crates with these files, too.
 
-use crate::source::{Done, Fault, Source};
+use crate::source::{Done, Fault, Source, Span};
 use crate::std_names::has;
 use crate::tree::{Node, texts};
 use crate::{PROVED, parser};
@@ -20,14 +20,14 @@ pub const CRATES: [&str; 6] =
 // `rs`, as the kit takes `rt` only in the folders of crates.
 const TWINS: &str = "rust/default_engine";
 
-// The modules of `atoi_lanes` that only the engine `Lanes` needs, whose vectors `rust/src/simd` does not have.
-const LEFT_OUT: &str = "kernels lanes wide_lanes window_32";
+// The modules of a crate that only the engine `Lanes` needs, whose vectors `rust/src/simd` does not have.
+const LEFT_OUT: (&str, &str) = ("atoi_lanes", "kernels lanes wide_lanes window_32");
 
 // The folder of the file that C has in place of one of these.
 const TWINS_OF_C: &str = "c/default_engine";
 
-// The module of `atoi_fast` that the package has only with the feature `lanes`.
-const WITH_LANES: &str = "vectors";
+// The module of a crate that the package has only with the feature `lanes`.
+const WITH_LANES: (&str, &str) = ("atoi_fast", "vectors");
 
 /// All modules of the package, in the order of their crates and paths.
 pub struct Package {
@@ -40,8 +40,6 @@ pub struct Module {
     pub path: Vec<String>,
     pub source: Source,
     pub items: Vec<Node>,
-    /// The items that the package leaves out. They are not in `items`.
-    pub left_out: Vec<Node>,
 }
 
 impl Package {
@@ -82,10 +80,16 @@ impl Module {
 
     /// Reads the tree of a source as the package has it.
     pub fn new(crate_name: &'static str, path: Vec<String>, source: Source) -> Done<Module> {
-        let is_left_out = |item: &Node| path.is_empty() && leaves_out_item(crate_name, item);
-        let (left_out, items) =
-            parser::parse(&source, "module")?.into_iter().partition(is_left_out);
-        Ok(Module { crate_name, path, source, items, left_out })
+        let mut items = parser::parse(&source, "module")?;
+        for item in items.iter_mut().filter(|_| path.is_empty()) {
+            if is_of(item, crate_name, LEFT_OUT) {
+                *item = Node::new(&source, "left_out", item.span, Vec::new());
+            } else if is_of(item, crate_name, WITH_LANES) {
+                let at = Span { end: item.span.start, ..item.span };
+                item.parts.push(Node::new(&source, "with_lanes", at, Vec::new()));
+            }
+        }
+        Ok(Module { crate_name, path, source, items })
     }
 }
 
@@ -121,26 +125,17 @@ fn twin(crate_name: &str, module: &[String], is_for_c: bool) -> Option<PathBuf> 
 
 // Says whether the package leaves out this module.
 fn is_left_out(crate_name: &str, module: &[String]) -> bool {
-    crate_name == "atoi_lanes" && module.first().is_some_and(|first| has(LEFT_OUT, first))
+    let (owner, modules) = LEFT_OUT;
+    crate_name == owner && module.first().is_some_and(|first| has(modules, first))
 }
 
-// Says whether the package leaves out an item of the root of a crate: it declares a module that is left out, or imports
-// from one.
-fn leaves_out_item(crate_name: &str, item: &Node) -> bool {
-    crate_name == "atoi_lanes" && is_of_modules(item, LEFT_OUT)
-}
-
-/// Says whether the package has an item of the root of a crate only with the feature `lanes`.
-pub fn needs_lanes(crate_name: &str, item: &Node) -> bool {
-    crate_name == "atoi_fast" && is_of_modules(item, WITH_LANES)
-}
-
-// Whether an item declares one of these modules of its crate, or imports from them alone.
-fn is_of_modules(item: &Node, modules: &str) -> bool {
+// Whether an item of the root of a crate declares one of these modules, or imports from them alone.
+fn is_of(item: &Node, crate_name: &str, (owner, modules): (&str, &str)) -> bool {
     let is_import = |names: &[&str]| matches!(names, ["crate", name, ..] if has(modules, name));
-    match item.kind {
+    let is_of_modules = match item.kind {
         "declaration" => has(modules, item.name()),
         "use" => item.imports().iter().all(|path| is_import(&texts(path))),
         _ => false,
-    }
+    };
+    crate_name == owner && is_of_modules
 }

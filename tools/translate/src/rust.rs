@@ -3,24 +3,24 @@
 //! of lists, and hints to inline and tests of conditions are put in.
 
 use crate::conditions::Tests;
-use crate::modules::{CRATES, Module, needs_lanes};
-use crate::source::{Done, Fault, Span};
-use crate::tree::{Node, texts};
+use crate::modules::{CRATES, Module};
+use crate::source::Span;
+use crate::tree::Node;
 
 /// Returns the text of the file that a module becomes.
-pub fn print(module: &Module, tests: &Tests) -> Done<String> {
-    let Module { items, left_out, crate_name, path, source } = module;
-    let mut printer = Printer { module, tests, edits: Vec::new(), fault: None };
-    left_out.iter().for_each(|item| printer.comment(item.span));
-    for item in items {
-        if path.is_empty() && needs_lanes(crate_name, item) {
-            printer.insert(item.span.start, "#[cfg(feature = \"lanes\")] ");
-        }
-        printer.node(item);
+pub fn print(module: &Module, tests: &Tests) -> String {
+    let mut printer = Printer { module, tests, edits: Vec::new() };
+    module.items.iter().for_each(|item| printer.node(item));
+    let source = &module.source;
+    let mut rust =
+        format!("/* Made by .ci/translate from {}. Do not edit. */ ", source.path.display());
+    let mut done = 0;
+    printer.edits.sort_by_key(|(span, _)| span.start);
+    for (span, text) in printer.edits {
+        rust = rust + &source.text[done..span.start] + &text;
+        done = span.end;
     }
-    let (source, fault) = (source.path.display(), printer.fault.take());
-    let rust = printer.finish();
-    fault.map_or(Ok(format!("/* Made by .ci/translate from {source}. Do not edit. */ {rust}")), Err)
+    rust + &source.text[done..]
 }
 
 struct Printer<'a> {
@@ -28,22 +28,9 @@ struct Printer<'a> {
     tests: &'a Tests,
     // What stands in the place of parts of the source.
     edits: Vec<(Span, String)>,
-    fault: Option<Fault>,
 }
 
 impl Printer<'_> {
-    // The source with what stands in the place of its parts.
-    fn finish(mut self) -> String {
-        let (mut rust, mut done) = (String::new(), 0);
-        self.edits.sort_by_key(|(span, _)| span.start);
-        for (span, text) in self.edits {
-            rust.push_str(&self.module.source.text[done..span.start]);
-            rust.push_str(&text);
-            done = span.end;
-        }
-        rust + &self.module.source.text[done..]
-    }
-
     // Puts a text in the place of a part. Ends of lines stay.
     fn replace(&mut self, span: Span, text: &str) {
         let lines = self.module.source.at(span).matches('\n').count();
@@ -54,11 +41,8 @@ impl Printer<'_> {
         self.replace(Span { start: at, end: at }, text);
     }
 
-    fn refuse(&mut self, span: Span, reason: &str) {
-        self.fault = Some(self.module.source.fault(span, reason));
-    }
-
-    // Makes a comment of a part: on each line if nothing else is on these lines, and otherwise between signs.
+    // Makes a comment of a part: on each line if nothing else is on these lines, and otherwise between signs, which
+    // it must not have.
     fn comment(&mut self, span: Span) {
         let source = &self.module.source;
         let text = source.at(span);
@@ -66,24 +50,10 @@ impl Printer<'_> {
         let after = source.text[span.end..].split('\n').next().unwrap_or_default();
         let comment = if before.trim().is_empty() && after.trim().is_empty() {
             commented(text, before.len())
-        } else if text.contains("/*") || text.contains("*/") {
-            return self.refuse(span, "`/*` or `*/` in what becomes a comment");
         } else {
-            format!("/* {text} */")
+            format!("/* {} */", text.replace("*/", "* /").replace("/*", "/ *"))
         };
         self.edits.push((span, comment));
-    }
-
-    fn attribute(&mut self, attribute: &Node, item: &Node) {
-        match attribute.kind {
-            "tactic" => self.comment(attribute.span),
-            "derive" => self.derive(attribute),
-            "always" if is_compiled_once(item) => {
-                let text = "#[cfg_attr(not(debug_assertions), inline(always))]";
-                self.replace(attribute.span, text);
-            }
-            _ => {}
-        }
     }
 
     // Leaves `Drop` out, which Rust does not derive.
@@ -96,38 +66,30 @@ impl Printer<'_> {
         }
     }
 
-    fn imports(&mut self, item: &Node) {
-        let imports = item.imports();
-        let first = imports[0][0];
-        match texts(&imports[0])[..] {
-            ["std", "simd", ..] => self.replace(first.span, "crate"),
-            ["std", ..] => self.replace(first.span, "core"),
-            _ => self.head(first),
-        }
-        for name in imports.iter().flatten().filter(|name| name.text == "Model") {
-            if !self.module.source.text[name.span.end..].starts_with(',') {
-                self.refuse(name.span, "`Model` is known only in `use std::marker::{Model, ..}`");
-            }
-            self.replace(Span { end: name.span.end + 1, ..name.span }, "");
-        }
-    }
-
     // Replaces the first name of a path by its path in the package.
-    fn head(&mut self, name: &Node) {
-        let is_own = name.text == "crate";
-        let owner = if is_own { self.module.crate_name } else { &name.text };
-        if is_own || CRATES.contains(&owner) {
-            self.replace(name.span, &format!("crate::proved::{owner}"));
-        }
+    fn head(&mut self, first: &Node, second: &str) {
+        let path = match (first.text.as_str(), second) {
+            ("std", "simd") => "crate".into(),
+            ("std", _) => "core".into(),
+            ("crate", _) => format!("crate::proved::{}", self.module.crate_name),
+            (name, _) if CRATES.contains(&name) => format!("crate::proved::{name}"),
+            _ => return,
+        };
+        self.replace(first.span, &path);
     }
 
     fn function(&mut self, function: &Node) {
-        // In Rattle, a formatter has its writer as a type parameter.
-        function.all("writer").for_each(|writer| self.replace(writer.span, ""));
         let Some(body) = function.get("block") else { return };
         // rustc compiles crates apart, and inlines only what has a hint across them.
         if !["inline", "always", "never"].iter().any(|hint| function.has_attribute(hint)) {
             self.insert(function.span.start, "#[inline] ");
+        }
+        // Without a hint, rustc compiles a method of the ten functions in this package, which is optimized where
+        // programs ask for that, and not in a program's debug build.
+        if function.name().starts_with("atoi_simd_parse") {
+            let hints = function.get("notes").into_iter().flat_map(|notes| notes.all("always"));
+            let hint = "#[cfg_attr(not(debug_assertions), inline(always))]";
+            hints.for_each(|it| self.replace(it.span, hint));
         }
         if let Some(test) = self.tests.get(&body.span.start) {
             self.insert(body.span.start + 1, test);
@@ -137,40 +99,20 @@ impl Printer<'_> {
     // Prints an item or something in it.
     fn node(&mut self, node: &Node) {
         match node.kind {
-            "ghost" | "ghost_use" | "model" | "hint" | "condition" | "promise" => {
-                return self.comment(node.span);
-            }
-            "notes" => return,
-            "use" => return self.imports(node),
+            "ghost" | "ghost_use" | "model" | "hint" | "tactic" | "condition" | "promise"
+            | "left_out" => return self.comment(node.span),
+            "derive" => self.derive(node),
+            "with_lanes" => self.insert(node.span.start, "#[cfg(feature = \"lanes\")] "),
+            // In Rattle, a formatter has its writer as a type parameter.
+            "writer" | "model_import" => self.replace(node.span, ""),
+            "formatter" => self.replace(node.span, "fmt::Formatter<'_>"),
+            "imported" => self.head(&node.parts[0], node.parts.get(1).map_or("", |it| &it.text)),
+            "path" if node.parts.len() > 1 => self.head(&node.parts[0].parts[0], ""),
             "function" => self.function(node),
-            "path" => self.path(node),
             _ => {}
         }
         node.parts.iter().for_each(|part| self.node(part));
-        if let Some(notes) = node.get("notes") {
-            notes.parts.iter().for_each(|attribute| self.attribute(attribute, node));
-        }
     }
-
-    // In Rattle, a formatter has its writer as a type parameter.
-    fn path(&mut self, path: &Node) {
-        let formatter = "fmt::Formatter<W>";
-        let first = &path.parts[0];
-        let is_formatter = path.last().name() == "Formatter";
-        if is_formatter && self.module.source.at(path.span) == formatter {
-            self.replace(path.span, "fmt::Formatter<'_>");
-        } else if is_formatter {
-            self.refuse(path.span, "`Formatter` is known only as `fmt::Formatter<W>`");
-        } else if path.parts.len() > 1 {
-            self.head(&first.parts[0]);
-        }
-    }
-}
-
-// Whether an item is a method of the ten functions. Without a hint, rustc compiles it in this package, which is
-// optimized where programs ask for that, and not in a program's debug build.
-fn is_compiled_once(item: &Node) -> bool {
-    item.name().starts_with("atoi_simd_parse")
 }
 
 // Makes a comment of each line. All but the first are indented.

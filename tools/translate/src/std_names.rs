@@ -10,11 +10,10 @@ const BUILT_IN: &str = "bool str Clone Copy Debug Eq Iterator Ord PartialEq Part
     Result Ok Err";
 
 /// Paths of `std`. Rust's `core` stands for it.
-const PATHS: &str = "std::cmp::Ordering std::error::Error std::fmt std::fmt::Display \
-    std::fmt::Formatter std::fmt::Result std::fmt::Write std::iter::FusedIterator std::marker::Model \
-    std::marker::PhantomData std::num::IntErrorKind std::num::IntErrorKind::Empty \
-    std::num::IntErrorKind::InvalidDigit std::num::IntErrorKind::NegOverflow \
-    std::num::IntErrorKind::PosOverflow std::str::from_utf8";
+const PATHS: &str = "std::cmp::Ordering std::error::Error std::fmt std::fmt::Display std::fmt::Result \
+    std::iter::FusedIterator std::marker::PhantomData std::num::IntErrorKind \
+    std::num::IntErrorKind::Empty std::num::IntErrorKind::InvalidDigit \
+    std::num::IntErrorKind::NegOverflow std::num::IntErrorKind::PosOverflow std::str::from_utf8";
 
 /// The traits that may bound a type. Of others, such as `Eq` and `Ord`, Rattle proves laws of each type that has
 /// them, and a user's type need not keep these.
