@@ -1,7 +1,6 @@
 //! The conditions of what users can reach. The proofs show that our own calls meet them. For a user's call, each
 //! becomes a test at the start of its function, or is refused.
 
-use crate::lexer::ghost_names;
 use crate::modules::{Module, Package};
 use crate::source::{Done, Span};
 use crate::std_names::has;
@@ -147,11 +146,11 @@ impl Finder<'_> {
     fn imports(&self, name: &str, from: &str) -> bool {
         let items = self.module.items.iter();
         let items = items.flat_map(|item| std::iter::once(item).chain(item.members()));
-        let mut modules = items.filter(|item| item.kind == "ghost_use").filter_map(|item| {
-            let (module, names) = ghost_names(&item.parts[0].text)?;
-            names.iter().any(|it| it.trim_matches('◌') == name).then_some(module)
-        });
-        modules.next().is_some_and(|first| first == from) && modules.all(|it| it == from)
+        let is_name = |it: &Node| it.text.trim_matches('◌') == name;
+        let is_from = |it: &Node| it.all("word").map(|it| it.text.as_str()).eq(from.split('.'));
+        let imports = items.filter(|item| item.all("ghost_name").any(is_name));
+        let mut imports = imports.map(is_from).peekable();
+        imports.peek().is_some() && imports.all(|it| it)
     }
 
     // Refuses an invariant of what users can write, or change.

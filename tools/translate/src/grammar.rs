@@ -5,8 +5,8 @@
 //! `?` is behind what may be missing, `*` behind what may be there many times, `,*` behind what has commas between it.
 //! A sign between quotes is a token; `@` makes a node of it, and `^` takes it also as the first half of a symbol. `&`
 //! and `!` look at what comes next. Behind `<<` stand nodes that get what was read as their first part, one by one;
-//! behind `<!` stands one. `PLAIN` reads what has no struct, as a block follows. Other capital letters name kinds of
-//! tokens.
+//! behind `<!` stands one. Behind `PLAIN`, nothing is a struct up to a bracket, as a block follows. Other capital
+//! letters name kinds of tokens.
 
 pub const GRAMMAR: &str = r#"
 module             = item* END
@@ -44,7 +44,7 @@ import             = name
 import.all         = name.all
 renamed            = name
 
-ghost_use          = 'ghost' 'use' GHOST_PATH ';'
+ghost_use          = 'ghost' 'use' WORD ( '.' WORD )* '.' '{' GHOST_NAME,* '}' ';'
 ghost.declared     = 'ghost' WORD ':' CLAUSE ';'
 ghost.defined      = 'ghost' WORD '=' CLAUSE ';'
 ghost.field        = 'ghost' WORD ':' CLAUSE ( ',' / &'}' )

@@ -63,15 +63,15 @@ fn quoted_length(rest: &str, from: usize) -> usize {
 
 /// Returns the length of the clause at the start of `rest`. It is not Rust: its names may have any characters. What
 /// could hide a brace is refused, so that its braces are those that Rattle counts.
-pub fn clause_length(rest: &str) -> Result<usize, String> {
+pub fn clause_length(rest: &str) -> Result<usize, (usize, &str)> {
     let (mut depth, mut in_text) = (0, false);
     for (offset, character) in rest.char_indices() {
         if let Some(sign) = HIDING.iter().find(|sign| rest[offset..].starts_with(**sign)) {
-            return Err(format!("`{sign}` in a clause"));
+            return Err((offset, sign));
         }
         match character {
             '"' => in_text = !in_text,
-            '\n' if in_text => return Err("an unbalanced quote in a clause".into()),
+            '\n' if in_text => return Err((offset, "\"")),
             '{' if !in_text => depth += 1,
             '}' if !in_text => depth -= 1,
             _ => {}
@@ -80,15 +80,14 @@ pub fn clause_length(rest: &str) -> Result<usize, String> {
             return Ok(offset + character.len_utf8());
         }
     }
-    Err("a clause without its last `}`".into())
+    Err((rest.len(), ""))
 }
 
-/// Returns the length of the path of a `ghost use`, up to its `;`.
-pub fn ghost_length(rest: &str) -> Result<usize, String> {
-    let path = rest.split(';').next().unwrap_or_default().trim_end();
-    let hides = path.contains('"') || HIDING.iter().any(|sign| path.contains(sign));
-    let length = ghost_names(path).filter(|_| !hides).map(|_| path.len());
-    length.ok_or_else(|| "a `ghost use` that is not `MODULE.{NAMES};`".into())
+/// Returns the length of a name in the list of a `ghost use`, which may have any characters, or 0.
+pub fn ghost_name_length(rest: &str) -> usize {
+    let name = rest.split([' ', '\n', ',', ';', '{', '}', '"']).next().unwrap_or_default();
+    let hides = name.starts_with('-') || HIDING.iter().any(|sign| name.contains(sign));
+    if hides { 0 } else { name.len() }
 }
 
 fn line_length(rest: &str) -> usize {
@@ -99,15 +98,6 @@ fn line_length(rest: &str) -> usize {
 fn name_length(rest: &str) -> usize {
     let is_part = |character: char| character.is_ascii_alphanumeric() || character == '_';
     rest.find(|character| !is_part(character)).unwrap_or(rest.len())
-}
-
-/// Returns the module and the names of a `ghost use`. A path without braces and `as` are not known: each name must be
-/// seen.
-pub fn ghost_names(path: &str) -> Option<(&str, Vec<&str>)> {
-    let (module, names) = path.trim().strip_suffix('}')?.split_once(".{")?;
-    let names: Vec<&str> = names.split(',').map(str::trim).collect();
-    let is_name = |name: &str| !name.is_empty() && !name.contains([' ', '\n', '{', '}']);
-    (is_name(module) && names.iter().all(|name| is_name(name))).then_some((module, names))
 }
 
 /// Returns the value of a whole number. Suffixes are not known.

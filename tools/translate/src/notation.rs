@@ -19,108 +19,70 @@ pub struct Rule {
     pub form: Form,
 }
 
-/// How something is read.
-pub enum Form {
-    /// A token, maybe as a node, and maybe as the first half of a symbol.
-    Sign {
-        text: &'static str,
-        makes_node: bool,
-        may_be_half: bool,
-    },
-    /// A kind of tokens, or what else has a name of capital letters.
-    Token(&'static str),
-    Rule(&'static str),
-    Sequence(Vec<Form>),
-    Choice(Vec<Form>),
-    Optional(Box<Form>),
-    Many(Box<Form>),
-    List(Box<Form>),
-    Next(Box<Form>),
-    Not(Box<Form>),
-    Plain(Box<Form>),
-    /// What is read before others, which get it as their first part: one, or any number.
-    Into {
-        first: Box<Form>,
-        then: Box<Form>,
-        is_one: bool,
-    },
+/// How something is read, by a sign of the notation, or by `a` for the name of a rule, `A` for that of a kind of
+/// tokens, and a space for what is read in turn.
+pub struct Form {
+    pub sign: char,
+    pub text: &'static str,
+    pub parts: Vec<Form>,
 }
+
+type Words = Peekable<SplitWhitespace<'static>>;
 
 fn rule(line: &'static str) -> Rule {
     let mut words = line.split_whitespace();
     let (name, sign) = (words.next().unwrap_or_default(), words.next());
-    let form = Reader { words: words.peekable() }.choice();
-    Rule { name, makes_node: sign == Some("="), form }
+    Rule { name, makes_node: sign == Some("="), form: choice(&mut words.peekable()) }
 }
 
-struct Reader {
-    words: Peekable<SplitWhitespace<'static>>,
+// Reads alternatives up to a `)` or the end.
+fn choice(words: &mut Words) -> Form {
+    let mut forms = vec![sequence(words)];
+    while words.next_if_eq(&"/").is_some() {
+        forms.push(sequence(words));
+    }
+    joined('/', forms)
 }
 
-impl Reader {
-    // Reads alternatives up to a `)` or the end.
-    fn choice(&mut self) -> Form {
-        let mut forms = vec![self.sequence()];
-        while self.words.next_if_eq(&"/").is_some() {
-            forms.push(self.sequence());
-        }
-        if forms.len() == 1 { forms.remove(0) } else { Form::Choice(forms) }
+fn sequence(words: &mut Words) -> Form {
+    let mut forms = Vec::new();
+    while let Some(word) = words.next_if(|it| *it != "/" && !it.starts_with(')')) {
+        forms.push(form(word, words));
     }
-
-    fn sequence(&mut self) -> Form {
-        let mut forms = Vec::new();
-        while let Some(word) = self.words.next_if(|it| *it != "/" && !it.starts_with(')')) {
-            let form = match (word, forms.pop()) {
-                ("<<" | "<!", Some(first)) => {
-                    let (first, then) = (Box::new(first), Box::new(self.next()));
-                    Form::Into { first, then, is_one: word == "<!" }
-                }
-                (_, before) => {
-                    forms.extend(before);
-                    self.form(word)
-                }
-            };
-            forms.push(form);
-        }
-        if forms.len() == 1 { forms.remove(0) } else { Form::Sequence(forms) }
-    }
-
-    // Reads the form that begins with the next word.
-    fn next(&mut self) -> Form {
-        let word = self.words.next().unwrap_or("END");
-        self.form(word)
-    }
-
-    fn form(&mut self, word: &'static str) -> Form {
-        let (first, rest) = word.split_at(1);
-        let end = word.find(['?', '*', ',']).unwrap_or(word.len());
-        match first {
-            "&" => Form::Next(Box::new(self.form(rest))),
-            "!" => Form::Not(Box::new(self.form(rest))),
-            "(" => {
-                let form = self.choice();
-                repeated(form, self.words.next().unwrap_or_default().trim_start_matches(')'))
-            }
-            "'" | "@" | "^" => {
-                let (start, end) = (1 + usize::from(first != "'"), word.rfind('\'').unwrap_or(end));
-                let (makes_node, may_be_half) = (first == "@", first == "^");
-                let sign = Form::Sign { text: &word[start..end], makes_node, may_be_half };
-                repeated(sign, &word[end + 1..])
-            }
-            _ if word == "PLAIN" => Form::Plain(Box::new(self.next())),
-            _ if first.starts_with(char::is_uppercase) => {
-                repeated(Form::Token(&word[..end]), &word[end..])
-            }
-            _ => repeated(Form::Rule(&word[..end]), &word[end..]),
-        }
-    }
+    joined(' ', forms)
 }
 
-fn repeated(form: Form, sign: &str) -> Form {
-    match sign {
-        "?" => Form::Optional(Box::new(form)),
-        "*" => Form::Many(Box::new(form)),
-        ",*" => Form::List(Box::new(form)),
-        _ => form,
+fn joined(sign: char, mut parts: Vec<Form>) -> Form {
+    if parts.len() == 1 { parts.remove(0) } else { Form { sign, text: "", parts } }
+}
+
+// Reads the form that begins with a word.
+fn form(word: &'static str, words: &mut Words) -> Form {
+    let first = word.chars().next().unwrap_or(' ');
+    let operand = word.trim_start_matches(['&', '!', '<']);
+    if operand.len() < word.len() {
+        let operand = if operand.is_empty() { words.next().unwrap_or("END") } else { operand };
+        return Form { sign: first, text: word, parts: vec![form(operand, words)] };
+    }
+    let body = word.trim_end_matches(['?', '*', ',']);
+    let mut repeats = &word[body.len()..];
+    let form = match body.split_once('\'') {
+        Some((sign, text)) => {
+            let sign = sign.chars().next().unwrap_or('\'');
+            Form { sign, text: text.trim_end_matches('\''), parts: Vec::new() }
+        }
+        None if body == "(" => {
+            let form = choice(words);
+            repeats = words.next().unwrap_or_default().trim_start_matches(')');
+            form
+        }
+        None => {
+            let sign = if first.is_ascii_uppercase() { 'A' } else { 'a' };
+            Form { sign, text: body, parts: Vec::new() }
+        }
+    };
+    match repeats.chars().next() {
+        Some(sign) => Form { sign, text: "", parts: vec![form] },
+        None => form,
     }
 }

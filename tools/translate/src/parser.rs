@@ -2,7 +2,7 @@
 //! they reach.
 
 use crate::lexer::{
-    bytes, check_characters, clause_length, ghost_length, number, skip_space, token,
+    bytes, check_characters, clause_length, ghost_name_length, number, skip_space, token,
 };
 use crate::notation::{Form, RULES};
 use crate::source::{Done, Fault, Source, Span};
@@ -19,17 +19,11 @@ const KEYWORDS: &str = "_ as async await break const continue crate dyn else enu
 pub fn parse(source: &Source, rule: &str) -> Done<Vec<Node>> {
     check_characters(source)?;
     let first = place(source, 0);
-    let mut parser = Parser {
-        source,
-        at: first,
-        is_plain: false,
-        furthest: first,
-        nodes: Vec::new(),
-        fault: None,
-    };
+    let mut parser =
+        Parser { source, at: first, is_plain: false, furthest: first, nodes: Vec::new() };
     match parser.rule(rule) {
         true => Ok(parser.nodes.remove(0).parts),
-        false => Err(parser.fault.take().unwrap_or_else(|| parser.unexpected())),
+        false => Err(parser.unexpected()),
     }
 }
 
@@ -55,8 +49,6 @@ struct Parser<'a> {
     furthest: Place<'a>,
     // The nodes that were made, and are no parts of others yet.
     nodes: Vec<Node>,
-    // What is wrong in a clause.
-    fault: Option<Fault>,
 }
 
 impl<'a> Parser<'a> {
@@ -97,38 +89,20 @@ impl<'a> Parser<'a> {
     }
 
     fn form(&mut self, form: &'static Form) -> bool {
-        match form {
-            Form::Sign { text, makes_node, may_be_half } => {
-                self.sign(text, *makes_node, *may_be_half)
-            }
-            Form::Token(name) => self.token_of(name),
-            Form::Rule(name) => self.rule(name),
-            Form::Sequence(forms) => self.sequence(forms),
-            Form::Choice(forms) => forms.iter().any(|form| self.attempt(form)),
-            Form::Optional(form) => {
-                self.attempt(form);
+        let Form { sign, text, parts } = form;
+        match sign {
+            'a' => self.rule(text),
+            'A' => self.token_of(text),
+            '\'' | '@' | '^' => self.sign(*sign, text),
+            '/' => parts.iter().any(|form| self.attempt(form)),
+            '&' => self.looks(&parts[0]),
+            '!' => !self.looks(&parts[0]),
+            '?' | '*' | ',' => {
+                let goes_on = |it: &mut Self| *sign == '*' || *sign == ',' && it.sign('\'', ",");
+                while self.attempt(&parts[0]) && goes_on(self) {}
                 true
             }
-            Form::Many(form) => {
-                while self.attempt(form) {}
-                true
-            }
-            Form::List(form) => {
-                while self.attempt(form) && self.sign(",", false, false) {}
-                true
-            }
-            Form::Next(form) => self.looks(form),
-            Form::Not(form) => !self.looks(form),
-            Form::Plain(form) => {
-                let before = std::mem::replace(&mut self.is_plain, true);
-                let fits = self.form(form);
-                self.is_plain = before;
-                fits
-            }
-            Form::Into { first, then, is_one } => {
-                let start = self.nodes.len();
-                self.form(first) && self.put_into(then, start, *is_one)
-            }
+            _ => self.sequence(parts),
         }
     }
 
@@ -154,10 +128,10 @@ impl<'a> Parser<'a> {
 
     // Brackets end what has no structs.
     fn sequence(&mut self, forms: &'static [Form]) -> bool {
-        let before = self.is_plain;
+        let (before, start) = (self.is_plain, self.nodes.len());
         let fits = forms.iter().all(|form| {
-            let fits = self.form(form);
-            self.is_plain &= !matches!(form, Form::Sign { text: "(" | "[" | "{", .. });
+            let fits = if form.sign == '<' { self.put_into(form, start) } else { self.form(form) };
+            self.is_plain &= !["(", "[", "{"].contains(&form.text);
             fits
         });
         self.is_plain = before;
@@ -165,8 +139,9 @@ impl<'a> Parser<'a> {
     }
 
     // Puts the nodes from `start` on into the one that follows, and that into the next one. Returns whether it fits.
-    fn put_into(&mut self, form: &'static Form, start: usize, is_one: bool) -> bool {
-        while self.attempt(form) {
+    fn put_into(&mut self, form: &'static Form, start: usize) -> bool {
+        let is_one = form.text == "<!";
+        while self.attempt(&form.parts[0]) {
             let node = self.nodes.pop();
             let first = self.nodes.split_off(start);
             self.nodes.extend(node.map(|node| node.begun_with(first)));
@@ -177,14 +152,20 @@ impl<'a> Parser<'a> {
         !is_one
     }
 
-    fn sign(&mut self, text: &'static str, makes_node: bool, may_be_half: bool) -> bool {
-        let Place { start, token, .. } = self.at;
-        let fits = token == text || may_be_half && token == text.repeat(2);
+    fn sign(&mut self, sign: char, text: &'static str) -> bool {
+        let token = self.at.token;
+        let fits = token == text || sign == '^' && token == text.repeat(2);
+        self.take(fits, text.len(), if sign == '@' { "sign" } else { "" })
+    }
+
+    // Takes a token if it fits, and makes a node of it if this has a name.
+    fn take(&mut self, fits: bool, length: usize, rule: &'static str) -> bool {
+        let start = self.at.start;
         if fits {
-            self.go_to(start + text.len());
+            self.go_to(start + length);
         }
-        if fits && makes_node {
-            self.push("sign", start, Vec::new());
+        if fits && !rule.is_empty() {
+            self.push(rule, start, Vec::new());
         }
         fits
     }
@@ -199,11 +180,15 @@ impl<'a> Parser<'a> {
         let is_raw = || self.source.text[start + text.len()..].starts_with(['"', '#']);
         let (fits, rule) = match name {
             "COMMENTS" => return self.comments(),
+            "PLAIN" => {
+                self.is_plain = true;
+                return true;
+            }
             "STRUCTS" => return !self.is_plain,
             "CAPITAL" => return is_capital(text),
             "END" => return text.is_empty(),
-            "CLAUSE" if text == "{" => return self.skip("clause", clause_length),
-            "GHOST_PATH" => return self.skip("ghost_path", ghost_length),
+            "CLAUSE" if text == "{" => return self.clause(),
+            "GHOST_NAME" => return self.ghost_name(),
             "NAME" => (is_word && !has(KEYWORDS, text) && !is_raw(), "name"),
             "WORD" => (is_word, "word"),
             "LIFETIME" => (text.starts_with('\'') && text.len() > 1, ""),
@@ -213,28 +198,22 @@ impl<'a> Parser<'a> {
             "DOC" => (text.starts_with("///"), "doc"),
             _ => (false, ""),
         };
-        if fits {
-            self.go_to(start + text.len());
-        }
-        if fits && !rule.is_empty() {
-            self.push(rule, start, Vec::new());
-        }
-        fits
+        self.take(fits, text.len(), rule)
     }
 
-    // Makes a node of what is as long as it says itself.
-    fn skip(&mut self, rule: &'static str, length: fn(&str) -> Result<usize, String>) -> bool {
+    // Reads a clause. What is not known in it is the last that was reached.
+    fn clause(&mut self) -> bool {
         let start = self.at.start;
-        match length(&self.source.text[start..]) {
-            Ok(length) => {
-                self.go_to(start + length);
-                self.push(rule, start, Vec::new());
-            }
-            Err(reason) => {
-                self.fault = Some(self.source.fault(Span { start, end: start }, reason));
-            }
+        let length = clause_length(&self.source.text[start..]);
+        if let Err((offset, token)) = length {
+            self.furthest = Place { end: start, start: start + offset, token };
         }
-        self.fault.is_none()
+        self.take(length.is_ok(), length.unwrap_or_default(), "clause")
+    }
+
+    fn ghost_name(&mut self) -> bool {
+        let length = ghost_name_length(&self.source.text[self.at.start..]);
+        self.take(length > 0, length, "ghost_name")
     }
 
     // Makes a node of what is before the next token if there are comments.
