@@ -14,125 +14,85 @@ const OWN_METHODS: &str = "index parts put_message text tick guessed_number next
 // Names with which Rust begins paths, and those of what the Rust leaves out or replaces.
 const RESERVED: &str = "std core alloc proved Model Formatter";
 
-// The rules for what has local names of its own, besides `if` and `for`.
-const SCOPES: &str =
-    "function alias struct enum trait implementation model block closure matches arm";
-
 // The rule for a path that is called.
 const CALLEE: &str = "path.callee";
 
 /// Checks all modules.
 pub fn check(package: &Package, scopes: &Scopes) -> Done<()> {
-    let members = Members::new(package)?;
-    package.modules.iter().enumerate().try_for_each(|(module, Module { source, items, .. })| {
-        let mut names = Names { scopes, module, source, members: &members, locals: Vec::new() };
-        names.scope(items)
-    })
+    let members = &members(package)?;
+    for (module, Module { source, items, .. }) in package.modules.iter().enumerate() {
+        for item in items {
+            let locals = BTreeSet::new();
+            Names { scopes, module, source, members, locals }.node(item)?;
+        }
+    }
+    Ok(())
 }
 
-// The names of what belongs to types of the package.
-#[derive(Default)]
-struct Members<'a> {
-    all: BTreeSet<&'a str>,
-    // Which of these are methods, and whether one is of a trait.
-    methods: BTreeMap<&'a str, bool>,
-}
-
-impl<'a> Members<'a> {
-    // Collects them. Refuses a method of a trait of ours that has the name of another method of ours: which
-    // one a call means depends on the type.
-    fn new(package: &'a Package) -> Done<Members<'a>> {
-        let mut members = Members::default();
-        for Module { source, items, .. } in &package.modules {
-            for item in items.iter().filter(|item| item.of_trait().is_none()) {
-                let is_of_trait = item.kind == "trait";
-                for member in item.members().iter().filter(|member| member.has("name")) {
-                    let name = member.name();
-                    members.all.insert(name);
-                    if !member.has("receiver") {
-                        continue;
-                    }
-                    let other = members.methods.insert(name, is_of_trait);
-                    if other.is_some_and(|other| other || is_of_trait) {
-                        let reason = format!("a second method by the name `{name}`");
-                        return Err(source.fault(member.span, reason));
-                    }
+// Returns the names of what belongs to types of the package, and of methods, whether one is of a trait. Refuses a
+// method of a trait of ours that has the name of another of ours: which one a call means depends on the type.
+fn members(package: &Package) -> Done<BTreeMap<&str, Option<bool>>> {
+    let mut members = BTreeMap::new();
+    for Module { source, items, .. } in &package.modules {
+        for item in items.iter().filter(|item| item.of_trait().is_none()) {
+            let is_of_trait = item.kind == "trait";
+            for member in item.members().iter().filter(|member| member.has("name")) {
+                let name = member.name();
+                if !member.has("receiver") {
+                    members.entry(name).or_default();
+                    continue;
+                }
+                let other = members.insert(name, Some(is_of_trait)).flatten();
+                if other.is_some_and(|other| other || is_of_trait) {
+                    let reason = format!("a second method by the name `{name}`");
+                    return Err(source.fault(member.span, reason));
                 }
             }
         }
-        Ok(members)
     }
+    Ok(members)
 }
 
 struct Names<'a> {
     scopes: &'a Scopes<'a>,
     module: usize,
     source: &'a Source,
-    members: &'a Members<'a>,
-    // The local names of the scopes that are open, the innermost last.
-    locals: Vec<Vec<&'a str>>,
+    members: &'a BTreeMap<&'a str, Option<bool>>,
+    // The local names of the item up to here. Where each is known, Rust finds as Rattle does.
+    locals: BTreeSet<&'a str>,
 }
 
 impl<'a> Names<'a> {
-    // Checks the names in something in a scope of its own.
-    fn scope(&mut self, nodes: impl IntoIterator<Item = &'a Node>) -> Done<()> {
-        self.locals.push(Vec::new());
-        self.all(nodes)?;
-        self.locals.pop();
-        Ok(())
-    }
-
-    fn all(&mut self, nodes: impl IntoIterator<Item = &'a Node>) -> Done<()> {
-        nodes.into_iter().try_for_each(|node| self.node(node))
-    }
-
-    // Checks the names in something, in the order in which Rust reads them.
+    // Checks the names in something.
     fn node(&mut self, node: &'a Node) -> Done<()> {
-        let parts = node.parts.as_slice();
-        match (node.kind, parts) {
-            ("use", _) => return node.imports().iter().try_for_each(|it| self.import(node, it)),
-            ("declaration" | "function", _) => self.declare(node, false)?,
-            ("constant" | "alias" | "struct" | "enum" | "variant" | "trait", _) => {
+        match node.kind {
+            "use" => node.imports().iter().try_for_each(|it| self.import(node, it))?,
+            "declaration" | "function" => self.declare(node, false)?,
+            "constant" | "alias" | "struct" | "enum" | "variant" | "trait" => {
                 self.declare(node, true)?;
             }
-            ("implementation" | "model", _) => self.implementation(node)?,
-            ("path", _) => self.assert(self.is_known(node), node.span)?,
-            ("method", [_, Node { text: name, span, .. }, ..]) => {
-                let is_own = self.members.methods.contains_key(name.as_str());
+            "implementation" | "model" => self.implementation(node)?,
+            "path" => self.assert(self.is_known(node), node.span)?,
+            "method" => {
+                let Node { text: name, span, .. } = &node.parts[1];
+                let is_own = self.members.get(name.as_str()).is_some_and(Option::is_some);
                 let known = if is_own { OWN_METHODS } else { std_names::METHODS };
                 self.assert(has(known, name), *span)?;
             }
-            ("parameter" | "binding" | "generic", _) => {
+            "parameter" | "binding" | "generic" => {
                 node.all("name").try_for_each(|name| self.local(name))?;
-            }
-            ("assign", [place, ..]) => {
-                let is_place = ["path", "member_of", "index"].contains(&place.kind);
-                let is_target = place.kind == "negation" && place.parts[0].text == "*";
-                self.assert(is_place || is_target, place.span)?;
-            }
-            ("let", [pattern, others @ ..]) => {
-                self.all(others)?;
-                return self.node(pattern);
-            }
-            ("for", [pattern, value, body]) => {
-                self.node(value)?;
-                return self.scope([pattern, body]);
-            }
-            ("if", [condition, then, otherwise @ ..]) => {
-                self.scope([condition, then])?;
-                return self.all(otherwise);
             }
             _ => {}
         }
-        if has(SCOPES, node.rule) { self.scope(parts) } else { self.all(parts) }
+        node.parts.iter().try_for_each(|part| self.node(part))
     }
 
-    // Declares a local name. It must not hide a type or a constant, or mean something without being declared.
+    // Declares a local name. It must not hide an item, or mean something without being declared.
     fn local(&mut self, name: &'a Node) -> Done<()> {
-        let is_declared = self.scopes.get(self.module, &name.text).is_some();
-        let hides = is_declared && is_capital(&name.text) || is_reserved(&name.text);
-        self.assert(!hides, name.span)?;
-        self.locals.last_mut().into_iter().for_each(|scope| scope.push(&name.text));
+        let hidden = self.scopes.get(self.module, &name.text);
+        let hides = hidden.is_some_and(|it| !matches!(it, Definition::Module(_)));
+        self.assert(!hides && !is_reserved(&name.text), name.span)?;
+        self.locals.insert(&name.text);
         Ok(())
     }
 
@@ -172,29 +132,21 @@ impl<'a> Names<'a> {
         open.map_or(Ok(()), |open| Err(self.source.fault(open.span, reason)))
     }
 
-    fn is_local(&self, name: &str) -> bool {
-        self.locals.iter().flatten().any(|local| *local == name)
-    }
-
     // Whether a path stands for something that may be where it stands, as its rule says.
     fn is_known(&self, path: &Node) -> bool {
         let role = path.rule;
-        match path.names()[..] {
+        let is_member = |name| self.members.contains_key(name) && is_used(name, role);
+        let names = path.names();
+        match names[..] {
             // A variable that is called would be a pointer to a function.
-            ["self" | "Self"] => role != CALLEE,
-            [name] if self.is_local(name) => role != CALLEE,
-            [first, name] if first == "Self" || self.is_local(first) => self.is_member(name, role),
-            ref names => self.is_resolved(names, role),
+            ["self" | "Self"] => return role != CALLEE,
+            [name] if self.locals.contains(name) => return role != CALLEE,
+            [first, name] if first == "Self" || self.locals.contains(first) => {
+                return is_member(name);
+            }
+            _ => {}
         }
-    }
-
-    // Whether a name is that of a function or constant of one of our types, used as such.
-    fn is_member(&self, name: &str, role: &str) -> bool {
-        self.members.all.contains(name) && is_used(name, role)
-    }
-
-    fn is_resolved(&self, names: &[&str], role: &str) -> bool {
-        let Some(Resolved { definition, used }) = self.scopes.resolve(self.module, names) else {
+        let Some(Resolved { definition, used }) = self.scopes.resolve(self.module, &names) else {
             return false;
         };
         match (&names[used..], &definition) {
@@ -204,7 +156,7 @@ impl<'a> Names<'a> {
             ([name], Definition::Foreign(_)) => {
                 has(std_names::ASSOCIATED, name) && is_used(name, role)
             }
-            ([name], _) => self.is_member(name, role),
+            ([name], _) => is_member(name),
             _ => false,
         }
     }
