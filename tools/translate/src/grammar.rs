@@ -1,17 +1,17 @@
 //! The grammar of Rattle as far as the sources use it, and of the facade. Every other form is refused.
 //!
 //! A line says what a rule reads: behind `=`, it makes a node that is named as the rule up to its point; behind `~`,
-//! what it makes stands where the rule is named. `/` is between alternatives, of which the first that fits is taken.
-//! `?` is behind what may be missing, `*` behind what may be there many times, `,*` behind what has commas between it.
-//! A sign between quotes is a token; `@` makes a node of it, and `^` takes it also as the first half of a symbol. `&`
-//! and `!` look at what comes next. Behind `<<` stand nodes that get what was read as their first part, one by one;
-//! behind `<!` stands one. Behind `PLAIN`, nothing is a struct up to a bracket, as a block follows. Other capital
-//! letters name kinds of tokens.
+//! what it makes stands where the rule is named. A name before `(` makes a node of what is in the brackets. `/` is
+//! between alternatives, of which the first that fits is taken. `?` is behind what may be missing, `*` behind what may
+//! be there many times, `,*` behind what has commas between it. A sign between quotes is a token; `@` makes a node of
+//! it, and `^` takes it also as the first half of a symbol. `&` and `!` look at what comes next. Behind `<<` stand
+//! nodes that get what was read as their first part, one by one; behind `<!` stands one. Behind `PLAIN`, nothing is a
+//! struct up to a bracket, as a block follows. Other capital letters name kinds of tokens.
 
 pub const GRAMMAR: &str = r#"
 module             = item* END
 
-item               ~ use / ghost_use / model / hint / notes <! ( visibility <! declared )
+item               ~ use / ghost_use / model / notes <! ( visibility <! declared ) / tactic
 declared           ~ function / constant / alias / declaration / struct / enum / trait / implementation
 visibility         = ( public / 'pub' '(' 'crate' ')' )?
 public             = 'pub' !'('
@@ -24,25 +24,19 @@ cold               = '#' '[' 'cold' ']'
 hidden             = '#' '[' 'doc' '(' 'hidden' ')' ']'
 derive             = '#' '[' 'derive' '(' derived,* ')' ']'
 derived            ~ @'Clone' / @'Copy' / @'Debug' / @'Drop' / @'Eq' / @'Ord' / @'PartialEq' / @'PartialOrd'
-tactic             = '#' '[' hint_to_prover ']'
-hint               = '#' '!' '[' hint_to_prover ']'
-hint_to_prover     ~ 'tactic' '(' argument_of_hint,* ')'
+tactic             = '#' '!'? '[' 'tactic' '(' argument_of_hint,* ')' ']'
 argument_of_hint   ~ WORD ( '::' argument_of_hint )? ( '(' argument_of_hint,* ')' )?
 
 name               ~ NAME
 name.crate         = 'crate'
-name.all           = '*'
 name.self          = 'self'
 name.own           = 'Self'
 
 use                = visibility 'use' imports ';'
-imports            ~ imported.crate 'as' renamed / imported ( '::' ( import.all / '{' model_import? &name import,* '}' ) )?
-model_import       = 'Model' ','
+imports            ~ imported.crate 'as' renamed( name ) / imported ( '::' listed )?
+listed             ~ import( name( '*' ) ) / '{' model_import( 'Model' ',' )? &name import( name ),* '}'
 imported           = ( name.crate / name ) ( '::' name )*
 imported.crate     = name.crate / name
-import             = name
-import.all         = name.all
-renamed            = name
 
 ghost_use          = 'ghost' 'use' WORD ( '.' WORD )* '.' '{' GHOST_NAME,* '}' ';'
 ghost.declared     = 'ghost' WORD ':' CLAUSE ';'
@@ -52,8 +46,7 @@ model              = 'impl' generics 'Model' 'for' type members.model
 members.model      = '{' ( ghost_use / ghost.defined )* '}'
 
 declaration        = 'mod' name ';'
-constant           = ( 'const' / 'static' ) name ':' type value? ';'
-value              = '=' expression
+constant           = ( 'const' / 'static' ) name ':' type value( '=' expression )? ';'
 alias              = 'type' name generics '=' type ';'
 struct             = 'struct' name generics ( ';' / '{' ( ghost.field / field ( ',' / &'}' ) )* '}' )
 field              = notes visibility name ':' type
@@ -64,14 +57,13 @@ members.trait      = '{' ( ghost.declared / notes <! ( function / constant ) )* 
 implementation     = 'impl' generics ( path.trait 'for' )? type members
 members            = '{' ( ghost_use / ghost.defined / notes <! ( visibility <! member ) )* '}'
 member             ~ function / constant / alias
-function           = 'fn' ( !'fmt' name generics / name writer ) parameters output? clause* ( block / ';' )
+function           = 'fn' ( !'fmt' name generics / name writer ) parameters output( '->' type )? clause* ( block / ';' )
 writer             = '<' 'W' ':' 'fmt' '::' 'Write' '>'
 parameters         ~ '(' ( receiver ( ',' / &')' ) )? parameter,* ')'
 receiver           = shared? mutable? name.self
 parameter          = mutable? name ':' type
 shared             = '&'
 mutable            = 'mut'
-output             = '->' type
 clause             ~ condition / promise
 condition          = 'requires' name? CLAUSE
 promise            = 'ensures' name? CLAUSE
@@ -94,15 +86,12 @@ segment.type       = ( name / name.own ) arguments
 arguments          = ( '<' argument,* ^'>' )?
 argument           ~ LIFETIME / literal / type
 
-pattern            ~ single << either
-either             = '|' single
-single             ~ wildcard / tuple.pattern / list.pattern / range / literal / variant_or_path / binding
+pattern            ~ single << either( '|' single )
+single             ~ wildcard( '_' ) / tuple.pattern / list.pattern / range / literal / variant_or_path / binding
 variant_or_path    ~ call.pattern / struct.pattern / path.pattern
-wildcard           = '_'
 tuple.pattern      = '(' element,* ')'
 list.pattern       = '[' element,* ']'
-element            ~ rest / pattern
-rest               = '..'
+element            ~ rest( '..' ) / pattern
 range              = literal '..=' literal
 call.pattern       = path.pattern '(' element,* ')'
 struct.pattern     = path.made '{' binding.name,* '..'? '}'
@@ -111,48 +100,32 @@ path.made          = &CAPITAL names
 binding            = mutable? name ( '@' element )?
 binding.name       = name
 
-expression         ~ or << assign
-assign             = ( @'=' / @'+=' ) expression
-or                 ~ and << binary.or
-and                ~ comparison << binary.and
-comparison         ~ bit_or << binary.comparison
-bit_or             ~ bit_xor << binary.bit_or
-bit_xor            ~ bit_and << binary.bit_xor
-bit_and            ~ shift << binary.bit_and
-shift              ~ sum << binary.shift
-sum                ~ product << binary.sum
-product            ~ cast_or_less << binary.product
-cast_or_less       ~ unary << cast
-binary.or          = @'||' and
-binary.and         = @'&&' comparison
-binary.comparison  = compared bit_or !compared
+expression         ~ or << assign( ( @'=' / @'+=' ) expression )
+or                 ~ and << binary( @'||' and )
+and                ~ comparison << binary( @'&&' comparison )
+comparison         ~ bit_or << binary( compared bit_or !compared )
 compared           ~ @'==' / @'!=' / @'<' / @'>' / @'<=' / @'>='
-binary.bit_or      = @'|' bit_xor
-binary.bit_xor     = @'^' bit_and
-binary.bit_and     = @'&' shift
-binary.shift       = ( @'<<' / @'>>' ) sum
-binary.sum         = ( @'+' / @'-' ) product
-binary.product     = ( @'*' / @'/' / @'%' ) cast_or_less
-cast               = 'as' ( signed / unsigned )
+bit_or             ~ bit_xor << binary( @'|' bit_xor )
+bit_xor            ~ bit_and << binary( @'^' bit_and )
+bit_and            ~ shift << binary( @'&' shift )
+shift              ~ sum << binary( ( @'<<' / @'>>' ) sum )
+sum                ~ product << binary( ( @'+' / @'-' ) product )
+product            ~ cast_or_less << binary( ( @'*' / @'/' / @'%' ) cast_or_less )
+cast_or_less       ~ unary << cast( 'as' ( signed / unsigned ) )
 signed             ~ @'i8' / @'i16' / @'i32' / @'i64' / @'i128' / @'isize'
 unsigned           ~ @'u8' / @'u16' / @'u32' / @'u64' / @'u128' / @'usize'
-unary              ~ reference.value / negation / primary << ( try / in_brackets / method / member_of )
-reference.value    = ^'&' mutable? unary
-negation           = ( @'!' / @'-' / @'*' ) unary
-try                = '?'
-in_brackets        ~ '[' ( part.to / expression <! ( index / part.from / part.between ) )
-index              = ']'
-part.from          = '..' ']'
-part.between       = '..' expression ']'
-part.to            = '..' expression ']'
+unary              ~ reference.value / negation / primary << ( try( '?' ) / in_brackets / method / member_of )
 method             = '.' name arguments.value '(' expression,* ')'
 member_of          = '.' ( name / INTEGER )
+reference.value    = ^'&' mutable? unary
+negation           = ( @'!' / @'-' / @'*' ) unary
+in_brackets        ~ '[' ( part.to / expression <! ( index( ']' ) / part.from( '..' ']' ) / part.between ) )
+part.between       = '..' expression ']'
+part.to            = '..' expression ']'
 
 primary            ~ literal / in_parentheses / repeat / list / closure / matches / named / block_like / return / break
 named              ~ struct.value / call / path.value
-in_parentheses     ~ '(' expression <! ( group / tuple.more )
-group              = ')'
-tuple.more         = ',' expression,* ')'
+in_parentheses     ~ '(' expression <! ( group( ')' ) / tuple.more( ',' expression,* ')' ) )
 list               = '[' expression,* ']'
 repeat             = '[' ( literal / path.value ) ';' length ']'
 closure            = '|' binding.name '|' expression
@@ -177,8 +150,7 @@ block_like         ~ if / match / while / loop / for / block
 if                 = 'if' PLAIN ( let.condition / expression ) block ( 'else' ( if / block ) )?
 let.condition      = 'let' pattern '=' comparison
 match              = 'match' PLAIN expression '{' arm* '}'
-arm                = COMMENTS pattern guard? '=>' ( ended_block ','? / expression ( ',' / &'}' ) )
-guard              = 'if' expression
+arm                = COMMENTS pattern guard( 'if' expression )? '=>' ( ended_block ','? / expression ( ',' / &'}' ) )
 while              = 'while' PLAIN expression block
 loop               = 'loop' block
 for                = 'for' pattern 'in' PLAIN expression block
@@ -187,9 +159,7 @@ break              = 'break'
 block              = '{' statement* COMMENTS '}'
 statement          ~ COMMENTS ( let / ended_block done? / expression ( done / &'}' ) )
 ended_block        ~ block_like !'.' !'?'
-let                = 'let' pattern annotation? '=' expression otherwise? ';'
-annotation         = ':' type
-otherwise          = 'else' block
+let                = 'let' pattern annotation( ':' type )? '=' expression otherwise( 'else' block )? ';'
 done               = ';'
 
 facade             = ( notices <! ( proved / outer / ignored / export ) )* END
@@ -197,8 +167,7 @@ proved             = 'mod' 'proved' '{' inner_item* '}'
 outer              = 'pub'? 'mod' !'proved' name ( ';' / '{' inner_item* '}' )
 inner_item         ~ notices <! ( inner / export )
 inner              = 'pub'? 'mod' !'proved' name ( ';' / '{' '}' )
-notices            = ( DOC / '#' '!' '[' known ']' / notice )*
-notice             = '#' '[' known ']'
+notices            = ( DOC / '#' '!' '[' known ']' / notice( '#' '[' known ']' ) )*
 known              ~ known_name in_attribute*
 known_name         ~ 'allow' / 'cfg' / 'cfg_attr' / 'no_std' / 'rustfmt' / 'warn'
 in_attribute       ~ lanes / !( 'path' / 'include' / 'macro_use' / 'proved' ) WORD / TEXT / '(' / ')' / ',' / '=' / '::' / '!'

@@ -6,21 +6,14 @@ use std::iter::Peekable;
 use std::str::SplitWhitespace;
 use std::sync::LazyLock;
 
-/// The rules of the grammar by their names.
-pub static RULES: LazyLock<HashMap<&str, Rule>> = LazyLock::new(|| {
+/// What the rules of the grammar read, by their names.
+pub static RULES: LazyLock<HashMap<&str, Form>> = LazyLock::new(|| {
     let lines = GRAMMAR.lines().filter(|line| !line.is_empty());
-    lines.map(rule).map(|rule| (rule.name, rule)).collect()
+    lines.map(rule).collect()
 });
 
-/// A line of the grammar.
-pub struct Rule {
-    pub name: &'static str,
-    pub makes_node: bool,
-    pub form: Form,
-}
-
-/// How something is read, by a sign of the notation, or by `a` for the name of a rule, `A` for that of a kind of
-/// tokens, and a space for what is read in turn.
+/// How something is read, by a sign of the notation, or by `=` for what makes a node, `a` for the name of a rule, `A`
+/// for that of a kind of tokens, and a space for what is read in turn.
 pub struct Form {
     pub sign: char,
     pub text: &'static str,
@@ -29,10 +22,15 @@ pub struct Form {
 
 type Words = Peekable<SplitWhitespace<'static>>;
 
-fn rule(line: &'static str) -> Rule {
+fn rule(line: &'static str) -> (&'static str, Form) {
     let mut words = line.split_whitespace();
     let (name, sign) = (words.next().unwrap_or_default(), words.next());
-    Rule { name, makes_node: sign == Some("="), form: choice(&mut words.peekable()) }
+    let form = choice(&mut words.peekable());
+    (name, if sign == Some("=") { node(name, form) } else { form })
+}
+
+fn node(name: &'static str, form: Form) -> Form {
+    Form { sign: '=', text: name, parts: vec![form] }
 }
 
 // Reads alternatives up to a `)` or the end.
@@ -71,10 +69,10 @@ fn form(word: &'static str, words: &mut Words) -> Form {
             let sign = sign.chars().next().unwrap_or('\'');
             Form { sign, text: text.trim_end_matches('\''), parts: Vec::new() }
         }
-        None if body == "(" => {
-            let form = choice(words);
+        None if body.ends_with('(') => {
+            let (name, form) = (body.trim_end_matches('('), choice(words));
             repeats = words.next().unwrap_or_default().trim_start_matches(')');
-            form
+            if name.is_empty() { form } else { node(name, form) }
         }
         None => {
             let sign = if first.is_ascii_uppercase() { 'A' } else { 'a' };

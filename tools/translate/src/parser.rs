@@ -21,7 +21,7 @@ pub fn parse(source: &Source, rule: &str) -> Done<Vec<Node>> {
     let first = place(source, 0);
     let mut parser =
         Parser { source, at: first, is_plain: false, furthest: first, nodes: Vec::new() };
-    match parser.rule(rule) {
+    match parser.form(&RULES[rule]) {
         true => Ok(parser.nodes.remove(0).parts),
         false => Err(parser.unexpected()),
     }
@@ -70,28 +70,26 @@ impl<'a> Parser<'a> {
         self.source.fault(Span { start, end: start }, format!("{found} is not known here"))
     }
 
-    // Reads by a rule. Returns whether it fits.
-    fn rule(&mut self, name: &str) -> bool {
-        let rule = &RULES[name];
-        let (start, first) = (self.at.start, self.nodes.len());
-        let fits = self.form(&rule.form);
-        if fits && rule.makes_node {
-            let parts = self.nodes.split_off(first);
-            self.push(rule.name, start, parts);
-        }
-        fits
-    }
-
     // Adds a node for what was read from `start` on.
     fn push(&mut self, rule: &'static str, start: usize, parts: Vec<Node>) {
         let span = Span { start, end: self.at.end.max(start) };
         self.nodes.push(Node::new(self.source, rule, span, parts));
     }
 
+    // Reads by a form. Returns whether it fits.
     fn form(&mut self, form: &'static Form) -> bool {
         let Form { sign, text, parts } = form;
         match sign {
-            'a' => self.rule(text),
+            'a' => self.form(&RULES[text]),
+            '=' => {
+                let (start, first) = (self.at.start, self.nodes.len());
+                let fits = self.form(&parts[0]);
+                if fits {
+                    let parts = self.nodes.split_off(first);
+                    self.push(text, start, parts);
+                }
+                fits
+            }
             'A' => self.token_of(text),
             '\'' | '@' | '^' => self.sign(*sign, text),
             '/' => parts.iter().any(|form| self.attempt(form)),

@@ -99,8 +99,9 @@ impl Printer<'_> {
     // Prints an item or something in it.
     fn node(&mut self, node: &Node) {
         match node.kind {
-            "ghost" | "ghost_use" | "model" | "hint" | "tactic" | "condition" | "promise"
-            | "left_out" => return self.comment(node.span),
+            "ghost" | "ghost_use" | "model" | "tactic" | "condition" | "promise" | "left_out" => {
+                return self.comment(node.span);
+            }
             "derive" => self.derive(node),
             "with_lanes" => self.insert(node.span.start, "#[cfg(feature = \"lanes\")] "),
             // In Rattle, a formatter has its writer as a type parameter.
