@@ -138,8 +138,8 @@ impl<'a> Names<'a> {
         let is_member = |name| self.members.contains_key(name) && is_used(name, role);
         let names = path.names();
         match names[..] {
+            ["self" | "Self"] => return true,
             // A variable that is called would be a pointer to a function.
-            ["self" | "Self"] => return role != CALLEE,
             [name] if self.locals.contains(name) => return role != CALLEE,
             [first, name] if first == "Self" || self.locals.contains(first) => {
                 return is_member(name);
@@ -150,8 +150,15 @@ impl<'a> Names<'a> {
             return false;
         };
         match (&names[used..], &definition) {
-            ([], Definition::Foreign(path)) => may_be_foreign(path, role),
-            ([], Definition::Item(id)) => may_be(self.scopes.item(*id).kind, role),
+            // What is called through a value need not meet its conditions.
+            ([], Definition::Item(id)) => {
+                role == CALLEE || self.scopes.item(*id).kind != "function"
+            }
+            ([], Definition::Foreign(path)) => match role {
+                "path.bound" => has(std_names::BOUNDS, path),
+                "path.trait" => has(std_names::IMPLEMENTED, path),
+                _ => role == CALLEE || path != "std::str::from_utf8",
+            },
             ([], found) => matches!(found, Definition::Variant(..)),
             ([name], Definition::Foreign(_)) => {
                 has(std_names::ASSOCIATED, name) && is_used(name, role)
@@ -159,26 +166,6 @@ impl<'a> Names<'a> {
             ([name], _) => is_member(name),
             _ => false,
         }
-    }
-}
-
-// Whether something of `std` may have a role.
-fn may_be_foreign(path: &str, role: &str) -> bool {
-    match role {
-        "path.bound" => has(std_names::BOUNDS, path),
-        "path.trait" => has(std_names::IMPLEMENTED, path),
-        CALLEE => has("Some Ok Err std::str::from_utf8", path),
-        _ => path != "std::str::from_utf8" && path != "std::fmt",
-    }
-}
-
-// Whether an item of ours may have a role. What is called through a value need not meet its conditions. An argument of
-// a type may be a constant, and a struct without fields is a value.
-fn may_be(kind: &str, role: &str) -> bool {
-    match role {
-        CALLEE => kind == "function",
-        "path.bound" | "path.trait" => kind == "trait",
-        _ => !["function", "trait"].contains(&kind),
     }
 }
 
