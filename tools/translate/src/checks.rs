@@ -157,7 +157,7 @@ impl<'a> Names<'a> {
             ([], Definition::Foreign(path)) => match role {
                 "path.bound" => has(std_names::BOUNDS, path),
                 "path.trait" => has(std_names::IMPLEMENTED, path),
-                _ => role == CALLEE || path != "std::str::from_utf8",
+                _ => true,
             },
             ([], found) => matches!(found, Definition::Variant(..)),
             ([name], Definition::Foreign(_)) => {

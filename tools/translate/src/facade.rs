@@ -7,7 +7,7 @@ use crate::parser::parse;
 use crate::resolve::{Id, Scopes};
 use crate::source::{Done, Fault, Source, Span};
 use crate::std_names::has;
-use crate::tree::texts;
+use crate::tree::{Node, texts};
 
 // The modules that depend on the feature `lanes`.
 const MODULES_OF_LANES: &str = "atoi_lanes lanes simd";
@@ -24,8 +24,9 @@ pub struct Export {
 pub fn exports(source: &Source) -> Done<Vec<Export>> {
     let mut exports = Vec::new();
     let items = parse(source, "facade")?;
-    let inner = items.iter().flat_map(|item| &item.parts).filter(|part| part.has("notices"));
-    for item in items.iter().chain(inner) {
+    let mut left: Vec<&Node> = items.iter().collect();
+    while let Some(item) = left.pop() {
+        left.extend(item.all("outer").chain(item.all("export")));
         let refuse = |form: &str| Err(source.fault(item.span, format!("{form} is not known here")));
         let needs_lanes = item.parts[0].all("notice").any(|notice| notice.has("lanes"));
         if needs_lanes && !has(MODULES_OF_LANES, item.name()) {

@@ -13,8 +13,7 @@ module             = item* END
 
 item               ~ use / ghost_use / model / notes <! ( visibility <! declared ) / tactic
 declared           ~ function / constant / alias / declaration / struct / enum / trait / implementation
-visibility         = ( public / 'pub' '(' 'crate' ')' )?
-public             = 'pub' !'('
+visibility         = ( public( 'pub' !'(' ) / 'pub' '(' 'crate' ')' )?
 notes              = ( COMMENTS ( DOC / attribute ) )* COMMENTS
 attribute          ~ inline / always / never / cold / hidden / derive / tactic
 inline             = '#' '[' 'inline' ']'
@@ -28,22 +27,19 @@ tactic             = '#' '!'? '[' 'tactic' '(' argument_of_hint,* ')' ']'
 argument_of_hint   ~ WORD ( '::' argument_of_hint )? ( '(' argument_of_hint,* ')' )?
 
 name               ~ NAME
-name.crate         = 'crate'
 name.self          = 'self'
 name.own           = 'Self'
 
 use                = visibility 'use' imports ';'
-imports            ~ imported.crate 'as' renamed( name ) / imported ( '::' listed )?
+imports            ~ imported( head ) 'as' renamed( name ) / imported( head ( '::' name )* ) ( '::' listed )?
+head               ~ name( 'crate' ) / name
 listed             ~ import( name( '*' ) ) / '{' model_import( 'Model' ',' )? &name import( name ),* '}'
-imported           = ( name.crate / name ) ( '::' name )*
-imported.crate     = name.crate / name
 
 ghost_use          = 'ghost' 'use' WORD ( '.' WORD )* '.' '{' GHOST_NAME,* '}' ';'
 ghost.declared     = 'ghost' WORD ':' CLAUSE ';'
 ghost.defined      = 'ghost' WORD '=' CLAUSE ';'
 ghost.field        = 'ghost' WORD ':' CLAUSE ( ',' / &'}' )
-model              = 'impl' generics 'Model' 'for' type members.model
-members.model      = '{' ( ghost_use / ghost.defined )* '}'
+model              = 'impl' generics 'Model' 'for' type members( '{' ( ghost_use / ghost.defined )* '}' )
 
 declaration        = 'mod' name ';'
 constant           = ( 'const' / 'static' ) name ':' type value( '=' expression )? ';'
@@ -52,35 +48,27 @@ struct             = 'struct' name generics ( ';' / '{' ( ghost.field / field ( 
 field              = notes visibility name ':' type
 enum               = 'enum' name generics '{' variant,* '}'
 variant            = notes name ( '{' field,* '}' / '(' type,* ')' )?
-trait              = 'trait' name generics ( ':' path.bound )? members.trait
+trait              = 'trait' name generics ( ':' path.bound( names_of_type ) )? members.trait
 members.trait      = '{' ( ghost.declared / notes <! ( function / constant ) )* '}'
-implementation     = 'impl' generics ( path.trait 'for' )? type members
-members            = '{' ( ghost_use / ghost.defined / notes <! ( visibility <! member ) )* '}'
-member             ~ function / constant / alias
+implementation     = 'impl' generics ( path.trait( names_of_type ) 'for' )? type members
+members            = '{' ( ghost_use / ghost.defined / notes <! ( visibility <! ( function / constant / alias ) ) )* '}'
 function           = 'fn' ( !'fmt' name generics / name writer ) parameters output( '->' type )? clause* ( block / ';' )
 writer             = '<' 'W' ':' 'fmt' '::' 'Write' '>'
 parameters         ~ '(' ( receiver ( ',' / &')' ) )? parameter,* ')'
-receiver           = shared? mutable? name.self
+receiver           = shared( '&' )? mutable? name.self
 parameter          = mutable? name ':' type
-shared             = '&'
 mutable            = 'mut'
-clause             ~ condition / promise
-condition          = 'requires' name? CLAUSE
-promise            = 'ensures' name? CLAUSE
+clause             ~ condition( 'requires' name? CLAUSE ) / promise( 'ensures' name? CLAUSE )
 generics           = ( '<' generic,* ^'>' )?
-generic            ~ LIFETIME / generic.constant / generic.type
-generic.constant   = 'const' name ':' type
-generic.type       = name ( ':' path.bound )?
+generic            ~ LIFETIME / generic.constant( 'const' name ':' type ) / generic.type
+generic.type       = name ( ':' path.bound( names_of_type ) )?
 
-type               ~ reference.type / tuple.type / list.type / formatter / path.type
+type               ~ reference.type / tuple.type / list.type / formatter / path.type( names_of_type )
 reference.type     = ^'&' LIFETIME? mutable? type
 tuple.type         = '(' ( type ',' &type type,* )? ')'
 list.type          = '[' type ( ';' length )? ']'
 formatter          = 'fmt' '::' 'Formatter' '<' 'W' '>'
 length             ~ INTEGER / path.value
-path.type          = names_of_type
-path.bound         = names_of_type
-path.trait         = names_of_type
 names_of_type      ~ segment.type ( '::' segment.type )?
 segment.type       = ( name / name.own ) arguments
 arguments          = ( '<' argument,* ^'>' )?
@@ -130,21 +118,16 @@ list               = '[' expression,* ']'
 repeat             = '[' ( literal / path.value ) ';' length ']'
 closure            = '|' binding.name '|' expression
 matches            = 'matches' '!' '(' expression ',' pattern ')'
-struct.value       = STRUCTS path.made '{' given,* ( '..' ( negation.self / path.given &'}' ) )? '}'
+struct.value       = STRUCTS path.made '{' given,* ( '..' ( all_of_self / path.given &'}' ) )? '}'
 given              = name ':' expression / path.given
-negation.self      = @'*' path.self
-call               = path.callee '(' expression,* ')'
+all_of_self        ~ negation( @'*' path( segment( name.self ) ) )
+call               = path.callee( names ) '(' expression,* ')'
 path.value         = names
-path.callee        = names
-path.given         = segment.given
-path.self          = segment.self
+path.given         = segment( name )
 names              ~ segment ( '::' segment )?
 segment            = ( name / name.self / name.own ) arguments.value
-segment.given      = name
-segment.self       = name.self
 arguments.value    = ( '::' '<' argument,* ^'>' )?
-literal            ~ INTEGER !( '.' INTEGER ) / BYTE / TEXT / boolean
-boolean            = 'true' / 'false'
+literal            ~ INTEGER !( '.' INTEGER ) / BYTE / TEXT / boolean( 'true' / 'false' )
 
 block_like         ~ if / match / while / loop / for / block
 if                 = 'if' PLAIN ( let.condition / expression ) block ( 'else' ( if / block ) )?
@@ -165,11 +148,9 @@ done               = ';'
 facade             = ( notices <! ( proved / outer / ignored / export ) )* END
 proved             = 'mod' 'proved' '{' inner_item* '}'
 outer              = 'pub'? 'mod' !'proved' name ( ';' / '{' inner_item* '}' )
-inner_item         ~ notices <! ( inner / export )
-inner              = 'pub'? 'mod' !'proved' name ( ';' / '{' '}' )
+inner_item         ~ notices <! ( outer / export )
 notices            = ( DOC / '#' '!' '[' known ']' / notice( '#' '[' known ']' ) )*
-known              ~ known_name in_attribute*
-known_name         ~ 'allow' / 'cfg' / 'cfg_attr' / 'no_std' / 'rustfmt' / 'warn'
+known              ~ ( 'allow' / 'cfg' / 'cfg_attr' / 'no_std' / 'rustfmt' / 'warn' ) in_attribute*
 in_attribute       ~ lanes / !( 'path' / 'include' / 'macro_use' / 'proved' ) WORD / TEXT / '(' / ')' / ',' / '=' / '::' / '!'
 lanes              = '"lanes"'
 ignored            = 'extern' 'crate' 'std' ';' / 'compile_error' '!' '(' TEXT ')' ';'
