@@ -118,7 +118,7 @@ list               = '[' expression,* ']'
 repeat             = '[' ( literal / path.value ) ';' length ']'
 closure            = '|' binding.name '|' expression
 matches            = 'matches' '!' '(' expression ',' pattern ')'
-struct.value       = STRUCTS path.made '{' given,* ( '..' ( all_of_self / path.given &'}' ) )? '}'
+struct.value       = STRUCTS path.made '{' given,* ( '..' ( all_of_self / path.given ) )? '}'
 given              = name ':' expression / path.given
 all_of_self        ~ negation( @'*' path( segment( name.self ) ) )
 call               = path.callee( names ) '(' expression,* ')'

@@ -5,7 +5,7 @@ use crate::lexer::{
     bytes, check_characters, clause_length, ghost_name_length, number, skip_space, token,
 };
 use crate::notation::{Form, RULES};
-use crate::source::{Done, Fault, Source, Span};
+use crate::source::{Done, Source, Span};
 use crate::std_names::{has, is_capital};
 use crate::tree::Node;
 
@@ -21,10 +21,15 @@ pub fn parse(source: &Source, rule: &str) -> Done<Vec<Node>> {
     let first = place(source, 0);
     let mut parser =
         Parser { source, at: first, is_plain: false, furthest: first, nodes: Vec::new() };
-    match parser.form(&RULES[rule]) {
-        true => Ok(parser.nodes.remove(0).parts),
-        false => Err(parser.unexpected()),
+    if parser.form(&RULES[rule]) {
+        return Ok(parser.nodes.remove(0).parts);
     }
+    let Place { start, token, .. } = parser.furthest;
+    let found = match token.lines().next() {
+        None => "the end of the file".into(),
+        Some(line) => format!("`{line}`"),
+    };
+    Err(source.fault(Span { start, end: start }, format!("{found} is not known here")))
 }
 
 /// Where what was read ends, and the next token.
@@ -52,30 +57,6 @@ struct Parser<'a> {
 }
 
 impl<'a> Parser<'a> {
-    // Goes to the end of what was read.
-    fn go_to(&mut self, end: usize) {
-        self.at = place(self.source, end);
-        if self.at.start > self.furthest.start {
-            self.furthest = self.at;
-        }
-    }
-
-    // Says that no rule takes the last token that was reached.
-    fn unexpected(&self) -> Fault {
-        let Place { start, token, .. } = self.furthest;
-        let found = match token.lines().next() {
-            None => "the end of the file".into(),
-            Some(line) => format!("`{line}`"),
-        };
-        self.source.fault(Span { start, end: start }, format!("{found} is not known here"))
-    }
-
-    // Adds a node for what was read from `start` on.
-    fn push(&mut self, rule: &'static str, start: usize, parts: Vec<Node>) {
-        let span = Span { start, end: self.at.end.max(start) };
-        self.nodes.push(Node::new(self.source, rule, span, parts));
-    }
-
     // Reads by a form. Returns whether it fits.
     fn form(&mut self, form: &'static Form) -> bool {
         let Form { sign, text, parts } = form;
@@ -83,12 +64,7 @@ impl<'a> Parser<'a> {
             'a' => self.form(&RULES[text]),
             '=' => {
                 let (start, first) = (self.at.start, self.nodes.len());
-                let fits = self.form(&parts[0]);
-                if fits {
-                    let parts = self.nodes.split_off(first);
-                    self.push(text, start, parts);
-                }
-                fits
+                self.form(&parts[0]) && self.make(text, start, first)
             }
             'A' => self.token_of(text),
             '\'' | '@' | '^' => self.sign(*sign, text),
@@ -138,34 +114,39 @@ impl<'a> Parser<'a> {
 
     // Puts the nodes from `start` on into the one that follows, and that into the next one. Returns whether it fits.
     fn put_into(&mut self, form: &'static Form, start: usize) -> bool {
-        let is_one = form.text == "<!";
         while self.attempt(&form.parts[0]) {
             let node = self.nodes.pop();
             let first = self.nodes.split_off(start);
             self.nodes.extend(node.map(|node| node.begun_with(first)));
-            if is_one {
+            if form.text == "<!" {
                 return true;
             }
         }
-        !is_one
+        form.text == "<<"
     }
 
     fn sign(&mut self, sign: char, text: &'static str) -> bool {
         let token = self.at.token;
         let fits = token == text || sign == '^' && token == text.repeat(2);
-        self.take(fits, text.len(), if sign == '@' { "sign" } else { "" })
+        fits && self.take(text.len(), if sign == '@' { "sign" } else { "" })
     }
 
-    // Takes a token if it fits, and makes a node of it if this has a name.
-    fn take(&mut self, fits: bool, length: usize, rule: &'static str) -> bool {
-        let start = self.at.start;
-        if fits {
-            self.go_to(start + length);
+    // Takes a token, and makes a node of it if this has a name.
+    fn take(&mut self, length: usize, rule: &'static str) -> bool {
+        let (start, first) = (self.at.start, self.nodes.len());
+        self.at = place(self.source, start + length);
+        if self.at.start > self.furthest.start {
+            self.furthest = self.at;
         }
-        if fits && !rule.is_empty() {
-            self.push(rule, start, Vec::new());
-        }
-        fits
+        rule.is_empty() || self.make(rule, start, first)
+    }
+
+    // Makes a node of what was read from `start` on, with the nodes from `first` on as its parts.
+    fn make(&mut self, rule: &'static str, start: usize, first: usize) -> bool {
+        let span = Span { start, end: self.at.end.max(start) };
+        let parts = self.nodes.split_off(first);
+        self.nodes.push(Node::new(self.source, rule, span, parts));
+        true
     }
 
     // Reads a token by the name of its kind, or what else has such a name.
@@ -186,7 +167,10 @@ impl<'a> Parser<'a> {
             "CAPITAL" => return is_capital(text),
             "END" => return text.is_empty(),
             "CLAUSE" if text == "{" => return self.clause(),
-            "GHOST_NAME" => return self.ghost_name(),
+            "GHOST_NAME" => {
+                let length = ghost_name_length(&self.source.text[start..]);
+                return length > 0 && self.take(length, "ghost_name");
+            }
             "NAME" => (is_word && !has(KEYWORDS, text) && !is_raw(), "name"),
             "WORD" => (is_word, "word"),
             "LIFETIME" => (text.starts_with('\'') && text.len() > 1, ""),
@@ -196,22 +180,19 @@ impl<'a> Parser<'a> {
             "DOC" => (text.starts_with("///"), "doc"),
             _ => (false, ""),
         };
-        self.take(fits, text.len(), rule)
+        fits && self.take(text.len(), rule)
     }
 
     // Reads a clause. What is not known in it is the last that was reached.
     fn clause(&mut self) -> bool {
         let start = self.at.start;
-        let length = clause_length(&self.source.text[start..]);
-        if let Err((offset, token)) = length {
-            self.furthest = Place { end: start, start: start + offset, token };
+        match clause_length(&self.source.text[start..]) {
+            Ok(length) => self.take(length, "clause"),
+            Err((offset, token)) => {
+                self.furthest = Place { end: start, start: start + offset, token };
+                false
+            }
         }
-        self.take(length.is_ok(), length.unwrap_or_default(), "clause")
-    }
-
-    fn ghost_name(&mut self) -> bool {
-        let length = ghost_name_length(&self.source.text[self.at.start..]);
-        self.take(length > 0, length, "ghost_name")
     }
 
     // Makes a node of what is before the next token if there are comments.

@@ -7,37 +7,38 @@ use torkettle_translate::modules::{Module, Package};
 use torkettle_translate::source::{Done, Source};
 use torkettle_translate::translate;
 
-// Puts characters in place of what stands for them.
+// What stands for characters.
+const SIGNS: [(&str, &str); 5] = [
+    ("⏎", "\n"),
+    ("<CR>", "\r"),
+    ("<NBSP>", "\u{A0}"),
+    ("<LRM>", "\u{200E}"),
+    ("<BOM>", "\u{FEFF}"),
+];
+
 fn shown(text: &str) -> String {
-    let signs = [
-        ("⏎", "\n"),
-        ("<CR>", "\r"),
-        ("<NBSP>", "\u{A0}"),
-        ("<LRM>", "\u{200E}"),
-        ("<BOM>", "\u{FEFF}"),
-    ];
-    signs.iter().fold(text.to_string(), |text, (sign, character)| text.replace(sign, character))
+    SIGNS.iter().fold(text.into(), |text: String, (sign, shown)| text.replace(sign, shown))
 }
 
 // What becomes of a form in its place, and how many lines come before it.
-fn made(
-    (facade, package): &mut (Source, Package),
-    place: &str,
-    form: &str,
-) -> (Done<String>, usize) {
+fn made(repository: &mut (Source, Package), place: &str, form: &str) -> (Done<String>, usize) {
     let source = Source::new(Path::new("a.rs"), form.into());
     let made = match place {
         "C" | "checked" => c(form, place == "checked"),
-        "facade" => translate(&source, package).map(|_| String::new()),
+        "facade" => translate(&source, &repository.1).map(|_| String::new()),
         "other" => check_other(&source).map(|()| String::new()),
-        _ if place.contains('/') => return added(facade, package, place, form),
+        _ if place.contains('/') => return added(repository, place, form),
         _ => rust(place, form),
     };
     (made, 0)
 }
 
 // What becomes of a form in a source of the repository.
-fn added(facade: &Source, package: &mut Package, place: &str, form: &str) -> (Done<String>, usize) {
+fn added(
+    (facade, package): &mut (Source, Package),
+    place: &str,
+    form: &str,
+) -> (Done<String>, usize) {
     let file = Path::new("crates").join(place.replacen('/', "/src/", 1));
     let number = package.modules.iter().position(|it| it.source.path == file).expect(place);
     let Module { source, .. } = &package.modules[number];

@@ -49,21 +49,19 @@ fn check_names_each_file_that_differs() {
     assert_eq!(differing(&package), (7, vec![]));
     let [other, text, fast, simd] =
         ["atoi_core/other.rs", "atoi_core/text.rs", "atoi_fast/mod.rs", "atoi_simd/mod.rs"]
-            .map(|name| Path::new("rust/src/proved").join(name));
-    let read = |file: &Path| fs::read(package.0.join(file)).unwrap();
+            .map(|name| format!("rust/src/proved/{name}"));
+    let read = |file: &str| fs::read_to_string(package.0.join(file)).unwrap();
     // One file has another byte, one a byte less, one is not there, and one should not be there.
-    let changed: Vec<u8> =
-        read(&text).iter().map(|&byte| if byte == b'8' { b'9' } else { byte }).collect();
-    assert_eq!(changed.len(), read(&text).len());
-    package.put(text.to_str().unwrap(), changed);
-    package.put(simd.to_str().unwrap(), &read(&simd)[..read(&simd).len() - 1]);
-    package.put(other.to_str().unwrap(), "");
+    package.put(&text, read(&text).replace('8', "9"));
+    package.put(&simd, read(&simd).trim_end());
+    package.put(&other, "");
     fs::remove_file(package.0.join(&fast)).unwrap();
-    assert_eq!(differing(&package), (7, vec![other.clone(), text, fast.clone(), simd]));
-    assert!(!package.0.join(&fast).exists(), "--check writes");
+    let differ = [&other, &text, &fast, &simd].map(PathBuf::from).to_vec();
+    assert_eq!(differing(&package), (7, differ));
+    assert!(!package.0.join(fast).exists(), "--check writes");
     write(&package.0).unwrap();
     assert_eq!(differing(&package), (7, vec![]));
-    assert!(!package.0.join(&other).exists());
+    assert!(!package.0.join(other).exists());
 }
 
 #[test]
