@@ -36,7 +36,7 @@ pub fn with_text<T>(
 }
 
 /// Returns a package in which one crate is a source, and the others are empty.
-fn package(crate_name: &str, text: &str) -> Done<Package> {
+pub fn package(crate_name: &str, text: &str) -> Done<Package> {
     let modules = CRATES.into_iter().map(|name| {
         let text = if name == crate_name { text } else { "" };
         let source = Source::new(Path::new(&format!("{name}/lib.rt")), text.into());
@@ -45,12 +45,10 @@ fn package(crate_name: &str, text: &str) -> Done<Package> {
     Ok(Package { modules: modules.collect::<Done<_>>()? })
 }
 
-/// Makes the Rust of a crate that is a source, and returns it without the comment that says of what it is made.
-pub fn rust(crate_name: &str, text: &str) -> Done<String> {
-    let made =
-        translate(&Source::new(Path::new("lib.rs"), String::new()), &package(crate_name, text)?)?;
-    let file = Path::new("rust/src/proved").join(crate_name).join("mod.rs");
-    Ok(made[&file].split_once(" */ ").unwrap().1.into())
+/// Makes the Rust of a module, and returns it without the comment that says of what it is made.
+pub fn rust(facade: &Source, package: &Package, number: usize) -> Done<String> {
+    let rust = translate(facade, package)?.remove(&package.modules[number].rust_file()).unwrap();
+    Ok(rust.split_once(" */ ").unwrap().1.into())
 }
 
 /// Makes the C of the function `f` of a source of `atoi_core`, for `u32` if it is generic, and of all that it calls.
