@@ -15,13 +15,10 @@ const MARKS: &str = "\u{200E}\u{200F}\u{202A}\u{202B}\u{202C}\u{202D}\u{202E}\u{
 /// Refuses control characters and invisible marks, also in comments and texts.
 pub fn check_characters(source: &Source) -> Done<()> {
     let is_unknown = |it: char| it != '\n' && it.is_control() || MARKS.contains(it);
-    match source.text.char_indices().find(|(_, character)| is_unknown(*character)) {
-        Some((start, character)) => {
-            let reason = format!("the character U+{:04X}", u32::from(character));
-            Err(source.fault(Span { start, end: start + 1 }, reason))
-        }
-        None => Ok(()),
-    }
+    let found = source.text.char_indices().find(|(_, character)| is_unknown(*character));
+    let Some((start, character)) = found else { return Ok(()) };
+    let reason = format!("the character U+{:04X}", u32::from(character));
+    Err(source.fault(Span { start, end: start }, reason))
 }
 
 /// Returns what follows spaces, ends of lines and comments.

@@ -89,11 +89,6 @@ impl<'a> Scopes<'a> {
     fn import(&mut self, module: usize, item: &Node, path: &[&Node]) -> Done<()> {
         let (names, last) = (texts(path), path[path.len() - 1]);
         let path = names.join("::");
-        if path == std_names::ALL_VECTORS {
-            let mut vectors = std_names::VECTORS.into_iter();
-            return vectors
-                .try_for_each(|name| self.declare(module, name, last.span, foreign(&[name])));
-        }
         let found = match names[0] {
             "std" => std_names::is_known(&path).then(|| foreign(&names)),
             name if name == "crate" || CRATES.contains(&name) => {

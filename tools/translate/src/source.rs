@@ -64,10 +64,7 @@ impl Fault {
 
 impl fmt::Display for Fault {
     fn fmt(&self, f: &mut fmt::Formatter<'_>) -> fmt::Result {
-        let Fault { file, line, reason } = self;
-        match line {
-            Some(line) => write!(f, "{}:{line}: {reason}", file.display()),
-            None => write!(f, "{}: {reason}", file.display()),
-        }
+        let line = self.line.map_or(String::new(), |line| format!(":{line}"));
+        write!(f, "{}{line}: {}", self.file.display(), self.reason)
     }
 }

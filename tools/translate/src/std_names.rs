@@ -5,15 +5,16 @@
 pub const INTEGERS: [&str; 12] =
     ["u8", "u16", "u32", "u64", "u128", "usize", "i8", "i16", "i32", "i64", "i128", "isize"];
 
-/// Other types, traits and variants that need no `use`.
+/// Other types, traits and variants that need no `use`, and the vectors that are imported together, for which
+/// `rust/src/simd` stands.
 const BUILT_IN: &str = "bool str Clone Copy Debug Eq Iterator Ord PartialEq PartialOrd Option Some None \
-    Result Ok Err";
+    Result Ok Err u8x16 u16x8 u64x2";
 
 /// Paths of `std`. Rust's `core` stands for it.
 const PATHS: &str = "std::cmp::Ordering std::error::Error std::fmt std::fmt::Display std::fmt::Result \
     std::iter::FusedIterator std::marker::PhantomData std::num::IntErrorKind \
     std::num::IntErrorKind::Empty std::num::IntErrorKind::InvalidDigit \
-    std::num::IntErrorKind::NegOverflow std::num::IntErrorKind::PosOverflow std::str::from_utf8";
+    std::num::IntErrorKind::NegOverflow std::num::IntErrorKind::PosOverflow std::simd::prelude::* std::str::from_utf8";
 
 /// The traits that may bound a type. Of others, such as `Eq` and `Ord`, Rattle proves laws of each type that has
 /// them, and a user's type need not keep these.
@@ -35,10 +36,6 @@ pub const METHODS: &str = "len is_empty as_bytes iter first first_chunk last_chu
     wrapping_add wrapping_mul wrapping_sub \
     count enumerate filter take_while ok unwrap write_str dot4 simd_eq simd_ge simd_le \
     reduce_sum swizzle_dyn_within to_array to_bitmask";
-
-/// The vectors that are imported together. `rust/src/simd` stands for `std::simd`.
-pub const VECTORS: [&str; 3] = ["u8x16", "u16x8", "u64x2"];
-pub const ALL_VECTORS: &str = "std::simd::prelude::*";
 
 /// Says whether a name is built in.
 pub fn is_built_in(name: &str) -> bool {
