@@ -135,7 +135,9 @@ impl<'a> Names<'a> {
     // Whether a path stands for something that may be where it stands, as its rule says.
     fn is_known(&self, path: &Node) -> bool {
         let role = path.rule;
-        let is_member = |name| self.members.contains_key(name) && is_used(name, role);
+        // A function is called, and no value.
+        let is_used = |name| role == CALLEE || is_capital(name);
+        let is_member = |name| self.members.contains_key(name) && is_used(name);
         let names = path.names();
         match names[..] {
             ["self" | "Self"] => return true,
@@ -160,21 +162,10 @@ impl<'a> Names<'a> {
                 _ => true,
             },
             ([], found) => matches!(found, Definition::Variant(..)),
-            ([name], Definition::Foreign(_)) => {
-                has(std_names::ASSOCIATED, name) && is_used(name, role)
-            }
+            ([name], Definition::Foreign(_)) => has(std_names::ASSOCIATED, name) && is_used(name),
             ([name], _) => is_member(name),
             _ => false,
         }
-    }
-}
-
-// Whether a member is used as its name says: a function is called, and a constant is a value.
-fn is_used(name: &str, role: &str) -> bool {
-    match role {
-        CALLEE => !is_capital(name),
-        "path.value" | "path.pattern" => is_capital(name),
-        _ => false,
     }
 }
 

@@ -2,7 +2,7 @@
 //! becomes a test at the start of its function, or is refused.
 
 use crate::modules::{Module, Package};
-use crate::source::{Done, Span};
+use crate::source::Done;
 use crate::std_names::has;
 use crate::tree::Node;
 use std::collections::BTreeMap;
@@ -93,14 +93,14 @@ impl Finder<'_> {
             }),
             "struct" if !is_sealed(item) => {
                 let reason = "a ghost item of a struct that users can write, or change";
-                item.get("ghost").map_or(Ok(()), |ghost| self.refuse(ghost.span, reason))
+                item.get("ghost").map_or(Ok(()), |ghost| self.refuse(ghost, reason))
             }
             _ => Ok(()),
         }
     }
 
-    fn refuse<T>(&self, span: Span, reason: impl Into<String>) -> Done<T> {
-        Err(self.module.source.fault(span, reason))
+    fn refuse(&self, node: &Node, reason: &str) -> Done<()> {
+        Err(self.module.source.fault(node.span, reason))
     }
 
     // Whether users may call a function of the module. All public functions of the other crates are to be exported.
@@ -124,7 +124,7 @@ impl Finder<'_> {
             let known = CONDITIONS.iter().find(|known| known.clause == text);
             let known = known.filter(|known| self.is_about(known, function));
             let (Some(known), Some(body)) = (known, body) else {
-                return self.refuse(clause.span, "a condition that nothing tests in Rust");
+                return self.refuse(clause, "a condition that nothing tests in Rust");
             };
             self.tests.entry(body.span.start).or_default().push_str(known.test);
         }
@@ -156,13 +156,10 @@ impl Finder<'_> {
     // Refuses an invariant of what users can write, or change.
     fn model(&self, item: &Node) -> Done<()> {
         let found = self.module.items.iter().find(|found| found.name() == name_of(item));
-        let mut ghosts = item.members().iter().filter(|member| member.kind == "ghost");
-        match ghosts.find(|ghost| ghost.parts[0].text == "invariant") {
+        let is_invariant = |it: &&Node| it.kind == "ghost" && it.parts[0].text == "invariant";
+        match item.members().iter().find(is_invariant) {
             Some(invariant) if !found.is_some_and(is_sealed) => {
-                let target = self.module.source.at(item.target().span);
-                let reason =
-                    format!("an invariant of `{target}`, whose fields are not all private");
-                self.refuse(invariant.span, reason)
+                self.refuse(invariant, "an invariant of a type whose fields are not all private")
             }
             _ => Ok(()),
         }

@@ -52,10 +52,11 @@ impl Package {
             let sources = files.iter().filter_map(|file| Some((module_path(&folder, file)?, file)));
             // The root of the crate comes first.
             for (path, file) in sources.collect::<BTreeMap<_, _>>() {
+                let folder = if is_for_c && crate_name == "atoi_simd" { TWINS_OF_C } else { TWINS };
+                let twin = Path::new(folder).join(crate_name).with_extension("rs");
+                let file = if path == ["default_engine"] { &twin } else { file };
                 if !is_left_out(crate_name, &path) {
-                    let twin = twin(crate_name, &path, is_for_c);
-                    let source = Source::read(top, twin.as_ref().unwrap_or(file))?;
-                    modules.push(Module::new(crate_name, path, source)?);
+                    modules.push(Module::new(crate_name, path, Source::read(top, file)?)?);
                 }
             }
         }
@@ -114,13 +115,6 @@ fn module_path(folder: &Path, file: &Path) -> Option<Vec<String>> {
     let path: Vec<String> = file.split('/').map(String::from).collect();
     let is_hidden = path.iter().any(|name| name.starts_with('.'));
     (!is_hidden).then(|| if file == "lib" { Vec::new() } else { path })
-}
-
-// Returns the file that stands in place of a module of a crate, if one does.
-fn twin(crate_name: &str, module: &[String], is_for_c: bool) -> Option<PathBuf> {
-    let is_named = matches!(module, [only] if only == "default_engine");
-    let folder = if is_for_c && crate_name == "atoi_simd" { TWINS_OF_C } else { TWINS };
-    is_named.then(|| Path::new(folder).join(crate_name).with_extension("rs"))
 }
 
 // Says whether the package leaves out this module.
