@@ -2,13 +2,9 @@
 //! becomes a test at the start of its function, or is refused.
 
 use crate::modules::{Module, Package};
-use crate::source::Done;
+use crate::source::{Done, Edit, Span};
 use crate::std_names::has;
 use crate::tree::Node;
-use std::collections::BTreeMap;
-
-/// The tests of a module, by the offset of the body that each goes into.
-pub type Tests = BTreeMap<usize, String>;
 
 /// A clause that callers must meet, the names of definitions in it, each with its module, the parameters that it is
 /// about, and what tests it in Rust.
@@ -62,10 +58,10 @@ const UNTESTED: [(&str, &str); 9] = [
 // The crates of which not all public functions are exported.
 const INNER_CRATES: &str = "atoi_core atoi_fast atoi_lanes";
 
-/// Returns the tests of each module. Users can call the functions whose names are `exported`.
-pub fn tests(package: &Package, exported: &[&str]) -> Done<Vec<Tests>> {
+/// Returns the tests that are put into each module. Users can call the functions whose names are `exported`.
+pub fn tests(package: &Package, exported: &[&str]) -> Done<Vec<Vec<Edit>>> {
     let tests = package.modules.iter().map(|module| {
-        let mut finder = Finder { module, exported, tests: Tests::new() };
+        let mut finder = Finder { module, exported, tests: Vec::new() };
         module.items.iter().try_for_each(|item| finder.item(item))?;
         Ok(finder.tests)
     });
@@ -75,7 +71,7 @@ pub fn tests(package: &Package, exported: &[&str]) -> Done<Vec<Tests>> {
 struct Finder<'a> {
     module: &'a Module,
     exported: &'a [&'a str],
-    tests: Tests,
+    tests: Vec<Edit>,
 }
 
 impl Finder<'_> {
@@ -126,7 +122,8 @@ impl Finder<'_> {
             let (Some(known), Some(body)) = (known, body) else {
                 return self.refuse(clause, "a condition that nothing tests in Rust");
             };
-            self.tests.entry(body.span.start).or_default().push_str(known.test);
+            let start = body.span.start + 1;
+            self.tests.push((Span { start, end: start }, known.test.into()));
         }
         Ok(())
     }

@@ -79,15 +79,13 @@ fn may_be_exported(id: Id, exported: &[Id], scopes: &Scopes) -> bool {
 /// them, or call it where its conditions do not hold. It is read by words, as no grammar of ours knows all of Rust:
 /// no comment or text can hide one. A file that it takes in must be a file of Rust in the same folder.
 pub fn check_other(source: &Source) -> Done<()> {
-    for (number, line) in source.text.lines().enumerate() {
+    let is_refused = |line: &str| {
         let has = |word| line.split(|it| !is_part(it)).any(|part| part == word);
-        if has("proved") || has("include") || has("path") && !is_plain_path(line.trim()) {
-            let reason = "`proved`, or a file that is not read here, outside of the facade";
-            let (file, line) = (source.path.clone(), Some(number + 1));
-            return Err(Fault { file, line, reason: reason.into() });
-        }
-    }
-    Ok(())
+        has("proved") || has("include") || has("path") && !is_plain_path(line.trim())
+    };
+    let Some(number) = source.text.lines().position(is_refused) else { return Ok(()) };
+    let reason = "`proved`, or a file that is not read here, outside of the facade";
+    Err(Fault { file: source.path.clone(), line: Some(number + 1), reason: reason.into() })
 }
 
 // Whether a line is `#[path = "NAME.rs"]`.

@@ -51,7 +51,7 @@ pub fn translate(facade: &Source, package: &Package) -> Done<BTreeMap<PathBuf, S
     facade::check(facade, &exports, &scopes)?;
     let exported: Vec<&str> = exports.iter().map(|export| export.name.as_str()).collect();
     let tests = conditions::tests(package, &exported)?;
-    let modules = package.modules.iter().zip(&tests);
+    let modules = package.modules.iter().zip(tests);
     Ok(modules.map(|(module, tests)| (module.rust_file(), rust::print(module, tests))).collect())
 }
 

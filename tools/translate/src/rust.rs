@@ -2,14 +2,13 @@
 //! read is a comment, heads of paths and the signature of `fmt` are replaced, `Drop` and `Model` are left out
 //! of lists, and hints to inline and tests of conditions are put in.
 
-use crate::conditions::Tests;
 use crate::modules::{CRATES, Module};
-use crate::source::Span;
+use crate::source::{Edit, Span};
 use crate::tree::Node;
 
-/// Returns the text of the file that a module becomes.
-pub fn print(module: &Module, tests: &Tests) -> String {
-    let mut printer = Printer { module, tests, edits: Vec::new() };
+/// Returns the text of the file that a module becomes, with the tests of its conditions.
+pub fn print(module: &Module, tests: Vec<Edit>) -> String {
+    let mut printer = Printer { module, edits: tests };
     module.items.iter().for_each(|item| printer.node(item));
     let source = &module.source;
     let mut rust =
@@ -25,9 +24,7 @@ pub fn print(module: &Module, tests: &Tests) -> String {
 
 struct Printer<'a> {
     module: &'a Module,
-    tests: &'a Tests,
-    // What stands in the place of parts of the source.
-    edits: Vec<(Span, String)>,
+    edits: Vec<Edit>,
 }
 
 impl Printer<'_> {
@@ -79,7 +76,9 @@ impl Printer<'_> {
     }
 
     fn function(&mut self, function: &Node) {
-        let Some(body) = function.get("block") else { return };
+        if !function.has("block") {
+            return;
+        }
         // rustc compiles crates apart, and inlines only what has a hint across them.
         if !["inline", "always", "never"].iter().any(|hint| function.has_attribute(hint)) {
             self.insert(function.span.start, "#[inline] ");
@@ -90,9 +89,6 @@ impl Printer<'_> {
             let hints = function.get("notes").into_iter().flat_map(|notes| notes.all("always"));
             let hint = "#[cfg_attr(not(debug_assertions), inline(always))]";
             hints.for_each(|it| self.replace(it.span, hint));
-        }
-        if let Some(test) = self.tests.get(&body.span.start) {
-            self.insert(body.span.start + 1, test);
         }
     }
 

@@ -17,6 +17,9 @@ pub struct Span {
     pub end: usize,
 }
 
+/// What stands in the place of a part.
+pub type Edit = (Span, String);
+
 /// Why a file is refused: a sentence about one of its lines, or about all of it.
 #[derive(Clone, Debug, PartialEq, Eq)]
 pub struct Fault {
