@@ -77,8 +77,11 @@ struct Finder<'a> {
 impl Finder<'_> {
     fn item(&mut self, item: &Node) -> Done<()> {
         let functions = || item.members().iter().filter(|member| member.kind == "function");
+        // All public functions of the other crates are to be exported.
+        let is_inner = has(INNER_CRATES, self.module.crate_name);
+        let is_callable = item.is_public() && (!is_inner || self.exported.contains(&item.name()));
         match item.kind {
-            "function" if self.is_callable(item) => self.test("", item, item.get("block")),
+            "function" if is_callable => self.test("", item, item.get("block")),
             // A test in a provided method would not be in those that replace it.
             "trait" => functions().try_for_each(|method| self.test(item.name(), method, None)),
             "model" => self.model(item),
@@ -97,12 +100,6 @@ impl Finder<'_> {
 
     fn refuse(&self, node: &Node, reason: &str) -> Done<()> {
         Err(self.module.source.fault(node.span, reason))
-    }
-
-    // Whether users may call a function of the module. All public functions of the other crates are to be exported.
-    fn is_callable(&self, item: &Node) -> bool {
-        let is_inner = has(INNER_CRATES, self.module.crate_name);
-        item.is_public() && (!is_inner || self.exported.contains(&item.name()))
     }
 
     // Puts what tests the conditions of a function into its body, if it has one. Its owner, a trait or a type of

@@ -4,7 +4,7 @@ use crate::source::{Done, Source, Span};
 
 // The longer symbols first, of which a shorter one is the start.
 const SYMBOLS: &[&str] =
-    &["..=", "->", "=>", "::", "..", "&&", "||", "==", "!=", "<=", ">=", "+=", "<<", ">>"];
+    &["..=", "->", "=>", "::", "..", "&&", "||", "==", "!=", "<=", ">=", "+=", "<<", ">>", "/*"];
 
 // Comments, escapes and quotations of Rattle, which could hide a brace or an end.
 const HIDING: &[&str] = &["--", "{-", "-}", "//", "/*", "*/", "\\", "«", "'\"", "'{", "'}"];
@@ -39,10 +39,9 @@ pub fn token(rest: &str) -> &str {
     let name = name_length(rest);
     let length = match rest.as_bytes() {
         [b'/', b'/', ..] => line_length(rest),
-        [b'/', b'*', ..] => 2,
         [b'"', ..] => quoted_length(rest, 0),
         [b'b', b'"' | b'\'', ..] => quoted_length(rest, 1),
-        [b'\'', ..] if name_length(&rest[1..]) > 0 => 1 + name_length(&rest[1..]),
+        [b'\'', ..] => 1 + name_length(&rest[1..]),
         _ if name > 0 => name,
         _ => SYMBOLS.iter().find(|it| rest.starts_with(**it)).map_or(0, |it| it.len()),
     };

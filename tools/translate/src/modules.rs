@@ -49,15 +49,16 @@ impl Package {
         for crate_name in CRATES {
             let folder = Path::new("crates").join(crate_name).join("src");
             let files = files_in(top, &folder)?;
+            let is_left_out =
+                |path: &[String]| crate_name == LEFT_OUT.0 && has(LEFT_OUT.1, &path[0]);
             let sources = files.iter().filter_map(|file| Some((module_path(&folder, file)?, file)));
+            let sources = sources.filter(|(path, _)| path.is_empty() || !is_left_out(path));
             // The root of the crate comes first.
             for (path, file) in sources.collect::<BTreeMap<_, _>>() {
                 let folder = if is_for_c && crate_name == "atoi_simd" { TWINS_OF_C } else { TWINS };
                 let twin = Path::new(folder).join(crate_name).with_extension("rs");
                 let file = if path == ["default_engine"] { &twin } else { file };
-                if !is_left_out(crate_name, &path) {
-                    modules.push(Module::new(crate_name, path, Source::read(top, file)?)?);
-                }
+                modules.push(Module::new(crate_name, path, Source::read(top, file)?)?);
             }
         }
         Ok(Package { modules })
@@ -115,12 +116,6 @@ fn module_path(folder: &Path, file: &Path) -> Option<Vec<String>> {
     let path: Vec<String> = file.split('/').map(String::from).collect();
     let is_hidden = path.iter().any(|name| name.starts_with('.'));
     (!is_hidden).then(|| if file == "lib" { Vec::new() } else { path })
-}
-
-// Says whether the package leaves out this module.
-fn is_left_out(crate_name: &str, module: &[String]) -> bool {
-    let (owner, modules) = LEFT_OUT;
-    crate_name == owner && module.first().is_some_and(|first| has(modules, first))
 }
 
 // Whether an item of the root of a crate declares one of these modules, or imports from them alone.
