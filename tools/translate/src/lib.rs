@@ -88,9 +88,9 @@ pub fn write(top: &Path) -> Done<()> {
 fn check_others(top: &Path) -> Done<()> {
     let files = files_in(top, Path::new(PACKAGE))?;
     let is_other = |file: &&PathBuf| {
-        let is_hidden = file.to_string_lossy().contains("/.");
-        let is_rust = file.extension().is_some_and(|extension| extension == "rs");
-        is_rust && !is_hidden && !file.starts_with(PROVED) && *file != Path::new(FACADE)
+        let name = file.to_string_lossy();
+        let is_rust = name.ends_with(".rs") && !name.contains("/.");
+        is_rust && !file.starts_with(PROVED) && name != FACADE
     };
     files.iter().filter(is_other).try_for_each(|it| facade::check_other(&Source::read(top, it)?))
 }

@@ -3,7 +3,7 @@
 
 use crate::modules::{CRATES, Module, Package};
 use crate::source::{Done, Fault, Span};
-use crate::std_names;
+use crate::std_names::{self, has};
 use crate::tree::{Node, texts};
 use std::collections::BTreeMap;
 
@@ -90,7 +90,7 @@ impl<'a> Scopes<'a> {
         let (names, last) = (texts(path), path[path.len() - 1]);
         let path = names.join("::");
         let found = match names[0] {
-            "std" => std_names::is_known(&path).then(|| foreign(&names)),
+            "std" => has(std_names::PATHS, &path).then(|| foreign(&names)),
             name if name == "crate" || CRATES.contains(&name) => {
                 let found = self.resolve(module, &names);
                 found.filter(|it| it.used == names.len()).map(|it| it.definition)
@@ -123,7 +123,7 @@ impl<'a> Scopes<'a> {
                     let variant = variants.position(|it| it.name() == *name);
                     variant.map(|variant| Definition::Variant(*id, variant))
                 }
-                Definition::Foreign(path) if std_names::is_known(&format!("{path}::{name}")) => {
+                Definition::Foreign(path) if has(std_names::PATHS, &format!("{path}::{name}")) => {
                     Some(foreign(&[path, name]))
                 }
                 Definition::Foreign(_) | Definition::Variant(..) => None,

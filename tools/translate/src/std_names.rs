@@ -11,7 +11,7 @@ const BUILT_IN: &str = "bool str Clone Copy Debug Eq Iterator Ord PartialEq Part
     Result Ok Err u8x16 u16x8 u64x2";
 
 /// Paths of `std`. Rust's `core` stands for it.
-const PATHS: &str = "std::cmp::Ordering std::error::Error std::fmt std::fmt::Display std::fmt::Result \
+pub const PATHS: &str = "std::cmp::Ordering std::error::Error std::fmt std::fmt::Display std::fmt::Result \
     std::iter::FusedIterator std::marker::PhantomData std::num::IntErrorKind \
     std::num::IntErrorKind::Empty std::num::IntErrorKind::InvalidDigit \
     std::num::IntErrorKind::NegOverflow std::num::IntErrorKind::PosOverflow std::simd::prelude::* std::str::from_utf8";
@@ -40,11 +40,6 @@ pub const METHODS: &str = "len is_empty as_bytes iter first first_chunk last_chu
 /// Says whether a name is built in.
 pub fn is_built_in(name: &str) -> bool {
     INTEGERS.contains(&name) || has(BUILT_IN, name)
-}
-
-/// Says whether a path of `std` is known.
-pub fn is_known(path: &str) -> bool {
-    has(PATHS, path)
 }
 
 /// Says whether a name is in a list.
