@@ -76,13 +76,9 @@ impl<'a> Scopes<'a> {
     }
 
     fn declare(&mut self, module: usize, name: &str, at: Span, what: Definition) -> Done<()> {
-        match self.modules[module].insert(name.into(), what) {
-            None => Ok(()),
-            Some(_) => {
-                let reason = format!("a second item by the name `{name}`");
-                Err(self.module(module).source.fault(at, reason))
-            }
-        }
+        let second = self.modules[module].insert(name.into(), what);
+        let reason = format!("a second item by the name `{name}`");
+        second.map_or(Ok(()), |_| Err(self.module(module).source.fault(at, reason)))
     }
 
     // Adds what a path of a `use` imports to the names of a module.
@@ -97,10 +93,8 @@ impl<'a> Scopes<'a> {
             }
             _ => None,
         };
-        let unknown = || {
-            let reason = format!("`{path}` is not known here");
-            self.module(module).source.fault(last.span, reason)
-        };
+        let source = &self.module(module).source;
+        let unknown = || source.fault(last.span, format!("`{path}` is not known here"));
         let name = &item.get("renamed").map_or(last, Node::last).text;
         self.declare(module, name, last.span, found.ok_or_else(unknown)?)
     }
