@@ -66,8 +66,8 @@ impl<'a> Names<'a> {
     // Checks the names in something.
     fn node(&mut self, node: &'a Node) -> Done<()> {
         match node.kind {
-            "use" => node.imports().iter().try_for_each(|it| self.import(node, it))?,
-            "declaration" | "function" => self.declare(node, false)?,
+            "use" => node.imports().iter().try_for_each(|path| self.import(path))?,
+            "declaration" | "function" | "renamed" => self.declare(node, false)?,
             "constant" | "alias" | "struct" | "enum" | "variant" | "trait" => {
                 self.declare(node, true)?;
             }
@@ -96,13 +96,10 @@ impl<'a> Names<'a> {
         Ok(())
     }
 
-    // Refuses an import that hides what is built in. Only crates get other names.
-    fn import(&self, item: &Node, path: &[&Node]) -> Done<()> {
-        let last = path[path.len() - 1];
-        match item.get("renamed") {
-            Some(renamed) => self.declare(renamed, false),
-            None => self.assert(!std_names::is_built_in(&last.text), last.span),
-        }
+    // Refuses an import that hides what is built in.
+    fn import(&self, path: &[&Node]) -> Done<()> {
+        let Node { text, span, .. } = path[path.len() - 1];
+        self.assert(!std_names::is_built_in(text), *span)
     }
 
     // Refuses what has a name that hides another, or looks like one of another kind. Patterns are read by the case of
