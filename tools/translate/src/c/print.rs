@@ -69,7 +69,7 @@ impl<'a> Printer<'a> {
         let (world, id) = (self.world, function.key.id);
         let head = wrapped(&self.head(function, qualifier)?);
         self.statement(&function.body)?;
-        let source = world.source(id);
+        let source = &world.module(id).source;
         let place = format!("{}:{}", source.path.display(), source.line(world.item(id).span));
         // A function is explained once.
         let is_new = self.known.insert(place.clone(), String::new()).is_none();

@@ -4,7 +4,7 @@ use super::ir::{Bindings, Done, Form, Id, Instance, Integer, Type};
 use crate::lexer::number;
 use crate::modules::Module;
 use crate::resolve::{Definition, Scopes};
-use crate::source::{Fault, Source, Span};
+use crate::source::{Fault, Span};
 use crate::std_names::INTEGERS;
 use crate::tree::Node;
 
@@ -52,17 +52,8 @@ impl<'a> World<'a> {
         self.scopes.module(id.module)
     }
 
-    pub fn source(&self, id: Id) -> &'a Source {
-        &self.module(id).source
-    }
-
-    /// Returns the item that holds a member, or the item itself.
-    pub fn owner(&self, id: Id) -> &'a Node {
-        self.scopes.item(id)
-    }
-
     pub fn item(&self, id: Id) -> &'a Node {
-        let owner = self.owner(id);
+        let owner = self.scopes.item(id);
         id.member.map_or(owner, |member| &owner.members()[member])
     }
 
@@ -73,16 +64,16 @@ impl<'a> World<'a> {
 
     /// Returns the place in an item: what it and its owner declare, and what is known of that.
     pub fn place(&self, id: Id, known: &Bindings) -> Done<Instance> {
-        let own = Id { member: None, ..id };
+        let (own, owner) = (Id { member: None, ..id }, self.scopes.item(id));
         let mut names = [self.parameters(own), self.parameters(id)].concat();
-        if self.owner(id).kind == "trait" {
+        if owner.kind == "trait" {
             names.push("Self".into());
         }
         let open = names.into_iter().map(|name| (name.clone(), Type::Parameter(name)));
         let mut place = Instance { id, bindings: open.collect() };
         place.bindings.extend(known.clone());
-        if self.owner(id).kind == "implementation" {
-            let target = self.type_in(&place, self.owner(id).target())?;
+        if owner.kind == "implementation" {
+            let target = self.type_in(&place, owner.target())?;
             place.bindings.insert("Self".into(), target);
         }
         Ok(place)
@@ -241,7 +232,7 @@ impl<'a> World<'a> {
     }
 
     pub fn fault(&self, id: Id, span: Span, reason: impl Into<String>) -> Fault {
-        self.source(id).fault(span, reason)
+        self.module(id).source.fault(span, reason)
     }
 }
 
