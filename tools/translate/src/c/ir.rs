@@ -265,10 +265,8 @@ impl Term {
 
     /// Says whether evaluating it changes something.
     pub fn has_effect(&self) -> bool {
-        self.any(&|term| match &term.kind {
-            Kind::Call(_) => term.parts.iter().any(|it| it.of.can_write()),
-            _ => false,
-        })
+        let writes = |it: &Term| it.parts.iter().any(|part| part.of.can_write());
+        self.any(&|it| matches!(it.kind, Kind::Call(_)) && writes(it))
     }
 
     /// Returns the number that this is.

@@ -98,8 +98,10 @@ pub fn print(world: &World, roots: &str, types: &str, is_checked: bool) -> Done<
         }
     }
     let reached = |list: &str, is_end: &dyn Fn(&Function) -> bool| {
+        let (mut found, mut seen) = (Vec::new(), BTreeSet::new());
         let keys = keys.iter().filter(|(_, path)| has(list, path));
-        instances.reached(keys.map(|(key, _)| key), is_end)
+        keys.for_each(|(key, _)| instances.reach(key, is_end, &mut found, &mut seen));
+        (found, seen)
     };
     let is_far = |it: &Function| matches!(qualifier(world, it), "TK_NOINLINE" | "TK_COLD");
     let (functions, _) = reached(roots, &|_| false);

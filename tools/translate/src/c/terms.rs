@@ -267,7 +267,9 @@ fn binary(printer: &mut Printer, operator: &str, term: &Term, mut texts: Vec<Tex
     if printer.is_checked && !own.is_signed() {
         return Ok(call(format!("tk_{}_{}", own.name(), known(operator).1), &texts));
     }
-    Ok(narrow(own, joined(operator, &texts)))
+    // C computes with `int` where a type has fewer bits.
+    let text = joined(operator, &texts);
+    Ok(if own.bits() < 32 { cast_to(own, &text) } else { text })
 }
 
 // An operator on 128 bits, as a call: not all compilers have such numbers.
@@ -294,9 +296,4 @@ fn joined(sign: &str, texts: &[Text]) -> Text {
     };
     let (left, right) = (side(&texts[0], level, true), side(&texts[1], level + 1, false));
     Text::new(format!("{left} {sign} {right}"), level)
-}
-
-// C computes with `int` where a type has fewer bits.
-fn narrow(own: Integer, text: Text) -> Text {
-    if own.bits() < 32 { cast_to(own, &text) } else { text }
 }

@@ -195,17 +195,11 @@ impl Printer<'_> {
     // Returns the text of the function that makes values of a variant. It sets all members.
     fn maker(&mut self, name: &str, shape: &Shape, members: &[Member]) -> Done<String> {
         let own: Vec<&Member> = shape.fields.iter().flatten().collect();
-        let mut parameters = Vec::new();
-        for (member, of) in &own {
-            parameters.push(declared(&self.name(of)?, member));
-        }
+        let parameters = own.iter().map(|(name, of)| Ok(declared(&self.name(of)?, name)));
+        let parameters = parameters.collect::<Done<Vec<String>>>()?;
         let mut values: Vec<String> = shape.tag.iter().map(|it| it.1.clone()).collect();
-        for member in members {
-            values.push(if own.contains(&member) {
-                member.0.clone()
-            } else {
-                self.zero(&member.1)?
-            });
+        for member @ (name, of) in members {
+            values.push(if own.contains(&member) { name.clone() } else { self.zero(of)? });
         }
         let parameters = if parameters.is_empty() { "void".into() } else { parameters.join(", ") };
         let head = text::wrapped(&format!("TK_CONSTEXPR {name} {}({parameters})", shape.maker));

@@ -66,19 +66,9 @@ impl<'w> Instances<'w> {
         if let Some(Attempt::Made(function)) = self.tried.get(key) { Some(function) } else { None }
     }
 
-    /// Returns functions and those that they call, each behind those that it calls, and their set. What ends calls is
-    /// not looked into.
-    pub fn reached<'s>(
-        &'s self,
-        keys: impl Iterator<Item = &'s Instance>,
-        is_end: &dyn Fn(&Function) -> bool,
-    ) -> (Vec<&'s Function>, BTreeSet<Instance>) {
-        let (mut found, mut seen) = (Vec::new(), BTreeSet::new());
-        keys.for_each(|key| self.visit(key, is_end, &mut found, &mut seen));
-        (found, seen)
-    }
-
-    fn visit<'s>(
+    /// Finds a function and those that it calls, each behind those that it calls, but none that was seen. What ends
+    /// calls is not looked into.
+    pub fn reach<'s>(
         &'s self,
         key: &Instance,
         is_end: &dyn Fn(&Function) -> bool,
@@ -87,18 +77,15 @@ impl<'w> Instances<'w> {
     ) {
         let Some(function) = self.get(key).filter(|_| seen.insert(key.clone())) else { return };
         let inner = if is_end(function) { Vec::new() } else { called(function) };
-        inner.iter().for_each(|key| self.visit(key, is_end, found, seen));
+        inner.iter().for_each(|key| self.reach(key, is_end, found, seen));
         found.push(function);
     }
 }
 
 /// Returns the functions that a function calls.
 pub fn called(function: &Function) -> Vec<Instance> {
-    let callees = function.body.kinds().into_iter().filter_map(|kind| match kind {
-        Kind::Call(callee) => Some(callee.clone()),
-        _ => None,
-    });
-    callees.collect()
+    let callee = |it: &Kind| if let Kind::Call(callee) = it { Some(callee.clone()) } else { None };
+    function.body.kinds().into_iter().filter_map(callee).collect()
 }
 
 struct Lowering<'w, 'i> {

@@ -38,11 +38,9 @@ impl Lowering<'_, '_> {
                 self.destructure(pattern, found, tree.get("otherwise").map(Node::last))?;
             }
             ("while" | "loop", [condition @ .., body]) => {
-                let condition = match condition {
-                    [condition] => {
-                        self.alone("the condition of a loop", condition, &Type::Boolean)?
-                    }
-                    _ => self.boolean(true),
+                let condition = match condition.first() {
+                    Some(it) => self.alone("the condition of a loop", it, &Type::Boolean)?,
+                    None => self.boolean(true),
                 };
                 let (body, _) = self.apart(|it| it.evaluate(body, Target::Nothing))?;
                 self.push(Kind::While, vec![condition, self.block_of(body)]);
