@@ -15,10 +15,8 @@ item            ~ use( visibility 'use' imports ';' ) / ghost_use / model / note
 declared        ~ function / constant / alias / declaration( 'mod' name ';' ) / struct / enum / trait / implementation
 visibility      = ( public( 'pub' !'(' ) / 'pub' '(' 'crate' ')' )?
 notes           = ( COMMENTS ( DOC / attribute ) )* COMMENTS
-attribute       ~ always / hint / derive / tactic
-always          = '#' '[' 'inline' '(' 'always' ')' ']'
-hint            ~ '#' '[' ( never( 'inline' '(' 'never' ')' ) / inline( 'inline' ) / cold( 'cold' ) / hidden ) ']'
-hidden          ~ 'doc' '(' 'hidden' ')'
+attribute       ~ always( '#' '[' 'inline' '(' 'always' ')' ']' ) / '#' '[' hint ']' / derive / tactic
+hint            ~ never( 'inline' '(' 'never' ')' ) / inline( 'inline' ) / cold( 'cold' ) / 'doc' '(' 'hidden' ')'
 derive          = '#' '[' 'derive' '(' derived,* ')' ']'
 derived         ~ @'Clone' / @'Copy' / @'Debug' / @'Drop' / @'Eq' / @'Ord' / @'PartialEq' / @'PartialOrd'
 tactic          = '#' '!'? '[' 'tactic' '(' part_of_tactic,* ')' ']'
@@ -41,8 +39,7 @@ constant        = ( 'const' / 'static' ) name ':' type value( '=' expression )? 
 alias           = 'type' name generics '=' type ';'
 struct          = 'struct' name generics ( ';' / '{' ( ghost.field / field ( ',' / &'}' ) )* '}' )
 field           = notes visibility name ':' type
-enum            = 'enum' name generics '{' variant,* '}'
-variant         = notes name ( '{' field,* '}' / '(' type,* ')' )?
+enum            = 'enum' name generics '{' variant( notes name ( '{' field,* '}' / '(' type,* ')' )? ),* '}'
 trait           = 'trait' name generics ( ':' path.bound( names_of_type ) )? members.trait
 members.trait   = '{' ( ghost.declared( 'ghost' WORD ':' CLAUSE ';' ) / notes <! ( function / constant ) )* '}'
 implementation  = 'impl' generics ( path.trait( names_of_type ) 'for' )? type members
@@ -123,8 +120,7 @@ arguments.value = ( '::' '<' argument,* ^'>' )?
 literal         ~ INTEGER !( '.' INTEGER ) / BYTE / TEXT / boolean( 'true' / 'false' )
 
 block_like      ~ if / match / while / loop( 'loop' block ) / for / block
-if              = 'if' PLAIN ( let.condition / expression ) block ( 'else' ( if / block ) )?
-let.condition   = 'let' pattern '=' comparison
+if              = 'if' PLAIN ( let( 'let' pattern '=' comparison ) / expression ) block ( 'else' ( if / block ) )?
 match           = 'match' PLAIN expression '{' arm* '}'
 arm             = COMMENTS pattern guard( 'if' expression )? '=>' ( ended_block ','? / expression ( ',' / &'}' ) )
 while           = 'while' PLAIN expression block
@@ -137,8 +133,7 @@ ended_block     ~ block_like !'.' !'?'
 let             = 'let' pattern annotation( ':' type )? '=' expression otherwise( 'else' block )? ';'
 done            = ';'
 
-facade          = ( notices <! ( proved / outer / ignored / export ) )* END
-proved          = 'mod' 'proved' '{' inner_item* '}'
+facade          = ( notices <! ( proved( 'mod' 'proved' '{' inner_item* '}' ) / outer / ignored / export ) )* END
 outer           = 'pub'? 'mod' !'proved' name ( ';' / '{' inner_item* '}' )
 inner_item      ~ notices <! ( outer / export )
 notices         = ( DOC / '#' '!' '[' known ']' / notice( '#' '[' known ']' ) )*
