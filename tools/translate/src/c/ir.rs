@@ -82,7 +82,7 @@ pub enum Kind {
     // Statements, which have the type of an empty tuple.
     Block,
     Comment(Vec<String>),
-    // A variable gets a value, or none yet.
+    // A variable gets its value.
     Declare(usize),
     Assign,
     // Its condition, and what runs if it holds, or else.

@@ -134,7 +134,7 @@ impl<'a> Printer<'a> {
                 let lines = lines.iter().map(String::as_str).collect();
                 self.lines += &comment(lines, &"    ".repeat(self.scopes.len() - 1));
             }
-            Kind::Declare(local) => self.declare(*local, parts.first())?,
+            Kind::Declare(local) => self.declare(*local, &parts[0])?,
             Kind::Assign => self.assign(&parts[0], &parts[1])?,
             Kind::If => {
                 self.with_term("if (", &parts[0], ") {")?;
@@ -166,14 +166,13 @@ impl<'a> Printer<'a> {
         Ok(())
     }
 
-    fn declare(&mut self, local: usize, value: Option<&Term>) -> Done<()> {
+    fn declare(&mut self, local: usize, value: &Term) -> Done<()> {
         let of = self.locals[local].of.clone();
-        let is_array = value.is_some_and(|it| it.kind == Kind::Elements);
+        let is_array = value.kind == Kind::Elements;
         // The value may name what the variable hides.
-        let text = match value {
-            None => String::new(),
-            Some(value) if is_array => format!(" = {}", terms::initializer(self, value)?),
-            Some(value) => format!(" = {}", terms::print(self, value)?.text),
+        let text = match is_array {
+            true => terms::initializer(self, value)?,
+            false => terms::print(self, value)?.text,
         };
         let name = self.name_local(local);
         let declared = match &of {
@@ -182,7 +181,7 @@ impl<'a> Printer<'a> {
             }
             of => declared(&self.name(of)?, &name),
         };
-        self.line(&format!("{declared}{text};"));
+        self.line(&format!("{declared} = {text};"));
         Ok(())
     }
 

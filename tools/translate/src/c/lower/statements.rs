@@ -1,4 +1,4 @@
-//! Statements: blocks, variables, loops, assignments, and branches, which end in statements, a choice, or a variable.
+//! Statements: blocks, variables, loops, assignments, and branches, which end in statements or a choice.
 
 use super::patterns::Fit;
 use super::*;
@@ -180,21 +180,13 @@ impl Lowering<'_, '_> {
         for branch in &mut branches {
             branch.value = self.coerce(branch.value.clone(), &of)?;
         }
-        if branches.len() <= 3 && branches.iter().all(|it| it.statements.is_empty()) {
-            let values = branches.into_iter().rev().map(|it| (it.test, it.value));
-            let choice = values.reduce(|(always, other), (test, value)| {
-                (always, self.make(Kind::Choice, vec![test, value, other], of.clone()))
-            });
-            return self.expect(choice.map(|(_, choice)| choice), "no value");
-        }
-        let local = self.variable("chosen", of.clone(), false);
-        self.push(Kind::Declare(local), Vec::new());
-        for branch in &mut branches {
-            let parts = vec![self.local(local), branch.value.clone()];
-            branch.statements.push(self.make(Kind::Assign, parts, Type::UNIT));
-        }
-        self.push_branches(branches);
-        Ok(self.local(local))
+        let is_choice = branches.iter().all(|it| it.statements.is_empty());
+        self.require(is_choice, "statements or comments in a chosen value")?;
+        let values = branches.into_iter().rev().map(|it| (it.test, it.value));
+        let choice = values.reduce(|(always, other), (test, value)| {
+            (always, self.make(Kind::Choice, vec![test, value, other], of.clone()))
+        });
+        self.expect(choice.map(|(_, choice)| choice), "no value")
     }
 
     // Puts branches into the current statements, as a chain of `if`.
