@@ -133,8 +133,9 @@ pub const ERR: usize = 1;
 pub const BYTES: usize = 0;
 pub const LENGTH: usize = 1;
 
-/// Comparisons of which one holds.
-const OPPOSITES: [[&str; 2]; 3] = [["==", "!="], ["<", ">="], [">", "<="]];
+/// Comparisons, and what holds where they do not.
+const OPPOSITES: [(&str, &str); 6] =
+    [("==", "!="), ("!=", "=="), ("<", ">="), (">=", "<"), (">", "<="), ("<=", ">")];
 
 impl Integer {
     pub fn bits(self) -> u32 {
@@ -277,13 +278,10 @@ impl Term {
     /// Returns the opposite of a condition.
     pub fn negated(mut self) -> Term {
         let span = self.span;
-        let is_one =
-            |pair: &&[&'static str; 2]| pair.iter().any(|it| self.kind == Kind::Binary(it));
-        self.kind = match (&self.kind, OPPOSITES.iter().find(is_one)) {
+        let opposite = OPPOSITES.iter().find(|it| self.kind == Kind::Binary(it.0));
+        self.kind = match (&self.kind, opposite) {
             (Kind::Boolean(value), _) => Kind::Boolean(!value),
-            (Kind::Binary(sign), Some([one, other])) => {
-                Kind::Binary(if sign == one { other } else { one })
-            }
+            (_, Some((_, opposite))) => Kind::Binary(opposite),
             _ => return Term { kind: Kind::Not, parts: vec![self], of: Type::Boolean, span },
         };
         self
