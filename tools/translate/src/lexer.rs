@@ -3,8 +3,7 @@
 use crate::source::{Done, Source, Span};
 
 // The longer symbols first, of which a shorter one is the start.
-const SYMBOLS: &[&str] =
-    &["..=", "->", "=>", "::", "..", "&&", "||", "==", "!=", "<=", ">=", "+=", "<<", ">>", "/*"];
+const SYMBOLS: &str = "..= -> => :: .. && || == != <= >= += << >> /*";
 
 // Comments, escapes and quotations of Rattle, which could hide a brace or an end.
 const HIDING: &[&str] = &["--", "{-", "-}", "//", "/*", "*/", "\\", "«", "'\"", "'{", "'}"];
@@ -43,7 +42,7 @@ pub fn token(rest: &str) -> &str {
         [b'b', b'"' | b'\'', ..] => quoted_length(rest, 1),
         [b'\'', ..] => 1 + name_length(&rest[1..]),
         _ if name > 0 => name,
-        _ => SYMBOLS.iter().find(|it| rest.starts_with(**it)).map_or(0, |it| it.len()),
+        _ => SYMBOLS.split(' ').find(|it| rest.starts_with(it)).map_or(0, str::len),
     };
     let first = rest.chars().next().map_or(0, char::len_utf8);
     &rest[..length.max(first)]

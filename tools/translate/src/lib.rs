@@ -64,9 +64,8 @@ pub fn compare(top: &Path) -> Done<(usize, BTreeMap<PathBuf, Option<String>>)> {
         differ.extend(files_in(top, Path::new(PROVED))?.into_iter().map(|file| (file, None)));
     }
     differ.extend(made.into_iter().map(|(file, text)| (file, Some(text))));
-    let holds =
-        |file: &Path, text: &str| fs::read(top.join(file)).is_ok_and(|it| it == text.as_bytes());
-    differ.retain(|file, text| text.as_ref().is_none_or(|text| !holds(file, text)));
+    let held = |file: &Path| fs::read_to_string(top.join(file)).ok();
+    differ.retain(|file, text| text.is_none() || *text != held(file));
     Ok((number, differ))
 }
 

@@ -49,10 +49,10 @@ impl Package {
         for crate_name in CRATES {
             let folder = Path::new("crates").join(crate_name).join("src");
             let files = files_in(top, &folder)?;
-            let is_left_out =
-                |path: &[String]| crate_name == LEFT_OUT.0 && has(LEFT_OUT.1, &path[0]);
+            let is_left_out = |name: &str| crate_name == LEFT_OUT.0 && has(LEFT_OUT.1, name);
             let sources = files.iter().filter_map(|file| Some((module_path(&folder, file)?, file)));
-            let sources = sources.filter(|(path, _)| path.is_empty() || !is_left_out(path));
+            let sources =
+                sources.filter(|(path, _)| path.first().is_none_or(|it| !is_left_out(it)));
             // The root of the crate comes first.
             for (path, file) in sources.collect::<BTreeMap<_, _>>() {
                 let folder = if is_for_c && crate_name == "atoi_simd" { TWINS_OF_C } else { TWINS };

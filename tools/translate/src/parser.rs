@@ -18,9 +18,8 @@ const KEYWORDS: &str = "_ as async await break const continue crate dyn else enu
 /// Reads all of a source by a rule, and returns the parts of its node.
 pub fn parse(source: &Source, rule: &str) -> Done<Vec<Node>> {
     check_characters(source)?;
-    let first = place(source, 0);
-    let mut parser =
-        Parser { source, at: first, is_plain: false, furthest: first, nodes: Vec::new() };
+    let at = place(source, 0);
+    let mut parser = Parser { source, at, is_plain: false, furthest: at, nodes: Vec::new() };
     if parser.form(&RULES[rule]) {
         return Ok(parser.nodes.remove(0).parts);
     }

@@ -29,9 +29,8 @@ fn each_planted_condition_is_refused_where_users_call() {
     for number in 0..package.modules.len() {
         let source = package.modules[number].source.clone();
         let functions = functions(&package.modules[number], &exported);
-        let lines = source.text.lines().map(|line| line.trim_start());
-        let lines =
-            lines.map(|line| line.trim_start_matches("pub ").trim_start_matches("pub(crate) "));
+        let lines = source.text.lines().map(|line| line.trim_start().trim_start_matches("pub "));
+        let lines = lines.map(|line| line.trim_start_matches("pub(crate) "));
         assert_eq!(lines.filter(|line| line.starts_with("fn ")).count(), functions.len());
         for (end, is_callable) in functions {
             let (head, tail) = source.text.split_at(end);

@@ -76,9 +76,8 @@ pub fn made(top: &Path, is_checked: bool) -> Done<[(&'static str, String); 2]> {
         .filter_map(|line| line.trim_start_matches('#').trim().strip_prefix("define TK_"));
     let names: BTreeSet<&str> = names.filter_map(|it| it.split(['(', ' ']).next()).collect();
     let forgotten: String = names.iter().map(|name| format!("#undef TK_{name}\n")).collect();
-    let header = part("torkettle.h")?
-        .replace("/* @proved */\n", &inline)
-        .replace("/* @forget */\n", &forgotten);
+    let header = part("torkettle.h")?.replace("/* @proved */\n", &inline);
+    let header = header.replace("/* @forget */\n", &forgotten);
     let source = part("torkettle.c")?.replace("/* @proved */\n", &rest);
     Ok([
         ("c/include/torkettle.h", HEAD.to_owned() + &header),

@@ -22,9 +22,8 @@ pub fn print(printer: &mut Printer, term: &Term) -> Done<Text> {
         Kind::Byte(byte) => character(*byte),
         Kind::Boolean(value) => Text::atom(value.to_string()),
         Kind::Text(bytes) => {
-            let is_plain =
-                bytes.iter().all(|it| matches!(it, b' '..=b'~') && !b"\"\\?".contains(it));
-            let text = String::from_utf8(bytes.clone()).ok().filter(|_| is_plain);
+            let is_plain = |it: char| matches!(it, ' '..='~') && !"\"\\?".contains(it);
+            let text = String::from_utf8(bytes.clone()).ok().filter(|it| it.chars().all(is_plain));
             let text = text.ok_or_else(|| refuse(printer, term, "a text"))?;
             Text::atom(format!("TK_TEXT(\"{text}\")"))
         }

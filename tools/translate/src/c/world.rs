@@ -5,7 +5,7 @@ use crate::lexer::number;
 use crate::modules::Module;
 use crate::resolve::{Definition, Scopes};
 use crate::source::{Fault, Span};
-use crate::std_names::INTEGERS;
+use crate::std_names::{INTEGERS, has};
 use crate::tree::Node;
 
 pub struct World<'a> {
@@ -173,8 +173,7 @@ impl<'a> World<'a> {
 
     // Returns the fields of a struct or a variant. Without names, they are called `0`, `1` and so on.
     fn variant(&self, place: &Instance, name: &str, tree: &Node) -> Done<Variant> {
-        let is_field =
-            |it: &&Node| ["field", "path", "reference", "tuple", "list"].contains(&it.kind);
+        let is_field = |it: &&Node| has("field path reference tuple list", it.kind);
         let field = |(number, it): (usize, &Node)| match it.kind {
             "field" => Ok((it.name().to_string(), self.type_in(place, it.last())?)),
             _ => Ok((number.to_string(), self.type_in(place, it)?)),

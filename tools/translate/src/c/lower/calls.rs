@@ -65,8 +65,7 @@ impl Lowering<'_, '_> {
     /// Evaluates a path: a variable, a constant or a variant without fields.
     pub fn path(&mut self, path: &Node) -> Done<Term> {
         let names = path.names();
-        let variable = self.names.iter().rev().find(|(name, _)| names == [name]);
-        if let Some((_, value)) = variable {
+        if let Some((_, value)) = self.names.iter().rev().find(|(name, _)| names == [name]) {
             return Ok(value.clone());
         }
         match self.named(path)? {

@@ -155,13 +155,13 @@ pub fn signature(world: &World, callee: &Instance) -> Done<(Vec<Type>, Type)> {
     if tree.kind != "function" {
         return Err(world.fault_of(callee.id, "no function"));
     }
-    let parameters =
+    let types =
         parameters_of(tree).map(|it| match (it.kind, it.has("shared"), it.has("mutable")) {
             ("receiver", true, true) => Ok(Type::pointer(place.bindings["Self"].clone())),
             ("receiver", ..) => Ok(place.bindings["Self"].clone()),
             _ => world.type_in(&place, it.last()),
         });
-    let types = parameters.collect::<Done<Vec<Type>>>()?;
+    let types = types.collect::<Done<Vec<Type>>>()?;
     let output = tree.get("output").map(|it| world.type_in(&place, it.last())).transpose()?;
     Ok((types, output.unwrap_or(Type::UNIT)))
 }

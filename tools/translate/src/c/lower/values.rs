@@ -158,9 +158,8 @@ impl Lowering<'_, '_> {
         let fields = self.fields_of(&of, PLAIN)?;
         let named = given.iter().filter(|it| it.kind == "given");
         // A variable may have the name of the field.
-        let name =
-            |it: &'t Node| if it.parts.len() == 1 { it.last().names()[0] } else { it.name() };
-        let names: Vec<&str> = named.map(name).collect();
+        let owner = |it: &'t Node| if it.has("name") { it } else { &it.last().parts[0] };
+        let names: Vec<&str> = named.map(|it| owner(it).name()).collect();
         let is_field = |name: &&str| fields.iter().any(|(own, _)| own == name);
         self.require(names.iter().all(is_field), "no such field")?;
         let values = given.iter().map(|it| if it.kind == "given" { it.last() } else { it });
