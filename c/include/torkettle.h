@@ -531,21 +531,10 @@ TK_CONSTEXPR tk_u128 tk_u128_add(tk_u128 a, tk_u128 b)
     return tk_u128_wrapping_add(a, b);
 }
 
-TK_CONSTEXPR tk_u128 tk_u128_sub(tk_u128 a, tk_u128 b)
-{
-    TORKETTLE_CHECK(!tk_u128_less(a, b));
-    return tk_u128_wrapping_sub(a, b);
-}
-
 TK_CONSTEXPR tk_u128 tk_u128_mul(tk_u128 a, tk_u128 b)
 {
     TORKETTLE_CHECK(tk_u128_product_fits(a, b));
     return tk_u128_wrapping_mul(a, b);
-}
-
-TK_CONSTEXPR tk_u128 tk_u128_saturating_sub(tk_u128 a, tk_u128 b)
-{
-    return tk_u128_less(a, b) ? tk_u128_of(0) : tk_u128_wrapping_sub(a, b);
 }
 
 TK_CONSTEXPR uint64_t tk_u128_high(tk_u128 value) { return tk_u128_low(tk_u128_shift_right(value, 64)); }
