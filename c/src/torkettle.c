@@ -9399,6 +9399,17 @@ const char *torkettle_version(void) TORKETTLE_NOEXCEPT { return TORKETTLE_VERSIO
 #define TK_PLUS ((flags & TORKETTLE_SKIP_PLUS) != 0)
 #define TK_BOTH (TORKETTLE_SKIP_ZEROES | TORKETTLE_SKIP_PLUS)
 
+/* The error of a parse, which returns this result. */
+#define TK_ERROR_OF(function, result, parse)                                                                           \
+    torkettle_error function(const char *text, size_t length, unsigned flags) TORKETTLE_NOEXCEPT                       \
+    {                                                                                                                  \
+        tk_bytes bytes = tk_text(text, length);                                                                        \
+        result found = parse(bytes, TK_ZEROES, TK_PLUS);                                                               \
+        if (found.is_ok)                                                                                               \
+            return TK_MAKE(torkettle_error, TORKETTLE_OK, 0, 0, 0, 0, 0);                                              \
+        return tk_explained(found.error, bytes);                                                                       \
+    }
+
 /* What columns and fields have in common. */
 #define TK_LEFT(all)                                                                                                   \
     ((all)->is_lines ? tk_fields_lines(tk_text((all)->rest, (all)->rest_length))                                       \
@@ -9499,23 +9510,8 @@ const char *torkettle_version(void) TORKETTLE_NOEXCEPT { return TORKETTLE_VERSIO
         return TORKETTLE_OK;                                                                                           \
     }                                                                                                                  \
                                                                                                                        \
-    torkettle_error torkettle_parse_error_##name(const char *text, size_t length, unsigned flags) TORKETTLE_NOEXCEPT   \
-    {                                                                                                                  \
-        tk_bytes bytes = tk_text(text, length);                                                                        \
-        tk_result_##name found = tk_atoi_simd_parse_##name(bytes, TK_ZEROES, TK_PLUS);                                 \
-        if (found.is_ok)                                                                                               \
-            return TK_MAKE(torkettle_error, TORKETTLE_OK, 0, 0, 0, 0, 0);                                              \
-        return tk_explained(found.error, bytes);                                                                       \
-    }                                                                                                                  \
-    torkettle_error torkettle_parse_prefix_error_##name(const char *text, size_t length, unsigned flags)               \
-        TORKETTLE_NOEXCEPT                                                                                             \
-    {                                                                                                                  \
-        tk_bytes bytes = tk_text(text, length);                                                                        \
-        tk_result_pair_##name##_size found = tk_atoi_simd_parse_prefix_##name(bytes, TK_ZEROES, TK_PLUS);              \
-        if (found.is_ok)                                                                                               \
-            return TK_MAKE(torkettle_error, TORKETTLE_OK, 0, 0, 0, 0, 0);                                              \
-        return tk_explained(found.error, bytes);                                                                       \
-    }                                                                                                                  \
+    TK_ERROR_OF(torkettle_parse_error_##name, tk_result_##name, tk_atoi_simd_parse_##name)                             \
+    TK_ERROR_OF(torkettle_parse_prefix_error_##name, tk_result_pair_##name##_size, tk_atoi_simd_parse_prefix_##name)   \
                                                                                                                        \
     TK_COLD void tk_refuse_field_##name(torkettle_fields_##name *fields, tk_field_error bad)                           \
     {                                                                                                                  \
