@@ -88,14 +88,8 @@ template <class T> using functions_of = functions<sizeof(T), is_signed<T>>;
             const auto number = tk_prefix_by_digits_##name(text);                                                      \
             return {number.value.first, number.is_some ? number.value.second : 0};                                     \
         }                                                                                                              \
-        static auto canonical(const char *text, std::size_t length) noexcept                                           \
-        {                                                                                                              \
-            return torkettle_whole_canonical_##name(text, length);                                                     \
-        }                                                                                                              \
-        static auto json(const char *text, std::size_t length) noexcept                                                \
-        {                                                                                                              \
-            return torkettle_prefix_json_##name(text, length);                                                         \
-        }                                                                                                              \
+        static constexpr auto canonical = torkettle_whole_canonical_##name;                                            \
+        static constexpr auto json = torkettle_prefix_json_##name;                                                     \
         using fields = torkettle_fields_##name;                                                                        \
         [[gnu::always_inline]] static auto next(fields &state) noexcept                                                \
         {                                                                                                              \
@@ -114,21 +108,17 @@ template <class T> using functions_of = functions<sizeof(T), is_signed<T>>;
 TORKETTLE_TYPES_(TORKETTLE_FUNCTIONS_)
 #undef TORKETTLE_FUNCTIONS_
 
-// Whether T is none of the other types.
-template <class T, class... Others> constexpr bool is_other = !(std::is_same_v<T, Others> || ...);
+// Whether T is one of these types.
+template <class T, class... Types> constexpr bool is_one = (std::is_same_v<T, Types> || ...);
 
-// The integer types of `std::from_chars`. In strict C++, `std::is_integral` leaves out 128 bits.
+// The integer types of `std::from_chars`, and those of 128 bits.
 template <class T>
-constexpr bool is_integer = (std::is_integral_v<T> &&
-                             is_other<std::remove_cv_t<T>, bool, wchar_t, char16_t, char32_t> && !std::is_const_v<T>
-#ifdef __cpp_char8_t
-                             && is_other<std::remove_cv_t<T>, char8_t>
-#endif
-                             )
+constexpr bool is_integer = is_one<std::remove_volatile_t<T>,
 #if defined __SIZEOF_INT128__ && !defined TORKETTLE_NO_INT128
-                            || std::is_same_v<T, torkettle_i128> || std::is_same_v<T, torkettle_u128>
+                                   torkettle_i128, torkettle_u128,
 #endif
-    ;
+                                   char, signed char, unsigned char, short, unsigned short, int, unsigned, long,
+                                   unsigned long, long long, unsigned long long>;
 
 // Why there is no number at the start of a text: no digit, or a value that the type does not hold.
 [[gnu::cold, gnu::noinline]] TORKETTLE_CONSTEXPR_ inline std::from_chars_result
