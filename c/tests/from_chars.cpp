@@ -11,7 +11,7 @@
 #include <cstdio>
 #include <cstdlib>
 #include <cstring>
-#include <memory>
+#include <memory_resource>
 #include <string>
 #include <string_view>
 #include <tuple>
@@ -132,12 +132,10 @@ template <class... T> constexpr bool takes_types_of_std(Types<T...>)
              takes_what_std_takes<T, int, int>)&&...);
 }
 
-enum class Number : int {};
-
 static_assert(is_taken<char> && is_taken<std::size_t, int> && is_taken<std::ptrdiff_t>);
 static_assert(!is_taken<bool> && !is_taken<wchar_t, int> && !is_taken<char *>);
 static_assert(takes_types_of_std(Integers()));
-static_assert(takes_types_of_std(Types<bool, wchar_t, char16_t, char32_t, Number, char *, float, double, long double,
+static_assert(takes_types_of_std(Types<bool, wchar_t, char16_t, char32_t, std::byte, char *, float, double, long double,
                                        const int, volatile bool, volatile wchar_t, volatile char16_t, volatile char,
                                        volatile int>()));
 #ifdef __cpp_char8_t
@@ -240,12 +238,6 @@ template <class... T> void compare_constants(Types<T...>)
 }
 #endif
 
-struct OtherAllocator : std::allocator<char> {
-    template <class> struct rebind {
-        using other = OtherAllocator;
-    };
-};
-
 using Iterator = torkettle::fields<int>::iterator;
 static_assert(std::is_same_v<std::iterator_traits<Iterator>::iterator_category, std::input_iterator_tag>);
 static_assert(std::is_same_v<std::iterator_traits<Iterator>::value_type, torkettle::item<int>>);
@@ -255,14 +247,13 @@ static_assert(std::is_nothrow_copy_constructible_v<Iterator> && std::is_nothrow_
 constexpr auto lines = [](auto &&text) -> decltype(torkettle::lines<int>(std::forward<decltype(text)>(text))) {
     return torkettle::lines<int>(std::forward<decltype(text)>(text));
 };
-using OtherString = std::basic_string<char, std::char_traits<char>, OtherAllocator>;
 template <class String>
 constexpr int ranges = std::is_constructible_v<torkettle::fields<int>, String, char> +
                        std::is_constructible_v<torkettle::column<int>, String, char> +
                        std::is_invocable_v<decltype(lines), String>;
-static_assert(ranges<std::string &> == 3 && ranges<const std::string &> == 3 && ranges<OtherString &> == 3);
+static_assert(ranges<std::string &> == 3 && ranges<const std::string &> == 3 && ranges<std::pmr::string &> == 3);
 static_assert(ranges<std::string_view> == 3 && ranges<const char *> == 3 && ranges<const char (&)[3]> == 3);
-static_assert(ranges<std::string> == 0 && ranges<const std::string> == 0 && ranges<OtherString> == 0);
+static_assert(ranges<std::string> == 0 && ranges<const std::string> == 0 && ranges<std::pmr::string> == 0);
 
 } // namespace
 
