@@ -4,8 +4,6 @@
 #include "samples.c"
 #undef main
 
-#include <cstdlib>
-#include <cstring>
 #include <limits>
 #include <stdexcept>
 #include <string>
@@ -15,14 +13,6 @@
 #include "texts.hpp"
 
 const char spaces[] = " \t\n\v\f\r";
-static unsigned long checks, failures;
-
-static void check(bool is_same, const char *what, const std::string &text)
-{
-    checks++;
-    if (!is_same && failures++ < 10)
-        std::printf("%s differs for \"%s\"\n", what, text.c_str());
-}
 
 // What `number_at` of the samples is for another type.
 template <class T, auto parse> static T number_of(const char *text, char **end)
@@ -51,16 +41,16 @@ static void check_int(const std::string &text)
     const bool is_large = errno == ERANGE, is_empty = end == text.c_str();
     if (!is_large) {
         int scanned = 0;
-        check(std::atoi(text.c_str()) == value, "atoi", text);
-        check((std::sscanf(text.c_str(), "%d", &scanned) == 1) == !is_empty && scanned == value, "sscanf", text);
+        require(std::atoi(text.c_str()) == value, "atoi", text);
+        require((std::sscanf(text.c_str(), "%d", &scanned) == 1) == !is_empty && scanned == value, "sscanf", text);
     }
     try {
         std::size_t count = 0;
-        check(std::stoi(text, &count) == value && text.c_str() + count == end, "stoi", text);
+        require(std::stoi(text, &count) == value && text.c_str() + count == end, "stoi", text);
     } catch (const std::out_of_range &) {
-        check(is_large, "a large number of stoi", text);
+        require(is_large, "a large number of stoi", text);
     } catch (const std::invalid_argument &) {
-        check(is_empty, "no number of stoi", text);
+        require(is_empty, "no number of stoi", text);
     }
 }
 
@@ -74,8 +64,8 @@ static void check_strto(const std::string &text, T (*theirs)(const char *, char 
     const T value = ours(text.c_str(), &end);
     const int error = std::exchange(errno, 0);
     if (!std::is_signed_v<T> && text[std::strspn(text.c_str(), spaces)] == '-')
-        return check(end == text.c_str(), "a minus of strtoul", text);
-    check(theirs(text.c_str(), &their_end, 10) == value && their_end == end && errno == error, "strto", text);
+        return require(end == text.c_str(), "a minus of strtoul", text);
+    require(theirs(text.c_str(), &their_end, 10) == value && their_end == end && errno == error, "strto", text);
 }
 
 static void check_text(const std::string &text)
@@ -99,6 +89,4 @@ int main()
     Random random(1);
     for (unsigned number = 0; number < 300000; number++)
         check_text(random_text(random).c_str());
-    std::printf("%lu checks, %lu failed\n", checks, failures);
-    return failures > 0;
 }

@@ -2,6 +2,8 @@
 #pragma once
 
 #include <cstddef>
+#include <cstdio>
+#include <cstdlib>
 #include <cstring>
 #include <random>
 #include <string>
@@ -9,6 +11,18 @@
 #if __has_include(<sys/mman.h>)
 #include <sys/mman.h>
 #endif
+
+// Ends the program with a message unless this is so.
+inline void require(bool is_right, const char *what, std::string_view text, const char *of = "text", unsigned option = 0)
+{
+    if (is_right)
+        return;
+    std::printf("%s of %s differs, flags or separator %u: ", what, of, option);
+    for (const char byte : text)
+        std::printf(byte > 32 && byte < 127 ? "%c" : "\\x%02x", static_cast<unsigned char>(byte));
+    std::printf("\n");
+    std::exit(1);
+}
 
 // The same numbers in each run.
 class Random : public std::mt19937_64 {
@@ -18,10 +32,7 @@ public:
     unsigned below(unsigned bound) { return static_cast<unsigned>(((*this)() >> 32) * bound >> 32); }
     char digit() { return static_cast<char>('0' + below(10)); }
 
-    template <class T, std::size_t count> T of(const T (&values)[count])
-    {
-        return values[below(count)];
-    }
+    template <class T, std::size_t count> T of(const T (&values)[count]) { return values[below(count)]; }
 };
 
 // The last number in range and the first out of range, for each width and sign, and where words end.

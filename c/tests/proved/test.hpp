@@ -6,8 +6,6 @@
 
 #include <algorithm>
 #include <array>
-#include <cstdio>
-#include <cstdlib>
 #include <initializer_list>
 #include <vector>
 
@@ -28,17 +26,7 @@ struct Test {
     unsigned option;
     std::vector<uint64_t> row = {};
 
-    // Ends the program with a message unless this is so.
-    void require(bool is_right, const char *what) const
-    {
-        if (is_right)
-            return;
-        std::printf("%s of %s differs, flags or separator %u: ", what, type, option);
-        for (const char byte : text)
-            std::printf(byte > 32 && byte < 127 ? "%c" : "\\x%02x", static_cast<unsigned char>(byte));
-        std::printf("\n");
-        std::exit(1);
-    }
+    void require(bool is_right, const char *what) const { ::require(is_right, what, text, type, option); }
 
     // What a call returned and wrote where there was 99: nothing unless it returned TORKETTLE_OK.
     template <class T> Answer answer(torkettle_status status, T value, size_t count) const
