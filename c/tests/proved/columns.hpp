@@ -8,24 +8,23 @@
 template <class T> struct Expected {
     torkettle_status status;
     T value;
-    size_t index;
     size_t offset;
     std::string_view text;
 };
 
-template <class C> class Columns {
-public:
+template <class C> struct Columns {
     using T = typename C::type;
 
-    Columns(Test &under_test, Random &numbers, bool are_lines) : test(under_test), random(numbers), lines(are_lines) {}
+    Test &test;
+    Random &random;
+    bool lines;
+    std::vector<Expected<T>> expected = {};
 
     void run()
     {
         fields_by_next();
-        for (const size_t count : {0u, 1u, 2u, 7u, 64u, 100000u}) {
-            typename C::fields fields = start();
-            by_read(fields, count, C::fields_read);
-        }
+        for (const size_t count : {0u, 1u, 2u, 7u, 64u, 100000u})
+            by_read(start(), count, C::fields_read);
         ranges();
         if (lines)
             return;
@@ -35,7 +34,6 @@ public:
         column_range();
     }
 
-private:
     typename C::fields start() const
     {
         typename C::fields fields;
@@ -62,7 +60,7 @@ private:
                 test.push(test.answer(TORKETTLE_OK, value, 0));
             else
                 test.push({static_cast<uint64_t>(text.data() - test.text.data()), text.size()});
-            expected.push_back({fields.status, value, expected.size(), offset - 1000, text});
+            expected.push_back({fields.status, value, offset - 1000, text});
         }
         test.require(value == 99 && fields.status == TORKETTLE_OK, "the end of fields");
         test.push({fields.next_index, fields.next_offset});
@@ -91,9 +89,9 @@ private:
     }
 
     // Reads fields, or a column up to a bad field, by calls for so many numbers each.
-    template <class List, class Read> void by_read(List &list, size_t count, Read read) const
+    template <class List, class Read> void by_read(List &&list, size_t count, Read read) const
     {
-        constexpr bool is_column = std::is_same_v<List, typename C::column>;
+        constexpr bool is_column = std::is_same_v<List, typename C::column &>;
         size_t index = 0, numbers;
         do {
             // An element behind those that may be written, and none where nothing may be.
@@ -107,7 +105,7 @@ private:
             if constexpr (!is_column) {
                 if (list.status != TORKETTLE_OK) {
                     const Expected<T> &bad = expected[index++];
-                    test.require(list.status == bad.status && list.index == bad.index && list.offset == bad.offset &&
+                    test.require(list.status == bad.status && list.index == index - 1 && list.offset == bad.offset &&
                                      list.text == bad.text.data() && list.length == bad.text.size(),
                                  "the error of _read");
                 }
@@ -198,9 +196,4 @@ private:
         test.require(numbers.error_item().has_value() == (first_bad() < expected.size()), "the error of a column");
         test.require(numbers.read(values.data(), 1) == 0 && !numbers.error_item(), "the end of a column");
     }
-
-    Test &test;
-    Random &random;
-    bool lines;
-    std::vector<Expected<T>> expected = {};
 };

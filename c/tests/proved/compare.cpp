@@ -95,7 +95,7 @@ const struct {
 } types[] = {
 #define TYPE(name, type)                                                                                               \
     {#name, sizeof(type) * 19 / 8, parses<calls_##name>,                                                               \
-     [](Test &test, Random &random, bool lines) { Columns<calls_##name>(test, random, lines).run(); }},
+     [](Test &test, Random &random, bool lines) { Columns<calls_##name>{test, random, lines}.run(); }},
     TORKETTLE_TYPES_(TYPE)};
 
 void test_column(Random &random, unsigned type)

@@ -36,13 +36,9 @@ fn push<T: Parse>(row: &mut Row, found: Result<(T, usize), u64>) {
 }
 
 /// Adds a number or a status, and what can be asked of the error: that of no error for a number.
-fn push_answer<T: Parse>(
-    row: &mut Row,
-    answer: Result<(T, usize), AtoiSimdError<'_>>,
-    text: &[u8],
-) {
-    push(row, answer.map_err(status_of));
-    let Err(error) = answer else { return row.extend([0; 7]) };
+fn push_answer<T: Parse>(row: &mut Row, found: Result<(T, usize), AtoiSimdError<'_>>, text: &[u8]) {
+    push(row, found.map_err(status_of));
+    let Err(error) = found else { return row.extend([0; 7]) };
     let mut out = [0; 400];
     let length = error.text(&mut out);
     let hashed = |sum: u64, byte: &u8| sum.wrapping_mul(31) + u64::from(*byte);
@@ -56,8 +52,7 @@ fn parses<T: Parse>(row: &mut Row, text: &[u8], flags: u32) {
     push_answer(row, T::atoi_simd_parse_prefix(text, zeroes, plus), text);
     let whole = T::atoi_simd_parse_pos(text, zeroes).map(|value| (value, length));
     push(row, whole.map_err(status_of));
-    let prefix = T::atoi_simd_parse_prefix_pos(text, zeroes);
-    push(row, prefix.map_err(status_of));
+    push(row, T::atoi_simd_parse_prefix_pos(text, zeroes).map_err(status_of));
     push(row, canonical::<T>(text).map(|value| (value, length)).ok_or(1));
     push(row, json_integer::<T>(text).map(|(value, rest)| (value, length - rest.len())).ok_or(1));
 }
@@ -127,10 +122,9 @@ extern "C" fn oracle(
         answer::<i128>,
         answer::<u128>,
     ];
-    let text = unsafe { from_raw_parts(text, length) };
+    let (text, out) = unsafe { (from_raw_parts(text, length), from_raw_parts_mut(out, size)) };
     let mut row = Row::new();
     answers[kind as usize](&mut row, text, question, option);
-    let out = unsafe { from_raw_parts_mut(out, size) };
     out[..row.len()].copy_from_slice(&row);
     row.len()
 }
