@@ -7,11 +7,10 @@
 //
 // With -DNO_RUST, it compares only calls with each other. With -DCHECKED, what is proved is asserted: bounds and, in
 // the files of `.ci/translate --c`, that nothing overflows.
-#include <cassert>
+#include <stdexcept>
+#include <tuple>
 #ifdef CHECKED
-// Whether a call is tried that must not hold.
-static bool is_tried;
-#define TORKETTLE_CHECK(condition) ((condition) ? void() : is_tried ? throw 0 : assert(condition))
+#define TORKETTLE_CHECK(condition) ((condition) ? void() : throw std::logic_error(__PRETTY_FUNCTION__))
 #endif
 #include "torkettle.c"
 
@@ -111,37 +110,28 @@ void test_column(Random &random, unsigned type)
 }
 
 #ifdef TK_OPERATORS
-template <class Call> bool fails(Call call)
-{
-    is_tried = true;
-    bool has_failed = false;
-    try {
-        call();
-    } catch (int) {
-        has_failed = true;
-    }
-    is_tried = false;
-    return has_failed;
-}
+const tk_u128 most = tk_u128_make(UINT64_MAX, UINT64_MAX);
 
-// What is asserted fails where it does not hold.
-void test_checks()
+// What these functions assert holds for the last operand of a call, and fails for another one.
+#define ASSERTS(holds, fails, name, ...) {#name, [] { name(__VA_ARGS__, holds); }, [] { name(__VA_ARGS__, fails); }}
+const std::tuple<const char *, void (*)(), void (*)()> asserting[] = {
+    ASSERTS(1, 2, tk_u8_add, 254), ASSERTS(2, 3, tk_u16_sub, 2), ASSERTS(65535, 65536, tk_u32_mul, 65537),
+    ASSERTS(1, 0, tk_u64_div, 1), ASSERTS(1, 0, tk_size_rem, 1), ASSERTS(31, 32, tk_u32_shift_left, 1),
+    ASSERTS(63, 64, tk_u64_shift_right, 1), ASSERTS(3, 2, tk_index, 2), ASSERTS(2, 3, tk_bytes_from, TK_TEXT("12")),
+    ASSERTS(2, 3, tk_bytes_to, TK_TEXT("12")), ASSERTS(2, 3, tk_bytes_between, TK_TEXT("12"), 0),
+    ASSERTS(2, 1, tk_bytes_between, TK_TEXT("12"), 2), ASSERTS(tk_u128_of(0), tk_u128_of(1), tk_u128_add, most),
+    ASSERTS(tk_u128_of(1), tk_u128_of(2), tk_u128_mul, most)};
+
+void test_assertions()
 {
-    const tk_bytes two = TK_TEXT("12");
-    const tk_u128 most = tk_u128_make(UINT64_MAX, UINT64_MAX), one = tk_u128_of(1);
-    assert(fails([] { tk_u8_add(255, 1); }) && !fails([] { tk_u8_add(254, 1); }));
-    assert(fails([] { tk_u16_sub(1, 2); }) && !fails([] { tk_u16_sub(2, 2); }));
-    assert(fails([] { tk_u32_mul(65537, 65535 + 1); }) && !fails([] { tk_u32_mul(65537, 65535); }));
-    assert(fails([] { tk_u64_div(1, 0); }) && !fails([] { tk_u64_div(0, 1); }));
-    assert(fails([] { tk_size_rem(1, 0); }) && !fails([] { tk_size_rem(0, 1); }));
-    assert(fails([] { tk_u32_shift_left(1, 32); }) && !fails([] { tk_u32_shift_left(1, 31); }));
-    assert(fails([] { tk_u64_shift_right(1, 64); }) && !fails([] { tk_u64_shift_right(1, 63); }));
-    assert(fails([=] { tk_bytes_from(two, 3); }) && !fails([=] { tk_bytes_from(two, 2); }));
-    assert(fails([=] { tk_bytes_to(two, 3); }) && !fails([=] { tk_bytes_to(two, 2); }));
-    assert(fails([=] { tk_bytes_between(two, 0, 3); }) && !fails([=] { tk_bytes_between(two, 2, 2); }));
-    assert(fails([=] { tk_bytes_between(two, 2, 1); }) && fails([] { tk_index(2, 2); }));
-    assert(fails([=] { tk_u128_add(most, one); }) && fails([=] { tk_u128_sub(one, most); }));
-    assert(fails([=] { tk_u128_mul(most, tk_u128_of(2)); }) && !fails([=] { tk_u128_mul(most, one); }));
+    for (const auto &[name, holds, fails] : asserting) {
+        holds();
+        try {
+            fails();
+            require(false, name, "");
+        } catch (const std::logic_error &) {
+        }
+    }
 }
 #endif
 
@@ -150,7 +140,7 @@ void test_checks()
 int main(int, char **arguments)
 {
 #ifdef TK_OPERATORS
-    test_checks();
+    test_assertions();
 #endif
     const uint64_t texts = std::strtoull(arguments[1], nullptr, 10), columns = std::strtoull(arguments[2], nullptr, 10);
     Random random(std::strtoull(arguments[3], nullptr, 10));
