@@ -5,8 +5,6 @@
 #ifdef FUNCTION
 #include <torkettle.h>
 
-const char *FUNCTION(void);
-
 /* Returns the version of the library that it calls. */
 const char *FUNCTION(void)
 {
