@@ -66,8 +66,7 @@ fn parse_no_digit<'a, E: Engine, T: Number>(
     whole_with_sign::<E, T>(minus, skip, &body[..body.len().min(1)], steps)
 }
 
-/// `atoi_core::parse_prefix_text` for an engine of decimal digits, with the same answer. It may make one
-/// load more.
+/// `atoi_core::parse_prefix_text`, with at most one load more.
 #[inline(always)]
 pub fn parse_prefix_text<'a, E: Engine, T: Number>(
     skip: bool,
@@ -96,6 +95,7 @@ pub fn parse_prefix_text<'a, E: Engine, T: Number>(
     Ok((number, len + (s.len() - body.len())))
 }
 
+/// `atoi_core::whole_pos`, with the same clauses.
 #[inline(always)]
 pub fn whole_pos<'a, E: Engine, T: Number>(
     skip: bool,
@@ -108,6 +108,7 @@ pub fn whole_pos<'a, E: Engine, T: Number>(
     whole_with_sign::<E, T>(false, skip, s, steps)
 }
 
+/// `atoi_core::whole_neg`, with the same clauses.
 #[inline(always)]
 pub fn whole_neg<'a, E: Engine, T: Signed>(
     skip: bool,
