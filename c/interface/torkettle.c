@@ -3,6 +3,12 @@
 #define TORKETTLE_SOURCE_
 #include "torkettle.h"
 
+/* gcc takes less time for this file if it chooses what to inline of these. */
+#if defined __GNUC__ && !defined __clang__
+#undef TK_HINTED
+#define TK_HINTED static inline __attribute__((__unused__))
+#endif
+
 /* ---- Made by .ci/translate from the proved sources, up to the next such line. */
 
 /* @proved */
@@ -25,7 +31,7 @@ static torkettle_status tk_status_of(tk_error error)
 }
 
 /* An error has the rest of the text, which reaches to its end. */
-static torkettle_error tk_explained(tk_error error, tk_bytes text)
+TK_NOINLINE torkettle_error tk_explained(tk_error error, tk_bytes text)
 {
     torkettle_error made = TK_MAKE(torkettle_error, tk_status_of(error), 0, 0, error.size, 0, 0);
     if (error.tag != TK_ERROR_EMPTY)
@@ -132,7 +138,8 @@ const char *torkettle_version(void) TORKETTLE_NOEXCEPT { return TORKETTLE_VERSIO
             return TK_MAKE(torkettle_found_##name, long_.value, length);                                               \
         return tk_found_##name(tk_atoi_simd_parse_##name(bytes, TK_ZEROES, TK_PLUS), length);                          \
     }                                                                                                                  \
-    torkettle_found_##name torkettle_whole_##name(const char *text, size_t length, unsigned flags) TORKETTLE_NOEXCEPT  \
+    TK_FAR torkettle_found_##name torkettle_whole_##name(const char *text, size_t length, unsigned flags)              \
+        TORKETTLE_NOEXCEPT                                                                                             \
     {                                                                                                                  \
         tk_option_##name quick = tk_quick_slice_##name(tk_text(text, length));                                         \
         if (quick.is_some)                                                                                             \

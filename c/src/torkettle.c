@@ -4,6 +4,12 @@
 #define TORKETTLE_SOURCE_
 #include "torkettle.h"
 
+/* gcc takes less time for this file if it chooses what to inline of these. */
+#if defined __GNUC__ && !defined __clang__
+#undef TK_HINTED
+#define TK_HINTED static inline __attribute__((__unused__))
+#endif
+
 /* ---- Made by .ci/translate from the proved sources, up to the next such line. */
 
 /* What is read of the first 8 or 16 bytes of a slice, or of all its bytes if there are fewer. */
@@ -1432,7 +1438,7 @@ static const tk_guess tk_long = {0, false, false, false};
 #define TK_LONG_PART 1024
 
 /* atoi_fast/src/loads.rt:88 */
-TK_HINTED uint32_t tk_load_last_four(tk_bytes s)
+TK_INLINE uint32_t tk_load_last_four(tk_bytes s)
 {
     if (s.len >= 4) {
         const uint8_t *last = s.at + (s.len - 4);
@@ -1457,7 +1463,7 @@ TK_INLINE uint32_t tk_load_four_from(tk_bytes s, size_t at)
 }
 
 /* atoi_fast/src/loads.rt:99 */
-TK_HINTED uint32_t tk_load_last_two(tk_bytes s)
+TK_INLINE uint32_t tk_load_last_two(tk_bytes s)
 {
     if (s.len >= 2) {
         const uint8_t *last = s.at + (s.len - 2);
@@ -1488,7 +1494,7 @@ TK_INLINE uint64_t tk_load_flipped(tk_bytes s)
 
 /* `leading_digits` for a word xor `ZEROS`. Here, a byte is no digit if adding 118 sets its top bit. */
 /* atoi_fast/src/digits.rt:35 */
-TK_HINTED uint32_t tk_leading_digits_flipped(uint64_t flipped)
+TK_INLINE uint32_t tk_leading_digits_flipped(uint64_t flipped)
 {
     uint64_t marks = (tk_u64_wrapping_add(flipped,
                                           UINT64_C(0x7676767676767676)) | flipped) & UINT64_C(0x8080808080808080);
@@ -1500,7 +1506,7 @@ TK_HINTED uint32_t tk_leading_digits_flipped(uint64_t flipped)
 
 /* Returns the number of a slice of 2 to 8 bytes, if all are digits after at most a minus. */
 /* atoi_fast/src/short_slice.rt:38 */
-TK_INLINE tk_option_i8 tk_short_slice_i8(tk_bytes s)
+TK_HINTED tk_option_i8 tk_short_slice_i8(tk_bytes s)
 {
     bool minus = true & (s.at[tk_index(0, s.len)] == '-');
     /* A `-` that is flipped once more is the digit 0, without a branch. */
@@ -1512,7 +1518,7 @@ TK_INLINE tk_option_i8 tk_short_slice_i8(tk_bytes s)
 }
 
 /* atoi_fast/src/loads.rt:122 */
-TK_HINTED uint64_t tk_load_last(tk_bytes s)
+TK_INLINE uint64_t tk_load_last(tk_bytes s)
 {
     if (s.len >= 8) {
         const uint8_t *last = s.at + (s.len - 8);
@@ -1523,7 +1529,7 @@ TK_HINTED uint64_t tk_load_last(tk_bytes s)
 
 /* The number that the first `len` bytes of the word spell. They are digits, at least one. */
 /* atoi_fast/src/digits.rt:81 */
-TK_HINTED uint64_t tk_value_of(uint64_t word, uint32_t len)
+TK_INLINE uint64_t tk_value_of(uint64_t word, uint32_t len)
 {
     return tk_sum_of(tk_u64_wrapping_sub(word, TK_ZEROS) << (64 - 8 * len));
 }
@@ -1533,7 +1539,7 @@ TK_HINTED uint64_t tk_value_of(uint64_t word, uint32_t len)
  * the first eight.
  */
 /* atoi_fast/src/short_slice.rt:71 */
-TK_INLINE tk_option_i8 tk_slice_of_two_words_i8(tk_bytes s)
+TK_HINTED tk_option_i8 tk_slice_of_two_words_i8(tk_bytes s)
 {
     uint64_t word = tk_load_full(s);
     bool minus = true & (s.at[tk_index(0, s.len)] == '-');
@@ -1550,7 +1556,7 @@ TK_INLINE tk_option_i8 tk_slice_of_two_words_i8(tk_bytes s)
 
 /* Returns the number of a slice of 2 to 15 bytes, if all are digits after at most a minus. */
 /* atoi_fast/src/quick.rt:28 */
-TK_INLINE tk_option_i8 tk_quick_slice_i8(tk_bytes s)
+TK_HINTED tk_option_i8 tk_quick_slice_i8(tk_bytes s)
 {
     if (2 <= s.len && s.len <= 8) {
         return tk_short_slice_i8(s);
@@ -1562,7 +1568,7 @@ TK_INLINE tk_option_i8 tk_quick_slice_i8(tk_bytes s)
 }
 
 /* atoi_fast/src/short_slice.rt:38 */
-TK_INLINE tk_option_u8 tk_short_slice_u8(tk_bytes s)
+TK_HINTED tk_option_u8 tk_short_slice_u8(tk_bytes s)
 {
     bool minus = false & (s.at[tk_index(0, s.len)] == '-');
     /* A `-` that is flipped once more is the digit 0, without a branch. */
@@ -1574,7 +1580,7 @@ TK_INLINE tk_option_u8 tk_short_slice_u8(tk_bytes s)
 }
 
 /* atoi_fast/src/short_slice.rt:71 */
-TK_INLINE tk_option_u8 tk_slice_of_two_words_u8(tk_bytes s)
+TK_HINTED tk_option_u8 tk_slice_of_two_words_u8(tk_bytes s)
 {
     uint64_t word = tk_load_full(s);
     bool minus = false & (s.at[tk_index(0, s.len)] == '-');
@@ -1590,7 +1596,7 @@ TK_INLINE tk_option_u8 tk_slice_of_two_words_u8(tk_bytes s)
 }
 
 /* atoi_fast/src/quick.rt:28 */
-TK_INLINE tk_option_u8 tk_quick_slice_u8(tk_bytes s)
+TK_HINTED tk_option_u8 tk_quick_slice_u8(tk_bytes s)
 {
     if (2 <= s.len && s.len <= 8) {
         return tk_short_slice_u8(s);
@@ -1602,7 +1608,7 @@ TK_INLINE tk_option_u8 tk_quick_slice_u8(tk_bytes s)
 }
 
 /* atoi_fast/src/short_slice.rt:38 */
-TK_INLINE tk_option_i16 tk_short_slice_i16(tk_bytes s)
+TK_HINTED tk_option_i16 tk_short_slice_i16(tk_bytes s)
 {
     bool minus = true & (s.at[tk_index(0, s.len)] == '-');
     /* A `-` that is flipped once more is the digit 0, without a branch. */
@@ -1614,7 +1620,7 @@ TK_INLINE tk_option_i16 tk_short_slice_i16(tk_bytes s)
 }
 
 /* atoi_fast/src/short_slice.rt:71 */
-TK_INLINE tk_option_i16 tk_slice_of_two_words_i16(tk_bytes s)
+TK_HINTED tk_option_i16 tk_slice_of_two_words_i16(tk_bytes s)
 {
     uint64_t word = tk_load_full(s);
     bool minus = true & (s.at[tk_index(0, s.len)] == '-');
@@ -1630,7 +1636,7 @@ TK_INLINE tk_option_i16 tk_slice_of_two_words_i16(tk_bytes s)
 }
 
 /* atoi_fast/src/quick.rt:28 */
-TK_INLINE tk_option_i16 tk_quick_slice_i16(tk_bytes s)
+TK_HINTED tk_option_i16 tk_quick_slice_i16(tk_bytes s)
 {
     if (2 <= s.len && s.len <= 8) {
         return tk_short_slice_i16(s);
@@ -1642,7 +1648,7 @@ TK_INLINE tk_option_i16 tk_quick_slice_i16(tk_bytes s)
 }
 
 /* atoi_fast/src/short_slice.rt:38 */
-TK_INLINE tk_option_u16 tk_short_slice_u16(tk_bytes s)
+TK_HINTED tk_option_u16 tk_short_slice_u16(tk_bytes s)
 {
     bool minus = false & (s.at[tk_index(0, s.len)] == '-');
     /* A `-` that is flipped once more is the digit 0, without a branch. */
@@ -1654,7 +1660,7 @@ TK_INLINE tk_option_u16 tk_short_slice_u16(tk_bytes s)
 }
 
 /* atoi_fast/src/short_slice.rt:71 */
-TK_INLINE tk_option_u16 tk_slice_of_two_words_u16(tk_bytes s)
+TK_HINTED tk_option_u16 tk_slice_of_two_words_u16(tk_bytes s)
 {
     uint64_t word = tk_load_full(s);
     bool minus = false & (s.at[tk_index(0, s.len)] == '-');
@@ -1670,7 +1676,7 @@ TK_INLINE tk_option_u16 tk_slice_of_two_words_u16(tk_bytes s)
 }
 
 /* atoi_fast/src/quick.rt:28 */
-TK_INLINE tk_option_u16 tk_quick_slice_u16(tk_bytes s)
+TK_HINTED tk_option_u16 tk_quick_slice_u16(tk_bytes s)
 {
     if (2 <= s.len && s.len <= 8) {
         return tk_short_slice_u16(s);
@@ -1842,7 +1848,7 @@ TK_INLINE tk_option_u64 tk_quick_slice_u64(tk_bytes s)
 }
 
 /* atoi_fast/src/short_slice.rt:38 */
-TK_INLINE tk_option_i128 tk_short_slice_i128(tk_bytes s)
+TK_HINTED tk_option_i128 tk_short_slice_i128(tk_bytes s)
 {
     bool minus = true & (s.at[tk_index(0, s.len)] == '-');
     /* A `-` that is flipped once more is the digit 0, without a branch. */
@@ -1854,7 +1860,7 @@ TK_INLINE tk_option_i128 tk_short_slice_i128(tk_bytes s)
 }
 
 /* atoi_fast/src/short_slice.rt:71 */
-TK_INLINE tk_option_i128 tk_slice_of_two_words_i128(tk_bytes s)
+TK_HINTED tk_option_i128 tk_slice_of_two_words_i128(tk_bytes s)
 {
     uint64_t word = tk_load_full(s);
     bool minus = true & (s.at[tk_index(0, s.len)] == '-');
@@ -1870,7 +1876,7 @@ TK_INLINE tk_option_i128 tk_slice_of_two_words_i128(tk_bytes s)
 }
 
 /* atoi_fast/src/quick.rt:28 */
-TK_INLINE tk_option_i128 tk_quick_slice_i128(tk_bytes s)
+TK_HINTED tk_option_i128 tk_quick_slice_i128(tk_bytes s)
 {
     if (2 <= s.len && s.len <= 8) {
         return tk_short_slice_i128(s);
@@ -1882,7 +1888,7 @@ TK_INLINE tk_option_i128 tk_quick_slice_i128(tk_bytes s)
 }
 
 /* atoi_fast/src/short_slice.rt:38 */
-TK_INLINE tk_option_u128 tk_short_slice_u128(tk_bytes s)
+TK_HINTED tk_option_u128 tk_short_slice_u128(tk_bytes s)
 {
     bool minus = false & (s.at[tk_index(0, s.len)] == '-');
     /* A `-` that is flipped once more is the digit 0, without a branch. */
@@ -1894,7 +1900,7 @@ TK_INLINE tk_option_u128 tk_short_slice_u128(tk_bytes s)
 }
 
 /* atoi_fast/src/short_slice.rt:71 */
-TK_INLINE tk_option_u128 tk_slice_of_two_words_u128(tk_bytes s)
+TK_HINTED tk_option_u128 tk_slice_of_two_words_u128(tk_bytes s)
 {
     uint64_t word = tk_load_full(s);
     bool minus = false & (s.at[tk_index(0, s.len)] == '-');
@@ -1910,7 +1916,7 @@ TK_INLINE tk_option_u128 tk_slice_of_two_words_u128(tk_bytes s)
 }
 
 /* atoi_fast/src/quick.rt:28 */
-TK_INLINE tk_option_u128 tk_quick_slice_u128(tk_bytes s)
+TK_HINTED tk_option_u128 tk_quick_slice_u128(tk_bytes s)
 {
     if (2 <= s.len && s.len <= 8) {
         return tk_short_slice_u128(s);
@@ -1923,28 +1929,28 @@ TK_INLINE tk_option_u128 tk_quick_slice_u128(tk_bytes s)
 
 /* Returns the number of a slice of at least 16 bytes, if the type has 64 bits and no limit refuses so many digits. */
 /* atoi_fast/src/quick.rt:40 */
-TK_INLINE tk_option_i8 tk_long_slice_i8(tk_bytes s)
+TK_HINTED tk_option_i8 tk_long_slice_i8(tk_bytes s)
 {
     (void)s;
     return tk_none_i8();
 }
 
 /* atoi_fast/src/quick.rt:40 */
-TK_INLINE tk_option_u8 tk_long_slice_u8(tk_bytes s)
+TK_HINTED tk_option_u8 tk_long_slice_u8(tk_bytes s)
 {
     (void)s;
     return tk_none_u8();
 }
 
 /* atoi_fast/src/quick.rt:40 */
-TK_INLINE tk_option_i16 tk_long_slice_i16(tk_bytes s)
+TK_HINTED tk_option_i16 tk_long_slice_i16(tk_bytes s)
 {
     (void)s;
     return tk_none_i16();
 }
 
 /* atoi_fast/src/quick.rt:40 */
-TK_INLINE tk_option_u16 tk_long_slice_u16(tk_bytes s)
+TK_HINTED tk_option_u16 tk_long_slice_u16(tk_bytes s)
 {
     (void)s;
     return tk_none_u16();
@@ -1986,7 +1992,7 @@ TK_INLINE uint64_t tk_load_from(tk_bytes s, size_t at)
 
 /* `value_by_product` for at most four bytes. */
 /* atoi_fast/src/digits.rt:155 */
-TK_HINTED uint64_t tk_four_by_product(uint64_t digits, uint32_t len)
+TK_INLINE uint64_t tk_four_by_product(uint64_t digits, uint32_t len)
 {
     uint64_t product = tk_u64_wrapping_mul(digits, tk_factors[tk_index(TK_CAST(size_t, len), 8)]);
     uint64_t tens = (product >> 8) & UINT64_C(0x00FF00FF00FF00FF);
@@ -2074,14 +2080,14 @@ TK_INLINE tk_option_u64 tk_long_slice_u64(tk_bytes s)
 }
 
 /* atoi_fast/src/quick.rt:40 */
-TK_INLINE tk_option_i128 tk_long_slice_i128(tk_bytes s)
+TK_HINTED tk_option_i128 tk_long_slice_i128(tk_bytes s)
 {
     (void)s;
     return tk_none_i128();
 }
 
 /* atoi_fast/src/quick.rt:40 */
-TK_INLINE tk_option_u128 tk_long_slice_u128(tk_bytes s)
+TK_HINTED tk_option_u128 tk_long_slice_u128(tk_bytes s)
 {
     (void)s;
     return tk_none_u128();
@@ -2089,7 +2095,7 @@ TK_INLINE tk_option_u128 tk_long_slice_u128(tk_bytes s)
 
 /* Returns the number of one digit. */
 /* atoi_fast/src/short_slice.rt:13 */
-TK_INLINE int8_t tk_loaded_digit_i8(tk_bytes s)
+TK_HINTED int8_t tk_loaded_digit_i8(tk_bytes s)
 {
     return tk_from_parts_i8(false, tk_u128_of(TK_CAST(uint8_t, s.at[tk_index(0, s.len)] - '0')));
 }
@@ -2113,20 +2119,20 @@ TK_HINTED tk_window tk_window_not_full(uint32_t len, uint64_t number)
 
 /* `value_of` for zero to seven digits: it shifts twice, as no shift is by 64 bits. */
 /* atoi_fast/src/digits.rt:93 */
-TK_HINTED uint64_t tk_value_below_8(uint64_t word, uint32_t len)
+TK_INLINE uint64_t tk_value_below_8(uint64_t word, uint32_t len)
 {
     return tk_sum_of((tk_u64_wrapping_sub(word, TK_ZEROS) << (56 - 8 * len)) << 8);
 }
 
 /* `len_zeroes`, from the difference that `leading_digits` and `value_of` compute, too. */
 /* atoi_fast/src/digits.rt:49 */
-TK_HINTED uint32_t tk_zeroes_of(uint64_t word)
+TK_INLINE uint32_t tk_zeroes_of(uint64_t word)
 {
     return tk_u64_trailing_zeros(tk_u64_wrapping_sub(word, TK_ZEROS)) / 8;
 }
 
 /* atoi_fast/src/digits.rt:57 */
-TK_HINTED uint32_t tk_zeroes_of_two(uint64_t first, uint64_t next)
+TK_INLINE uint32_t tk_zeroes_of_two(uint64_t first, uint64_t next)
 {
     uint32_t zeroes = tk_zeroes_of(first);
     if (zeroes == 8) {
@@ -2170,7 +2176,7 @@ TK_INLINE tk_window tk_window_of_one(tk_bytes s)
 
 /* Returns the number that the `len` leading digits of the word spell, 0 if `len` is 0. */
 /* atoi_fast/src/digits.rt:70 */
-TK_HINTED uint64_t tk_value_in_word(uint64_t word, uint32_t len)
+TK_INLINE uint64_t tk_value_in_word(uint64_t word, uint32_t len)
 {
     if (len == 0) {
         return 0;
@@ -2233,7 +2239,7 @@ TK_NOINLINE tk_window tk_swar_window(tk_bytes s)
  * window that reports no zeros, and its offset.
  */
 /* atoi_core/src/after_zeros.rt:14 */
-TK_INLINE tk_pair_size_window tk_window_after_zeros_swar(uint32_t zeroes, tk_bytes s)
+TK_HINTED tk_pair_size_window tk_window_after_zeros_swar(uint32_t zeroes, tk_bytes s)
 {
     size_t at = TK_CAST(size_t, zeroes);
     for (;;) {
@@ -2318,7 +2324,7 @@ TK_NOINLINE tk_window tk_swar_without_parsers_window(tk_bytes s)
 }
 
 /* atoi_core/src/after_zeros.rt:14 */
-TK_INLINE tk_pair_size_window tk_window_after_zeros_swar_without_parsers(uint32_t zeroes, tk_bytes s)
+TK_HINTED tk_pair_size_window tk_window_after_zeros_swar_without_parsers(uint32_t zeroes, tk_bytes s)
 {
     size_t at = TK_CAST(size_t, zeroes);
     for (;;) {
@@ -2359,7 +2365,7 @@ TK_HINTED tk_u128 tk_append_digits(uint64_t high, uint32_t digits, uint64_t low)
  * `significant` digits that spell `number`. The errors are `Empty`, `Size` and `Overflow`.
  */
 /* atoi_core/src/wide_answer.rt:25 */
-TK_INLINE tk_result_pair_u64_size tk_answer_64(uint64_t bound, uint32_t limit, size_t skipped, uint32_t significant,
+TK_HINTED tk_result_pair_u64_size tk_answer_64(uint64_t bound, uint32_t limit, size_t skipped, uint32_t significant,
                                                tk_u128 number, tk_bytes s)
 {
     size_t len = skipped + TK_CAST(size_t, significant);
@@ -2394,7 +2400,7 @@ TK_NOINLINE tk_result_pair_u64_size tk_prefix_64_after_zeros(uint64_t bound, uin
 
 /* Returns `number`, which has `len` digits, with `len`. The error is `Empty` if `len` is 0. */
 /* atoi_core/src/wide_answer.rt:12 */
-TK_INLINE tk_result_pair_u64_size tk_found_or_empty_u64(uint64_t number, size_t len)
+TK_HINTED tk_result_pair_u64_size tk_found_or_empty_u64(uint64_t number, size_t len)
 {
     if (len == 0) {
         return tk_err_pair_u64_size(tk_error_empty());
@@ -2404,7 +2410,7 @@ TK_INLINE tk_result_pair_u64_size tk_found_or_empty_u64(uint64_t number, size_t 
 
 /* `leading_digits` for a word of four bytes. */
 /* atoi_fast/src/digits.rt:168 */
-TK_HINTED uint32_t tk_leading_digits_of_four(uint32_t word)
+TK_INLINE uint32_t tk_leading_digits_of_four(uint32_t word)
 {
     uint32_t above = tk_u32_wrapping_add(word, 0x46464646);
     uint32_t below = tk_u32_wrapping_sub(word, TK_FOUR_ZEROS);
@@ -2417,7 +2423,7 @@ TK_HINTED uint32_t tk_leading_digits_of_four(uint32_t word)
 
 /* `sum_of` for four bytes. */
 /* atoi_fast/src/digits.rt:104 */
-TK_HINTED uint32_t tk_sum_of_four(uint32_t digits)
+TK_INLINE uint32_t tk_sum_of_four(uint32_t digits)
 {
     uint32_t tens = (tk_u32_wrapping_mul(digits, 0xA01) >> 8) & 0x00FF00FF;
     return tk_u32_wrapping_mul(tens, 0x640001) >> 16;
@@ -2425,7 +2431,7 @@ TK_HINTED uint32_t tk_sum_of_four(uint32_t digits)
 
 /* Returns the number that a word of four digits spells after its first `skipped` bytes. */
 /* atoi_fast/src/digits.rt:202 */
-TK_HINTED uint32_t tk_value_after(uint32_t word, size_t skipped)
+TK_INLINE uint32_t tk_value_after(uint32_t word, size_t skipped)
 {
     size_t bits = 8 * skipped;
     return tk_sum_of_four((tk_u32_wrapping_sub(word, TK_FOUR_ZEROS) >> bits) << bits);
@@ -2433,7 +2439,7 @@ TK_HINTED uint32_t tk_value_after(uint32_t word, size_t skipped)
 
 /* Returns the number that the bytes after the first 16 spell, if the last four are digits. */
 /* atoi_fast/src/after_16.rt:71 */
-TK_HINTED tk_option_u32 tk_last_four(tk_bytes s)
+TK_INLINE tk_option_u32 tk_last_four(tk_bytes s)
 {
     uint32_t word = tk_load_last_four(s);
     if (tk_leading_digits_of_four(word) < 4) {
@@ -2444,7 +2450,7 @@ TK_HINTED tk_option_u32 tk_last_four(tk_bytes s)
 }
 
 /* atoi_fast/src/after_16.rt:87 */
-TK_HINTED tk_result_pair_u64_size tk_after_16_within_bound(tk_u128 bound, size_t len, tk_u128 number, tk_bytes s)
+TK_INLINE tk_result_pair_u64_size tk_after_16_within_bound(tk_u128 bound, size_t len, tk_u128 number, tk_bytes s)
 {
     if (tk_u128_less(bound, number)) {
         return tk_err_pair_u64_size(tk_error_overflow(s));
@@ -2453,20 +2459,20 @@ TK_HINTED tk_result_pair_u64_size tk_after_16_within_bound(tk_u128 bound, size_t
 }
 
 /* atoi_fast/src/digits.rt:183 */
-TK_HINTED bool tk_starts_with_digit_of_four(uint32_t word)
+TK_INLINE bool tk_starts_with_digit_of_four(uint32_t word)
 {
     return tk_u8_is_digit(TK_CAST(uint8_t, word & 0xFF));
 }
 
 /* `value_of` for a word of four bytes. */
 /* atoi_fast/src/digits.rt:191 */
-TK_HINTED uint32_t tk_value_up_to_4(uint32_t word, uint32_t len)
+TK_INLINE uint32_t tk_value_up_to_4(uint32_t word, uint32_t len)
 {
     return tk_sum_of_four(tk_u32_wrapping_sub(word, TK_FOUR_ZEROS) << (32 - 8 * len));
 }
 
 /* atoi_fast/src/after_16.rt:137 */
-TK_HINTED bool tk_starts_with_digit(tk_bytes s)
+TK_INLINE bool tk_starts_with_digit(tk_bytes s)
 {
     return s.len >= 1 && '0' <= s.at[0] && s.at[0] <= '9';
 }
@@ -2562,7 +2568,7 @@ TK_NOINLINE tk_result_u64 tk_whole_64(uint64_t bound, uint32_t limit, bool skip,
 }
 
 /* atoi_core/src/wide_answer.rt:12 */
-TK_INLINE tk_result_pair_u128_size tk_found_or_empty_u128(tk_u128 number, size_t len)
+TK_HINTED tk_result_pair_u128_size tk_found_or_empty_u128(tk_u128 number, size_t len)
 {
     if (len == 0) {
         return tk_err_pair_u128_size(tk_error_empty());
@@ -2594,7 +2600,7 @@ TK_HINTED tk_option_u128 tk_wide_answer_within_bound(tk_u128 bound, tk_u128 high
  * `Overflow`.
  */
 /* atoi_core/src/wide_answer.rt:53 */
-TK_INLINE tk_result_pair_u128_size tk_answer_128(tk_u128 bound, size_t skipped, tk_u128 high, uint32_t more,
+TK_HINTED tk_result_pair_u128_size tk_answer_128(tk_u128 bound, size_t skipped, tk_u128 high, uint32_t more,
                                                  uint64_t low, tk_bytes s)
 {
     size_t len = skipped + 32 + TK_CAST(size_t, more);
@@ -2689,7 +2695,7 @@ TK_NOINLINE tk_result_u128 tk_whole_128(tk_u128 bound, bool skip, tk_bytes s)
  * for the type's size. The errors are the same.
  */
 /* atoi_core/src/calls.rt:154 */
-TK_INLINE tk_result_u128 tk_whole_by_size(uint32_t bits, bool is_signed, tk_u128 greatest, bool minus, bool skip,
+TK_HINTED tk_result_u128 tk_whole_by_size(uint32_t bits, bool is_signed, tk_u128 greatest, bool minus, bool skip,
                                           tk_bytes s)
 {
     tk_u128 bound = tk_greatest_magnitude(greatest, minus);
@@ -2717,7 +2723,7 @@ TK_INLINE tk_result_u128 tk_whole_by_size(uint32_t bits, bool is_signed, tk_u128
  * `whole_neg`.
  */
 /* atoi_core/src/calls.rt:136 */
-TK_INLINE tk_result_i8 tk_whole_with_sign_i8(bool minus, bool skip, tk_bytes s)
+TK_HINTED tk_result_i8 tk_whole_with_sign_i8(bool minus, bool skip, tk_bytes s)
 {
     tk_result_u128 found = tk_whole_by_size(8, true, tk_u128_of(127), minus, skip, s);
     if (!found.is_ok) {
@@ -2732,7 +2738,7 @@ TK_INLINE tk_result_i8 tk_whole_with_sign_i8(bool minus, bool skip, tk_bytes s)
  * body, or of `whole_neg` after a `-`.
  */
 /* atoi_core/src/calls.rt:21 */
-TK_INLINE tk_result_i8 tk_atoi_core_parse_text_i8(bool skip, bool skip_plus, tk_bytes s)
+TK_HINTED tk_result_i8 tk_atoi_core_parse_text_i8(bool skip, bool skip_plus, tk_bytes s)
 {
     tk_pair_bool_bytes found = tk_take_sign(true, skip_plus, s);
     bool minus = found.first;
@@ -2742,7 +2748,7 @@ TK_INLINE tk_result_i8 tk_atoi_core_parse_text_i8(bool skip, bool skip_plus, tk_
 
 /* `atoi_core::parse_text`, with at most one load more. */
 /* atoi_fast/src/called.rt:17 */
-TK_INLINE tk_result_i8 tk_called_parse_text_i8(bool skip, bool skip_plus, tk_bytes s)
+TK_HINTED tk_result_i8 tk_called_parse_text_i8(bool skip, bool skip_plus, tk_bytes s)
 {
     if (s.len == 1 && '0' <= s.at[0] && s.at[0] <= '9') {
         return tk_ok_i8(tk_loaded_digit_i8(s));
@@ -2758,13 +2764,13 @@ TK_INLINE tk_result_i8 tk_called_parse_text_i8(bool skip, bool skip_plus, tk_byt
 }
 
 /* atoi_simd/src/parse_trait.rt:61 */
-TK_INLINE tk_result_i8 tk_atoi_simd_parse_i8(tk_bytes s, bool skip, bool skip_plus)
+TK_HINTED tk_result_i8 tk_atoi_simd_parse_i8(tk_bytes s, bool skip, bool skip_plus)
 {
     return tk_called_parse_text_i8(skip, skip_plus, s);
 }
 
 /* atoi_fast/src/short_slice.rt:13 */
-TK_INLINE uint8_t tk_loaded_digit_u8(tk_bytes s)
+TK_HINTED uint8_t tk_loaded_digit_u8(tk_bytes s)
 {
     return tk_from_parts_u8(false, tk_u128_of(TK_CAST(uint8_t, s.at[tk_index(0, s.len)] - '0')));
 }
@@ -2779,7 +2785,7 @@ TK_NOINLINE tk_option_u8 tk_loaded_slice_u8(tk_bytes s)
 }
 
 /* atoi_core/src/calls.rt:136 */
-TK_INLINE tk_result_u8 tk_whole_with_sign_u8(bool minus, bool skip, tk_bytes s)
+TK_HINTED tk_result_u8 tk_whole_with_sign_u8(bool minus, bool skip, tk_bytes s)
 {
     tk_result_u128 found = tk_whole_by_size(8, false, tk_u128_of(255), minus, skip, s);
     if (!found.is_ok) {
@@ -2790,7 +2796,7 @@ TK_INLINE tk_result_u8 tk_whole_with_sign_u8(bool minus, bool skip, tk_bytes s)
 }
 
 /* atoi_core/src/calls.rt:21 */
-TK_INLINE tk_result_u8 tk_atoi_core_parse_text_u8(bool skip, bool skip_plus, tk_bytes s)
+TK_HINTED tk_result_u8 tk_atoi_core_parse_text_u8(bool skip, bool skip_plus, tk_bytes s)
 {
     tk_pair_bool_bytes found = tk_take_sign(false, skip_plus, s);
     bool minus = found.first;
@@ -2799,7 +2805,7 @@ TK_INLINE tk_result_u8 tk_atoi_core_parse_text_u8(bool skip, bool skip_plus, tk_
 }
 
 /* atoi_fast/src/called.rt:17 */
-TK_INLINE tk_result_u8 tk_called_parse_text_u8(bool skip, bool skip_plus, tk_bytes s)
+TK_HINTED tk_result_u8 tk_called_parse_text_u8(bool skip, bool skip_plus, tk_bytes s)
 {
     if (s.len == 1 && '0' <= s.at[0] && s.at[0] <= '9') {
         return tk_ok_u8(tk_loaded_digit_u8(s));
@@ -2815,13 +2821,13 @@ TK_INLINE tk_result_u8 tk_called_parse_text_u8(bool skip, bool skip_plus, tk_byt
 }
 
 /* atoi_simd/src/parse_trait.rt:49 */
-TK_INLINE tk_result_u8 tk_atoi_simd_parse_u8(tk_bytes s, bool skip, bool skip_plus)
+TK_HINTED tk_result_u8 tk_atoi_simd_parse_u8(tk_bytes s, bool skip, bool skip_plus)
 {
     return tk_called_parse_text_u8(skip, skip_plus, s);
 }
 
 /* atoi_fast/src/short_slice.rt:13 */
-TK_INLINE int16_t tk_loaded_digit_i16(tk_bytes s)
+TK_HINTED int16_t tk_loaded_digit_i16(tk_bytes s)
 {
     return tk_from_parts_i16(false, tk_u128_of(TK_CAST(uint8_t, s.at[tk_index(0, s.len)] - '0')));
 }
@@ -2836,7 +2842,7 @@ TK_NOINLINE tk_option_i16 tk_loaded_slice_i16(tk_bytes s)
 }
 
 /* atoi_core/src/calls.rt:136 */
-TK_INLINE tk_result_i16 tk_whole_with_sign_i16(bool minus, bool skip, tk_bytes s)
+TK_HINTED tk_result_i16 tk_whole_with_sign_i16(bool minus, bool skip, tk_bytes s)
 {
     tk_result_u128 found = tk_whole_by_size(16, true, tk_u128_of(32767), minus, skip, s);
     if (!found.is_ok) {
@@ -2847,7 +2853,7 @@ TK_INLINE tk_result_i16 tk_whole_with_sign_i16(bool minus, bool skip, tk_bytes s
 }
 
 /* atoi_core/src/calls.rt:21 */
-TK_INLINE tk_result_i16 tk_atoi_core_parse_text_i16(bool skip, bool skip_plus, tk_bytes s)
+TK_HINTED tk_result_i16 tk_atoi_core_parse_text_i16(bool skip, bool skip_plus, tk_bytes s)
 {
     tk_pair_bool_bytes found = tk_take_sign(true, skip_plus, s);
     bool minus = found.first;
@@ -2856,7 +2862,7 @@ TK_INLINE tk_result_i16 tk_atoi_core_parse_text_i16(bool skip, bool skip_plus, t
 }
 
 /* atoi_fast/src/called.rt:17 */
-TK_INLINE tk_result_i16 tk_called_parse_text_i16(bool skip, bool skip_plus, tk_bytes s)
+TK_HINTED tk_result_i16 tk_called_parse_text_i16(bool skip, bool skip_plus, tk_bytes s)
 {
     if (s.len == 1 && '0' <= s.at[0] && s.at[0] <= '9') {
         return tk_ok_i16(tk_loaded_digit_i16(s));
@@ -2872,13 +2878,13 @@ TK_INLINE tk_result_i16 tk_called_parse_text_i16(bool skip, bool skip_plus, tk_b
 }
 
 /* atoi_simd/src/parse_trait.rt:85 */
-TK_INLINE tk_result_i16 tk_atoi_simd_parse_i16(tk_bytes s, bool skip, bool skip_plus)
+TK_HINTED tk_result_i16 tk_atoi_simd_parse_i16(tk_bytes s, bool skip, bool skip_plus)
 {
     return tk_called_parse_text_i16(skip, skip_plus, s);
 }
 
 /* atoi_fast/src/short_slice.rt:13 */
-TK_INLINE uint16_t tk_loaded_digit_u16(tk_bytes s)
+TK_HINTED uint16_t tk_loaded_digit_u16(tk_bytes s)
 {
     return tk_from_parts_u16(false, tk_u128_of(TK_CAST(uint8_t, s.at[tk_index(0, s.len)] - '0')));
 }
@@ -2893,7 +2899,7 @@ TK_NOINLINE tk_option_u16 tk_loaded_slice_u16(tk_bytes s)
 }
 
 /* atoi_core/src/calls.rt:136 */
-TK_INLINE tk_result_u16 tk_whole_with_sign_u16(bool minus, bool skip, tk_bytes s)
+TK_HINTED tk_result_u16 tk_whole_with_sign_u16(bool minus, bool skip, tk_bytes s)
 {
     tk_result_u128 found = tk_whole_by_size(16, false, tk_u128_of(65535), minus, skip, s);
     if (!found.is_ok) {
@@ -2904,7 +2910,7 @@ TK_INLINE tk_result_u16 tk_whole_with_sign_u16(bool minus, bool skip, tk_bytes s
 }
 
 /* atoi_core/src/calls.rt:21 */
-TK_INLINE tk_result_u16 tk_atoi_core_parse_text_u16(bool skip, bool skip_plus, tk_bytes s)
+TK_HINTED tk_result_u16 tk_atoi_core_parse_text_u16(bool skip, bool skip_plus, tk_bytes s)
 {
     tk_pair_bool_bytes found = tk_take_sign(false, skip_plus, s);
     bool minus = found.first;
@@ -2913,7 +2919,7 @@ TK_INLINE tk_result_u16 tk_atoi_core_parse_text_u16(bool skip, bool skip_plus, t
 }
 
 /* atoi_fast/src/called.rt:17 */
-TK_INLINE tk_result_u16 tk_called_parse_text_u16(bool skip, bool skip_plus, tk_bytes s)
+TK_HINTED tk_result_u16 tk_called_parse_text_u16(bool skip, bool skip_plus, tk_bytes s)
 {
     if (s.len == 1 && '0' <= s.at[0] && s.at[0] <= '9') {
         return tk_ok_u16(tk_loaded_digit_u16(s));
@@ -2929,7 +2935,7 @@ TK_INLINE tk_result_u16 tk_called_parse_text_u16(bool skip, bool skip_plus, tk_b
 }
 
 /* atoi_simd/src/parse_trait.rt:73 */
-TK_INLINE tk_result_u16 tk_atoi_simd_parse_u16(tk_bytes s, bool skip, bool skip_plus)
+TK_HINTED tk_result_u16 tk_atoi_simd_parse_u16(tk_bytes s, bool skip, bool skip_plus)
 {
     return tk_called_parse_text_u16(skip, skip_plus, s);
 }
@@ -2950,7 +2956,7 @@ TK_NOINLINE tk_option_i32 tk_loaded_slice_i32(tk_bytes s)
 }
 
 /* atoi_core/src/calls.rt:136 */
-TK_INLINE tk_result_i32 tk_whole_with_sign_i32(bool minus, bool skip, tk_bytes s)
+TK_HINTED tk_result_i32 tk_whole_with_sign_i32(bool minus, bool skip, tk_bytes s)
 {
     tk_result_u128 found = tk_whole_by_size(32, true, tk_u128_of(2147483647), minus, skip, s);
     if (!found.is_ok) {
@@ -2961,7 +2967,7 @@ TK_INLINE tk_result_i32 tk_whole_with_sign_i32(bool minus, bool skip, tk_bytes s
 }
 
 /* atoi_core/src/calls.rt:21 */
-TK_INLINE tk_result_i32 tk_atoi_core_parse_text_i32(bool skip, bool skip_plus, tk_bytes s)
+TK_HINTED tk_result_i32 tk_atoi_core_parse_text_i32(bool skip, bool skip_plus, tk_bytes s)
 {
     tk_pair_bool_bytes found = tk_take_sign(true, skip_plus, s);
     bool minus = found.first;
@@ -2986,7 +2992,7 @@ TK_INLINE tk_result_i32 tk_called_parse_text_i32(bool skip, bool skip_plus, tk_b
 }
 
 /* atoi_simd/src/parse_trait.rt:109 */
-TK_INLINE tk_result_i32 tk_atoi_simd_parse_i32(tk_bytes s, bool skip, bool skip_plus)
+TK_HINTED tk_result_i32 tk_atoi_simd_parse_i32(tk_bytes s, bool skip, bool skip_plus)
 {
     return tk_called_parse_text_i32(skip, skip_plus, s);
 }
@@ -3007,7 +3013,7 @@ TK_NOINLINE tk_option_u32 tk_loaded_slice_u32(tk_bytes s)
 }
 
 /* atoi_core/src/calls.rt:136 */
-TK_INLINE tk_result_u32 tk_whole_with_sign_u32(bool minus, bool skip, tk_bytes s)
+TK_HINTED tk_result_u32 tk_whole_with_sign_u32(bool minus, bool skip, tk_bytes s)
 {
     tk_result_u128 found = tk_whole_by_size(32, false, tk_u128_of(UINT64_C(4294967295)), minus, skip, s);
     if (!found.is_ok) {
@@ -3018,7 +3024,7 @@ TK_INLINE tk_result_u32 tk_whole_with_sign_u32(bool minus, bool skip, tk_bytes s
 }
 
 /* atoi_core/src/calls.rt:21 */
-TK_INLINE tk_result_u32 tk_atoi_core_parse_text_u32(bool skip, bool skip_plus, tk_bytes s)
+TK_HINTED tk_result_u32 tk_atoi_core_parse_text_u32(bool skip, bool skip_plus, tk_bytes s)
 {
     tk_pair_bool_bytes found = tk_take_sign(false, skip_plus, s);
     bool minus = found.first;
@@ -3043,7 +3049,7 @@ TK_INLINE tk_result_u32 tk_called_parse_text_u32(bool skip, bool skip_plus, tk_b
 }
 
 /* atoi_simd/src/parse_trait.rt:97 */
-TK_INLINE tk_result_u32 tk_atoi_simd_parse_u32(tk_bytes s, bool skip, bool skip_plus)
+TK_HINTED tk_result_u32 tk_atoi_simd_parse_u32(tk_bytes s, bool skip, bool skip_plus)
 {
     return tk_called_parse_text_u32(skip, skip_plus, s);
 }
@@ -3064,7 +3070,7 @@ TK_NOINLINE tk_option_i64 tk_loaded_slice_i64(tk_bytes s)
 }
 
 /* atoi_core/src/calls.rt:136 */
-TK_INLINE tk_result_i64 tk_whole_with_sign_i64(bool minus, bool skip, tk_bytes s)
+TK_HINTED tk_result_i64 tk_whole_with_sign_i64(bool minus, bool skip, tk_bytes s)
 {
     tk_result_u128 found = tk_whole_by_size(64, true, tk_u128_of(UINT64_C(9223372036854775807)), minus, skip, s);
     if (!found.is_ok) {
@@ -3075,7 +3081,7 @@ TK_INLINE tk_result_i64 tk_whole_with_sign_i64(bool minus, bool skip, tk_bytes s
 }
 
 /* atoi_core/src/calls.rt:21 */
-TK_INLINE tk_result_i64 tk_atoi_core_parse_text_i64(bool skip, bool skip_plus, tk_bytes s)
+TK_HINTED tk_result_i64 tk_atoi_core_parse_text_i64(bool skip, bool skip_plus, tk_bytes s)
 {
     tk_pair_bool_bytes found = tk_take_sign(true, skip_plus, s);
     bool minus = found.first;
@@ -3100,7 +3106,7 @@ TK_INLINE tk_result_i64 tk_called_parse_text_i64(bool skip, bool skip_plus, tk_b
 }
 
 /* atoi_simd/src/parse_trait.rt:157 */
-TK_INLINE tk_result_i64 tk_atoi_simd_parse_i64(tk_bytes s, bool skip, bool skip_plus)
+TK_HINTED tk_result_i64 tk_atoi_simd_parse_i64(tk_bytes s, bool skip, bool skip_plus)
 {
     return tk_called_parse_text_i64(skip, skip_plus, s);
 }
@@ -3121,7 +3127,7 @@ TK_NOINLINE tk_option_u64 tk_loaded_slice_u64(tk_bytes s)
 }
 
 /* atoi_core/src/calls.rt:136 */
-TK_INLINE tk_result_u64 tk_whole_with_sign_u64(bool minus, bool skip, tk_bytes s)
+TK_HINTED tk_result_u64 tk_whole_with_sign_u64(bool minus, bool skip, tk_bytes s)
 {
     tk_result_u128 found = tk_whole_by_size(64, false, tk_u128_of(UINT64_C(18446744073709551615)), minus, skip, s);
     if (!found.is_ok) {
@@ -3132,7 +3138,7 @@ TK_INLINE tk_result_u64 tk_whole_with_sign_u64(bool minus, bool skip, tk_bytes s
 }
 
 /* atoi_core/src/calls.rt:21 */
-TK_INLINE tk_result_u64 tk_atoi_core_parse_text_u64(bool skip, bool skip_plus, tk_bytes s)
+TK_HINTED tk_result_u64 tk_atoi_core_parse_text_u64(bool skip, bool skip_plus, tk_bytes s)
 {
     tk_pair_bool_bytes found = tk_take_sign(false, skip_plus, s);
     bool minus = found.first;
@@ -3157,13 +3163,13 @@ TK_INLINE tk_result_u64 tk_called_parse_text_u64(bool skip, bool skip_plus, tk_b
 }
 
 /* atoi_simd/src/parse_trait.rt:145 */
-TK_INLINE tk_result_u64 tk_atoi_simd_parse_u64(tk_bytes s, bool skip, bool skip_plus)
+TK_HINTED tk_result_u64 tk_atoi_simd_parse_u64(tk_bytes s, bool skip, bool skip_plus)
 {
     return tk_called_parse_text_u64(skip, skip_plus, s);
 }
 
 /* atoi_fast/src/short_slice.rt:13 */
-TK_INLINE tk_i128 tk_loaded_digit_i128(tk_bytes s)
+TK_HINTED tk_i128 tk_loaded_digit_i128(tk_bytes s)
 {
     return tk_from_parts_i128(false, tk_u128_of(TK_CAST(uint8_t, s.at[tk_index(0, s.len)] - '0')));
 }
@@ -3178,7 +3184,7 @@ TK_NOINLINE tk_option_i128 tk_loaded_slice_i128(tk_bytes s)
 }
 
 /* atoi_core/src/calls.rt:136 */
-TK_INLINE tk_result_i128 tk_whole_with_sign_i128(bool minus, bool skip, tk_bytes s)
+TK_HINTED tk_result_i128 tk_whole_with_sign_i128(bool minus, bool skip, tk_bytes s)
 {
     tk_result_u128 found = tk_whole_by_size(128, true,
                                             tk_u128_make(UINT64_C(9223372036854775807), UINT64_C(18446744073709551615)),
@@ -3191,7 +3197,7 @@ TK_INLINE tk_result_i128 tk_whole_with_sign_i128(bool minus, bool skip, tk_bytes
 }
 
 /* atoi_core/src/calls.rt:21 */
-TK_INLINE tk_result_i128 tk_atoi_core_parse_text_i128(bool skip, bool skip_plus, tk_bytes s)
+TK_HINTED tk_result_i128 tk_atoi_core_parse_text_i128(bool skip, bool skip_plus, tk_bytes s)
 {
     tk_pair_bool_bytes found = tk_take_sign(true, skip_plus, s);
     bool minus = found.first;
@@ -3200,7 +3206,7 @@ TK_INLINE tk_result_i128 tk_atoi_core_parse_text_i128(bool skip, bool skip_plus,
 }
 
 /* atoi_fast/src/called.rt:17 */
-TK_INLINE tk_result_i128 tk_called_parse_text_i128(bool skip, bool skip_plus, tk_bytes s)
+TK_HINTED tk_result_i128 tk_called_parse_text_i128(bool skip, bool skip_plus, tk_bytes s)
 {
     if (s.len == 1 && '0' <= s.at[0] && s.at[0] <= '9') {
         return tk_ok_i128(tk_loaded_digit_i128(s));
@@ -3216,13 +3222,13 @@ TK_INLINE tk_result_i128 tk_called_parse_text_i128(bool skip, bool skip_plus, tk
 }
 
 /* atoi_simd/src/parse_trait.rt:181 */
-TK_INLINE tk_result_i128 tk_atoi_simd_parse_i128(tk_bytes s, bool skip, bool skip_plus)
+TK_HINTED tk_result_i128 tk_atoi_simd_parse_i128(tk_bytes s, bool skip, bool skip_plus)
 {
     return tk_called_parse_text_i128(skip, skip_plus, s);
 }
 
 /* atoi_fast/src/short_slice.rt:13 */
-TK_INLINE tk_u128 tk_loaded_digit_u128(tk_bytes s)
+TK_HINTED tk_u128 tk_loaded_digit_u128(tk_bytes s)
 {
     return tk_from_parts_u128(false, tk_u128_of(TK_CAST(uint8_t, s.at[tk_index(0, s.len)] - '0')));
 }
@@ -3237,7 +3243,7 @@ TK_NOINLINE tk_option_u128 tk_loaded_slice_u128(tk_bytes s)
 }
 
 /* atoi_core/src/calls.rt:136 */
-TK_INLINE tk_result_u128 tk_whole_with_sign_u128(bool minus, bool skip, tk_bytes s)
+TK_HINTED tk_result_u128 tk_whole_with_sign_u128(bool minus, bool skip, tk_bytes s)
 {
     tk_result_u128 found = tk_whole_by_size(128, false,
                                             tk_u128_make(UINT64_C(18446744073709551615),
@@ -3250,7 +3256,7 @@ TK_INLINE tk_result_u128 tk_whole_with_sign_u128(bool minus, bool skip, tk_bytes
 }
 
 /* atoi_core/src/calls.rt:21 */
-TK_INLINE tk_result_u128 tk_atoi_core_parse_text_u128(bool skip, bool skip_plus, tk_bytes s)
+TK_HINTED tk_result_u128 tk_atoi_core_parse_text_u128(bool skip, bool skip_plus, tk_bytes s)
 {
     tk_pair_bool_bytes found = tk_take_sign(false, skip_plus, s);
     bool minus = found.first;
@@ -3259,7 +3265,7 @@ TK_INLINE tk_result_u128 tk_atoi_core_parse_text_u128(bool skip, bool skip_plus,
 }
 
 /* atoi_fast/src/called.rt:17 */
-TK_INLINE tk_result_u128 tk_called_parse_text_u128(bool skip, bool skip_plus, tk_bytes s)
+TK_HINTED tk_result_u128 tk_called_parse_text_u128(bool skip, bool skip_plus, tk_bytes s)
 {
     if (s.len == 1 && '0' <= s.at[0] && s.at[0] <= '9') {
         return tk_ok_u128(tk_loaded_digit_u128(s));
@@ -3275,7 +3281,7 @@ TK_INLINE tk_result_u128 tk_called_parse_text_u128(bool skip, bool skip_plus, tk
 }
 
 /* atoi_simd/src/parse_trait.rt:169 */
-TK_INLINE tk_result_u128 tk_atoi_simd_parse_u128(tk_bytes s, bool skip, bool skip_plus)
+TK_HINTED tk_result_u128 tk_atoi_simd_parse_u128(tk_bytes s, bool skip, bool skip_plus)
 {
     return tk_called_parse_text_u128(skip, skip_plus, s);
 }
@@ -3285,7 +3291,7 @@ TK_INLINE tk_result_u128 tk_atoi_simd_parse_u128(tk_bytes s, bool skip, bool ski
  * For `i64`, also a number of up to 19 digits. Others may be `None`, too.
  */
 /* atoi_fast/src/short_prefix.rt:17 */
-TK_INLINE tk_option_pair_i8_size tk_short_prefix_i8(tk_bytes s)
+TK_HINTED tk_option_pair_i8_size tk_short_prefix_i8(tk_bytes s)
 {
     return tk_prefix_of_words_i8(s);
 }
@@ -3339,7 +3345,7 @@ TK_NOINLINE tk_result_pair_u64_size tk_narrow_prefix(uint64_t bound, bool skip, 
 
 /* Returns the magnitude and how many digits there are, by the parser for the type's size. */
 /* atoi_core/src/calls.rt:200 */
-TK_INLINE tk_result_pair_u128_size tk_prefix_by_size(uint32_t bits, bool is_signed, tk_u128 greatest, bool minus,
+TK_HINTED tk_result_pair_u128_size tk_prefix_by_size(uint32_t bits, bool is_signed, tk_u128 greatest, bool minus,
                                                      bool skip, tk_bytes s)
 {
     tk_u128 bound = tk_greatest_magnitude(greatest, minus);
@@ -3366,7 +3372,7 @@ TK_INLINE tk_result_pair_u128_size tk_prefix_by_size(uint32_t bits, bool is_sign
 
 /* Like `prefix_neg` if `minus` is set, otherwise like `prefix_pos`, for a type that may be unsigned. */
 /* atoi_core/src/calls.rt:180 */
-TK_INLINE tk_result_pair_i8_size tk_prefix_with_sign_i8(bool minus, bool skip, tk_bytes s)
+TK_HINTED tk_result_pair_i8_size tk_prefix_with_sign_i8(bool minus, bool skip, tk_bytes s)
 {
     tk_result_pair_u128_size found = tk_prefix_by_size(8, true, tk_u128_of(127), minus, skip, s);
     if (!found.is_ok) {
@@ -3382,7 +3388,7 @@ TK_INLINE tk_result_pair_i8_size tk_prefix_with_sign_i8(bool minus, bool skip, t
  * errors of `prefix_pos` for the body, or of `prefix_neg` after a `-`.
  */
 /* atoi_core/src/calls.rt:38 */
-TK_INLINE tk_result_pair_i8_size tk_atoi_core_parse_prefix_text_i8(bool skip, bool skip_plus, tk_bytes s)
+TK_HINTED tk_result_pair_i8_size tk_atoi_core_parse_prefix_text_i8(bool skip, bool skip_plus, tk_bytes s)
 {
     tk_pair_bool_bytes found = tk_take_sign(true, skip_plus, s);
     bool minus = found.first;
@@ -3398,7 +3404,7 @@ TK_INLINE tk_result_pair_i8_size tk_atoi_core_parse_prefix_text_i8(bool skip, bo
 
 /* `atoi_core::parse_prefix_text`, with at most one load more. */
 /* atoi_fast/src/called.rt:42 */
-TK_INLINE tk_result_pair_i8_size tk_called_parse_prefix_text_i8(bool skip, bool skip_plus, tk_bytes s)
+TK_HINTED tk_result_pair_i8_size tk_called_parse_prefix_text_i8(bool skip, bool skip_plus, tk_bytes s)
 {
     if (s.len >= 16) {
         tk_option_pair_i8_size found = tk_short_prefix_i8(s);
@@ -3426,7 +3432,7 @@ TK_NOINLINE tk_result_pair_i8_size tk_atoi_simd_parse_prefix_i8(tk_bytes s, bool
 }
 
 /* atoi_fast/src/short_prefix.rt:174 */
-TK_INLINE tk_option_pair_u8_size tk_unsigned_prefix_u8(tk_bytes s)
+TK_HINTED tk_option_pair_u8_size tk_unsigned_prefix_u8(tk_bytes s)
 {
     uint64_t word = tk_load_full(s);
     uint32_t len = tk_leading_digits(word);
@@ -3437,13 +3443,13 @@ TK_INLINE tk_option_pair_u8_size tk_unsigned_prefix_u8(tk_bytes s)
 }
 
 /* atoi_fast/src/short_prefix.rt:17 */
-TK_INLINE tk_option_pair_u8_size tk_short_prefix_u8(tk_bytes s)
+TK_HINTED tk_option_pair_u8_size tk_short_prefix_u8(tk_bytes s)
 {
     return tk_unsigned_prefix_u8(s);
 }
 
 /* atoi_core/src/calls.rt:180 */
-TK_INLINE tk_result_pair_u8_size tk_prefix_with_sign_u8(bool minus, bool skip, tk_bytes s)
+TK_HINTED tk_result_pair_u8_size tk_prefix_with_sign_u8(bool minus, bool skip, tk_bytes s)
 {
     tk_result_pair_u128_size found = tk_prefix_by_size(8, false, tk_u128_of(255), minus, skip, s);
     if (!found.is_ok) {
@@ -3455,7 +3461,7 @@ TK_INLINE tk_result_pair_u8_size tk_prefix_with_sign_u8(bool minus, bool skip, t
 }
 
 /* atoi_core/src/calls.rt:38 */
-TK_INLINE tk_result_pair_u8_size tk_atoi_core_parse_prefix_text_u8(bool skip, bool skip_plus, tk_bytes s)
+TK_HINTED tk_result_pair_u8_size tk_atoi_core_parse_prefix_text_u8(bool skip, bool skip_plus, tk_bytes s)
 {
     tk_pair_bool_bytes found = tk_take_sign(false, skip_plus, s);
     bool minus = found.first;
@@ -3470,7 +3476,7 @@ TK_INLINE tk_result_pair_u8_size tk_atoi_core_parse_prefix_text_u8(bool skip, bo
 }
 
 /* atoi_fast/src/called.rt:42 */
-TK_INLINE tk_result_pair_u8_size tk_called_parse_prefix_text_u8(bool skip, bool skip_plus, tk_bytes s)
+TK_HINTED tk_result_pair_u8_size tk_called_parse_prefix_text_u8(bool skip, bool skip_plus, tk_bytes s)
 {
     if (s.len >= 16) {
         tk_option_pair_u8_size found = tk_short_prefix_u8(s);
@@ -3498,13 +3504,13 @@ TK_NOINLINE tk_result_pair_u8_size tk_atoi_simd_parse_prefix_u8(tk_bytes s, bool
 }
 
 /* atoi_fast/src/short_prefix.rt:17 */
-TK_INLINE tk_option_pair_i16_size tk_short_prefix_i16(tk_bytes s)
+TK_HINTED tk_option_pair_i16_size tk_short_prefix_i16(tk_bytes s)
 {
     return tk_prefix_of_words_i16(s);
 }
 
 /* atoi_core/src/calls.rt:180 */
-TK_INLINE tk_result_pair_i16_size tk_prefix_with_sign_i16(bool minus, bool skip, tk_bytes s)
+TK_HINTED tk_result_pair_i16_size tk_prefix_with_sign_i16(bool minus, bool skip, tk_bytes s)
 {
     tk_result_pair_u128_size found = tk_prefix_by_size(16, true, tk_u128_of(32767), minus, skip, s);
     if (!found.is_ok) {
@@ -3516,7 +3522,7 @@ TK_INLINE tk_result_pair_i16_size tk_prefix_with_sign_i16(bool minus, bool skip,
 }
 
 /* atoi_core/src/calls.rt:38 */
-TK_INLINE tk_result_pair_i16_size tk_atoi_core_parse_prefix_text_i16(bool skip, bool skip_plus, tk_bytes s)
+TK_HINTED tk_result_pair_i16_size tk_atoi_core_parse_prefix_text_i16(bool skip, bool skip_plus, tk_bytes s)
 {
     tk_pair_bool_bytes found = tk_take_sign(true, skip_plus, s);
     bool minus = found.first;
@@ -3531,7 +3537,7 @@ TK_INLINE tk_result_pair_i16_size tk_atoi_core_parse_prefix_text_i16(bool skip, 
 }
 
 /* atoi_fast/src/called.rt:42 */
-TK_INLINE tk_result_pair_i16_size tk_called_parse_prefix_text_i16(bool skip, bool skip_plus, tk_bytes s)
+TK_HINTED tk_result_pair_i16_size tk_called_parse_prefix_text_i16(bool skip, bool skip_plus, tk_bytes s)
 {
     if (s.len >= 16) {
         tk_option_pair_i16_size found = tk_short_prefix_i16(s);
@@ -3559,7 +3565,7 @@ TK_NOINLINE tk_result_pair_i16_size tk_atoi_simd_parse_prefix_i16(tk_bytes s, bo
 }
 
 /* atoi_fast/src/short_prefix.rt:174 */
-TK_INLINE tk_option_pair_u16_size tk_unsigned_prefix_u16(tk_bytes s)
+TK_HINTED tk_option_pair_u16_size tk_unsigned_prefix_u16(tk_bytes s)
 {
     uint64_t word = tk_load_full(s);
     uint32_t len = tk_leading_digits(word);
@@ -3570,13 +3576,13 @@ TK_INLINE tk_option_pair_u16_size tk_unsigned_prefix_u16(tk_bytes s)
 }
 
 /* atoi_fast/src/short_prefix.rt:17 */
-TK_INLINE tk_option_pair_u16_size tk_short_prefix_u16(tk_bytes s)
+TK_HINTED tk_option_pair_u16_size tk_short_prefix_u16(tk_bytes s)
 {
     return tk_unsigned_prefix_u16(s);
 }
 
 /* atoi_core/src/calls.rt:180 */
-TK_INLINE tk_result_pair_u16_size tk_prefix_with_sign_u16(bool minus, bool skip, tk_bytes s)
+TK_HINTED tk_result_pair_u16_size tk_prefix_with_sign_u16(bool minus, bool skip, tk_bytes s)
 {
     tk_result_pair_u128_size found = tk_prefix_by_size(16, false, tk_u128_of(65535), minus, skip, s);
     if (!found.is_ok) {
@@ -3588,7 +3594,7 @@ TK_INLINE tk_result_pair_u16_size tk_prefix_with_sign_u16(bool minus, bool skip,
 }
 
 /* atoi_core/src/calls.rt:38 */
-TK_INLINE tk_result_pair_u16_size tk_atoi_core_parse_prefix_text_u16(bool skip, bool skip_plus, tk_bytes s)
+TK_HINTED tk_result_pair_u16_size tk_atoi_core_parse_prefix_text_u16(bool skip, bool skip_plus, tk_bytes s)
 {
     tk_pair_bool_bytes found = tk_take_sign(false, skip_plus, s);
     bool minus = found.first;
@@ -3603,7 +3609,7 @@ TK_INLINE tk_result_pair_u16_size tk_atoi_core_parse_prefix_text_u16(bool skip, 
 }
 
 /* atoi_fast/src/called.rt:42 */
-TK_INLINE tk_result_pair_u16_size tk_called_parse_prefix_text_u16(bool skip, bool skip_plus, tk_bytes s)
+TK_HINTED tk_result_pair_u16_size tk_called_parse_prefix_text_u16(bool skip, bool skip_plus, tk_bytes s)
 {
     if (s.len >= 16) {
         tk_option_pair_u16_size found = tk_short_prefix_u16(s);
@@ -3637,7 +3643,7 @@ TK_INLINE tk_option_pair_i32_size tk_short_prefix_i32(tk_bytes s)
 }
 
 /* atoi_core/src/calls.rt:180 */
-TK_INLINE tk_result_pair_i32_size tk_prefix_with_sign_i32(bool minus, bool skip, tk_bytes s)
+TK_HINTED tk_result_pair_i32_size tk_prefix_with_sign_i32(bool minus, bool skip, tk_bytes s)
 {
     tk_result_pair_u128_size found = tk_prefix_by_size(32, true, tk_u128_of(2147483647), minus, skip, s);
     if (!found.is_ok) {
@@ -3649,7 +3655,7 @@ TK_INLINE tk_result_pair_i32_size tk_prefix_with_sign_i32(bool minus, bool skip,
 }
 
 /* atoi_core/src/calls.rt:38 */
-TK_INLINE tk_result_pair_i32_size tk_atoi_core_parse_prefix_text_i32(bool skip, bool skip_plus, tk_bytes s)
+TK_HINTED tk_result_pair_i32_size tk_atoi_core_parse_prefix_text_i32(bool skip, bool skip_plus, tk_bytes s)
 {
     tk_pair_bool_bytes found = tk_take_sign(true, skip_plus, s);
     bool minus = found.first;
@@ -3709,7 +3715,7 @@ TK_INLINE tk_option_pair_u32_size tk_short_prefix_u32(tk_bytes s)
 }
 
 /* atoi_core/src/calls.rt:180 */
-TK_INLINE tk_result_pair_u32_size tk_prefix_with_sign_u32(bool minus, bool skip, tk_bytes s)
+TK_HINTED tk_result_pair_u32_size tk_prefix_with_sign_u32(bool minus, bool skip, tk_bytes s)
 {
     tk_result_pair_u128_size found = tk_prefix_by_size(32, false, tk_u128_of(UINT64_C(4294967295)), minus, skip, s);
     if (!found.is_ok) {
@@ -3721,7 +3727,7 @@ TK_INLINE tk_result_pair_u32_size tk_prefix_with_sign_u32(bool minus, bool skip,
 }
 
 /* atoi_core/src/calls.rt:38 */
-TK_INLINE tk_result_pair_u32_size tk_atoi_core_parse_prefix_text_u32(bool skip, bool skip_plus, tk_bytes s)
+TK_HINTED tk_result_pair_u32_size tk_atoi_core_parse_prefix_text_u32(bool skip, bool skip_plus, tk_bytes s)
 {
     tk_pair_bool_bytes found = tk_take_sign(false, skip_plus, s);
     bool minus = found.first;
@@ -3770,7 +3776,7 @@ TK_INLINE tk_option_pair_i64_size tk_short_prefix_i64(tk_bytes s)
 }
 
 /* atoi_core/src/calls.rt:180 */
-TK_INLINE tk_result_pair_i64_size tk_prefix_with_sign_i64(bool minus, bool skip, tk_bytes s)
+TK_HINTED tk_result_pair_i64_size tk_prefix_with_sign_i64(bool minus, bool skip, tk_bytes s)
 {
     tk_result_pair_u128_size found = tk_prefix_by_size(64, true, tk_u128_of(UINT64_C(9223372036854775807)), minus, skip,
                                                        s);
@@ -3783,7 +3789,7 @@ TK_INLINE tk_result_pair_i64_size tk_prefix_with_sign_i64(bool minus, bool skip,
 }
 
 /* atoi_core/src/calls.rt:38 */
-TK_INLINE tk_result_pair_i64_size tk_atoi_core_parse_prefix_text_i64(bool skip, bool skip_plus, tk_bytes s)
+TK_HINTED tk_result_pair_i64_size tk_atoi_core_parse_prefix_text_i64(bool skip, bool skip_plus, tk_bytes s)
 {
     tk_pair_bool_bytes found = tk_take_sign(true, skip_plus, s);
     bool minus = found.first;
@@ -3843,7 +3849,7 @@ TK_INLINE tk_option_pair_u64_size tk_short_prefix_u64(tk_bytes s)
 }
 
 /* atoi_core/src/calls.rt:180 */
-TK_INLINE tk_result_pair_u64_size tk_prefix_with_sign_u64(bool minus, bool skip, tk_bytes s)
+TK_HINTED tk_result_pair_u64_size tk_prefix_with_sign_u64(bool minus, bool skip, tk_bytes s)
 {
     tk_result_pair_u128_size found = tk_prefix_by_size(64, false, tk_u128_of(UINT64_C(18446744073709551615)), minus,
                                                        skip, s);
@@ -3856,7 +3862,7 @@ TK_INLINE tk_result_pair_u64_size tk_prefix_with_sign_u64(bool minus, bool skip,
 }
 
 /* atoi_core/src/calls.rt:38 */
-TK_INLINE tk_result_pair_u64_size tk_atoi_core_parse_prefix_text_u64(bool skip, bool skip_plus, tk_bytes s)
+TK_HINTED tk_result_pair_u64_size tk_atoi_core_parse_prefix_text_u64(bool skip, bool skip_plus, tk_bytes s)
 {
     tk_pair_bool_bytes found = tk_take_sign(false, skip_plus, s);
     bool minus = found.first;
@@ -3899,13 +3905,13 @@ TK_NOINLINE tk_result_pair_u64_size tk_atoi_simd_parse_prefix_u64(tk_bytes s, bo
 }
 
 /* atoi_fast/src/short_prefix.rt:17 */
-TK_INLINE tk_option_pair_i128_size tk_short_prefix_i128(tk_bytes s)
+TK_HINTED tk_option_pair_i128_size tk_short_prefix_i128(tk_bytes s)
 {
     return tk_prefix_of_words_i128(s);
 }
 
 /* atoi_core/src/calls.rt:180 */
-TK_INLINE tk_result_pair_i128_size tk_prefix_with_sign_i128(bool minus, bool skip, tk_bytes s)
+TK_HINTED tk_result_pair_i128_size tk_prefix_with_sign_i128(bool minus, bool skip, tk_bytes s)
 {
     tk_result_pair_u128_size found = tk_prefix_by_size(128, true,
                                                        tk_u128_make(UINT64_C(9223372036854775807),
@@ -3919,7 +3925,7 @@ TK_INLINE tk_result_pair_i128_size tk_prefix_with_sign_i128(bool minus, bool ski
 }
 
 /* atoi_core/src/calls.rt:38 */
-TK_INLINE tk_result_pair_i128_size tk_atoi_core_parse_prefix_text_i128(bool skip, bool skip_plus, tk_bytes s)
+TK_HINTED tk_result_pair_i128_size tk_atoi_core_parse_prefix_text_i128(bool skip, bool skip_plus, tk_bytes s)
 {
     tk_pair_bool_bytes found = tk_take_sign(true, skip_plus, s);
     bool minus = found.first;
@@ -3934,7 +3940,7 @@ TK_INLINE tk_result_pair_i128_size tk_atoi_core_parse_prefix_text_i128(bool skip
 }
 
 /* atoi_fast/src/called.rt:42 */
-TK_INLINE tk_result_pair_i128_size tk_called_parse_prefix_text_i128(bool skip, bool skip_plus, tk_bytes s)
+TK_HINTED tk_result_pair_i128_size tk_called_parse_prefix_text_i128(bool skip, bool skip_plus, tk_bytes s)
 {
     if (s.len >= 16) {
         tk_option_pair_i128_size found = tk_short_prefix_i128(s);
@@ -3962,7 +3968,7 @@ TK_NOINLINE tk_result_pair_i128_size tk_atoi_simd_parse_prefix_i128(tk_bytes s, 
 }
 
 /* atoi_fast/src/short_prefix.rt:174 */
-TK_INLINE tk_option_pair_u128_size tk_unsigned_prefix_u128(tk_bytes s)
+TK_HINTED tk_option_pair_u128_size tk_unsigned_prefix_u128(tk_bytes s)
 {
     uint64_t word = tk_load_full(s);
     uint32_t len = tk_leading_digits(word);
@@ -3973,13 +3979,13 @@ TK_INLINE tk_option_pair_u128_size tk_unsigned_prefix_u128(tk_bytes s)
 }
 
 /* atoi_fast/src/short_prefix.rt:17 */
-TK_INLINE tk_option_pair_u128_size tk_short_prefix_u128(tk_bytes s)
+TK_HINTED tk_option_pair_u128_size tk_short_prefix_u128(tk_bytes s)
 {
     return tk_unsigned_prefix_u128(s);
 }
 
 /* atoi_core/src/calls.rt:180 */
-TK_INLINE tk_result_pair_u128_size tk_prefix_with_sign_u128(bool minus, bool skip, tk_bytes s)
+TK_HINTED tk_result_pair_u128_size tk_prefix_with_sign_u128(bool minus, bool skip, tk_bytes s)
 {
     tk_result_pair_u128_size found = tk_prefix_by_size(128, false,
                                                        tk_u128_make(UINT64_C(18446744073709551615),
@@ -3993,7 +3999,7 @@ TK_INLINE tk_result_pair_u128_size tk_prefix_with_sign_u128(bool minus, bool ski
 }
 
 /* atoi_core/src/calls.rt:38 */
-TK_INLINE tk_result_pair_u128_size tk_atoi_core_parse_prefix_text_u128(bool skip, bool skip_plus, tk_bytes s)
+TK_HINTED tk_result_pair_u128_size tk_atoi_core_parse_prefix_text_u128(bool skip, bool skip_plus, tk_bytes s)
 {
     tk_pair_bool_bytes found = tk_take_sign(false, skip_plus, s);
     bool minus = found.first;
@@ -4008,7 +4014,7 @@ TK_INLINE tk_result_pair_u128_size tk_atoi_core_parse_prefix_text_u128(bool skip
 }
 
 /* atoi_fast/src/called.rt:42 */
-TK_INLINE tk_result_pair_u128_size tk_called_parse_prefix_text_u128(bool skip, bool skip_plus, tk_bytes s)
+TK_HINTED tk_result_pair_u128_size tk_called_parse_prefix_text_u128(bool skip, bool skip_plus, tk_bytes s)
 {
     if (s.len >= 16) {
         tk_option_pair_u128_size found = tk_short_prefix_u128(s);
@@ -4040,14 +4046,14 @@ TK_NOINLINE tk_result_pair_u128_size tk_atoi_simd_parse_prefix_u128(tk_bytes s, 
  * zeros do not count towards a limit of digits. The errors are of every kind, and `s` is the body.
  */
 /* atoi_core/src/calls.rt:75 */
-TK_INLINE tk_result_i8 tk_atoi_core_whole_pos_i8(bool skip, tk_bytes s)
+TK_HINTED tk_result_i8 tk_atoi_core_whole_pos_i8(bool skip, tk_bytes s)
 {
     return tk_whole_with_sign_i8(false, skip, s);
 }
 
 /* `atoi_core::whole_pos`, with at most one load more. */
 /* atoi_fast/src/called.rt:71 */
-TK_INLINE tk_result_i8 tk_called_whole_pos_i8(bool skip, tk_bytes s)
+TK_HINTED tk_result_i8 tk_called_whole_pos_i8(bool skip, tk_bytes s)
 {
     if (s.len >= 2 && '0' <= s.at[0] && s.at[0] <= '9' && s.len < 16) {
         tk_option_i8 found = tk_loaded_slice_i8(s);
@@ -4060,19 +4066,19 @@ TK_INLINE tk_result_i8 tk_called_whole_pos_i8(bool skip, tk_bytes s)
 }
 
 /* atoi_simd/src/parse_pos_trait.rt:37 */
-TK_INLINE tk_result_i8 tk_atoi_simd_parse_pos_i8(tk_bytes s, bool skip)
+TK_HINTED tk_result_i8 tk_atoi_simd_parse_pos_i8(tk_bytes s, bool skip)
 {
     return tk_called_whole_pos_i8(skip, s);
 }
 
 /* atoi_core/src/calls.rt:75 */
-TK_INLINE tk_result_u8 tk_atoi_core_whole_pos_u8(bool skip, tk_bytes s)
+TK_HINTED tk_result_u8 tk_atoi_core_whole_pos_u8(bool skip, tk_bytes s)
 {
     return tk_whole_with_sign_u8(false, skip, s);
 }
 
 /* atoi_fast/src/called.rt:71 */
-TK_INLINE tk_result_u8 tk_called_whole_pos_u8(bool skip, tk_bytes s)
+TK_HINTED tk_result_u8 tk_called_whole_pos_u8(bool skip, tk_bytes s)
 {
     if (s.len >= 2 && '0' <= s.at[0] && s.at[0] <= '9' && s.len < 16) {
         tk_option_u8 found = tk_loaded_slice_u8(s);
@@ -4085,19 +4091,19 @@ TK_INLINE tk_result_u8 tk_called_whole_pos_u8(bool skip, tk_bytes s)
 }
 
 /* atoi_simd/src/parse_pos_trait.rt:25 */
-TK_INLINE tk_result_u8 tk_atoi_simd_parse_pos_u8(tk_bytes s, bool skip)
+TK_HINTED tk_result_u8 tk_atoi_simd_parse_pos_u8(tk_bytes s, bool skip)
 {
     return tk_called_whole_pos_u8(skip, s);
 }
 
 /* atoi_core/src/calls.rt:75 */
-TK_INLINE tk_result_i16 tk_atoi_core_whole_pos_i16(bool skip, tk_bytes s)
+TK_HINTED tk_result_i16 tk_atoi_core_whole_pos_i16(bool skip, tk_bytes s)
 {
     return tk_whole_with_sign_i16(false, skip, s);
 }
 
 /* atoi_fast/src/called.rt:71 */
-TK_INLINE tk_result_i16 tk_called_whole_pos_i16(bool skip, tk_bytes s)
+TK_HINTED tk_result_i16 tk_called_whole_pos_i16(bool skip, tk_bytes s)
 {
     if (s.len >= 2 && '0' <= s.at[0] && s.at[0] <= '9' && s.len < 16) {
         tk_option_i16 found = tk_loaded_slice_i16(s);
@@ -4110,19 +4116,19 @@ TK_INLINE tk_result_i16 tk_called_whole_pos_i16(bool skip, tk_bytes s)
 }
 
 /* atoi_simd/src/parse_pos_trait.rt:61 */
-TK_INLINE tk_result_i16 tk_atoi_simd_parse_pos_i16(tk_bytes s, bool skip)
+TK_HINTED tk_result_i16 tk_atoi_simd_parse_pos_i16(tk_bytes s, bool skip)
 {
     return tk_called_whole_pos_i16(skip, s);
 }
 
 /* atoi_core/src/calls.rt:75 */
-TK_INLINE tk_result_u16 tk_atoi_core_whole_pos_u16(bool skip, tk_bytes s)
+TK_HINTED tk_result_u16 tk_atoi_core_whole_pos_u16(bool skip, tk_bytes s)
 {
     return tk_whole_with_sign_u16(false, skip, s);
 }
 
 /* atoi_fast/src/called.rt:71 */
-TK_INLINE tk_result_u16 tk_called_whole_pos_u16(bool skip, tk_bytes s)
+TK_HINTED tk_result_u16 tk_called_whole_pos_u16(bool skip, tk_bytes s)
 {
     if (s.len >= 2 && '0' <= s.at[0] && s.at[0] <= '9' && s.len < 16) {
         tk_option_u16 found = tk_loaded_slice_u16(s);
@@ -4135,13 +4141,13 @@ TK_INLINE tk_result_u16 tk_called_whole_pos_u16(bool skip, tk_bytes s)
 }
 
 /* atoi_simd/src/parse_pos_trait.rt:49 */
-TK_INLINE tk_result_u16 tk_atoi_simd_parse_pos_u16(tk_bytes s, bool skip)
+TK_HINTED tk_result_u16 tk_atoi_simd_parse_pos_u16(tk_bytes s, bool skip)
 {
     return tk_called_whole_pos_u16(skip, s);
 }
 
 /* atoi_core/src/calls.rt:75 */
-TK_INLINE tk_result_i32 tk_atoi_core_whole_pos_i32(bool skip, tk_bytes s)
+TK_HINTED tk_result_i32 tk_atoi_core_whole_pos_i32(bool skip, tk_bytes s)
 {
     return tk_whole_with_sign_i32(false, skip, s);
 }
@@ -4160,13 +4166,13 @@ TK_INLINE tk_result_i32 tk_called_whole_pos_i32(bool skip, tk_bytes s)
 }
 
 /* atoi_simd/src/parse_pos_trait.rt:85 */
-TK_INLINE tk_result_i32 tk_atoi_simd_parse_pos_i32(tk_bytes s, bool skip)
+TK_HINTED tk_result_i32 tk_atoi_simd_parse_pos_i32(tk_bytes s, bool skip)
 {
     return tk_called_whole_pos_i32(skip, s);
 }
 
 /* atoi_core/src/calls.rt:75 */
-TK_INLINE tk_result_u32 tk_atoi_core_whole_pos_u32(bool skip, tk_bytes s)
+TK_HINTED tk_result_u32 tk_atoi_core_whole_pos_u32(bool skip, tk_bytes s)
 {
     return tk_whole_with_sign_u32(false, skip, s);
 }
@@ -4185,13 +4191,13 @@ TK_INLINE tk_result_u32 tk_called_whole_pos_u32(bool skip, tk_bytes s)
 }
 
 /* atoi_simd/src/parse_pos_trait.rt:73 */
-TK_INLINE tk_result_u32 tk_atoi_simd_parse_pos_u32(tk_bytes s, bool skip)
+TK_HINTED tk_result_u32 tk_atoi_simd_parse_pos_u32(tk_bytes s, bool skip)
 {
     return tk_called_whole_pos_u32(skip, s);
 }
 
 /* atoi_core/src/calls.rt:75 */
-TK_INLINE tk_result_i64 tk_atoi_core_whole_pos_i64(bool skip, tk_bytes s)
+TK_HINTED tk_result_i64 tk_atoi_core_whole_pos_i64(bool skip, tk_bytes s)
 {
     return tk_whole_with_sign_i64(false, skip, s);
 }
@@ -4210,13 +4216,13 @@ TK_INLINE tk_result_i64 tk_called_whole_pos_i64(bool skip, tk_bytes s)
 }
 
 /* atoi_simd/src/parse_pos_trait.rt:133 */
-TK_INLINE tk_result_i64 tk_atoi_simd_parse_pos_i64(tk_bytes s, bool skip)
+TK_HINTED tk_result_i64 tk_atoi_simd_parse_pos_i64(tk_bytes s, bool skip)
 {
     return tk_called_whole_pos_i64(skip, s);
 }
 
 /* atoi_core/src/calls.rt:75 */
-TK_INLINE tk_result_u64 tk_atoi_core_whole_pos_u64(bool skip, tk_bytes s)
+TK_HINTED tk_result_u64 tk_atoi_core_whole_pos_u64(bool skip, tk_bytes s)
 {
     return tk_whole_with_sign_u64(false, skip, s);
 }
@@ -4235,19 +4241,19 @@ TK_INLINE tk_result_u64 tk_called_whole_pos_u64(bool skip, tk_bytes s)
 }
 
 /* atoi_simd/src/parse_pos_trait.rt:121 */
-TK_INLINE tk_result_u64 tk_atoi_simd_parse_pos_u64(tk_bytes s, bool skip)
+TK_HINTED tk_result_u64 tk_atoi_simd_parse_pos_u64(tk_bytes s, bool skip)
 {
     return tk_called_whole_pos_u64(skip, s);
 }
 
 /* atoi_core/src/calls.rt:75 */
-TK_INLINE tk_result_i128 tk_atoi_core_whole_pos_i128(bool skip, tk_bytes s)
+TK_HINTED tk_result_i128 tk_atoi_core_whole_pos_i128(bool skip, tk_bytes s)
 {
     return tk_whole_with_sign_i128(false, skip, s);
 }
 
 /* atoi_fast/src/called.rt:71 */
-TK_INLINE tk_result_i128 tk_called_whole_pos_i128(bool skip, tk_bytes s)
+TK_HINTED tk_result_i128 tk_called_whole_pos_i128(bool skip, tk_bytes s)
 {
     if (s.len >= 2 && '0' <= s.at[0] && s.at[0] <= '9' && s.len < 16) {
         tk_option_i128 found = tk_loaded_slice_i128(s);
@@ -4260,19 +4266,19 @@ TK_INLINE tk_result_i128 tk_called_whole_pos_i128(bool skip, tk_bytes s)
 }
 
 /* atoi_simd/src/parse_pos_trait.rt:157 */
-TK_INLINE tk_result_i128 tk_atoi_simd_parse_pos_i128(tk_bytes s, bool skip)
+TK_HINTED tk_result_i128 tk_atoi_simd_parse_pos_i128(tk_bytes s, bool skip)
 {
     return tk_called_whole_pos_i128(skip, s);
 }
 
 /* atoi_core/src/calls.rt:75 */
-TK_INLINE tk_result_u128 tk_atoi_core_whole_pos_u128(bool skip, tk_bytes s)
+TK_HINTED tk_result_u128 tk_atoi_core_whole_pos_u128(bool skip, tk_bytes s)
 {
     return tk_whole_with_sign_u128(false, skip, s);
 }
 
 /* atoi_fast/src/called.rt:71 */
-TK_INLINE tk_result_u128 tk_called_whole_pos_u128(bool skip, tk_bytes s)
+TK_HINTED tk_result_u128 tk_called_whole_pos_u128(bool skip, tk_bytes s)
 {
     if (s.len >= 2 && '0' <= s.at[0] && s.at[0] <= '9' && s.len < 16) {
         tk_option_u128 found = tk_loaded_slice_u128(s);
@@ -4285,13 +4291,13 @@ TK_INLINE tk_result_u128 tk_called_whole_pos_u128(bool skip, tk_bytes s)
 }
 
 /* atoi_simd/src/parse_pos_trait.rt:145 */
-TK_INLINE tk_result_u128 tk_atoi_simd_parse_pos_u128(tk_bytes s, bool skip)
+TK_HINTED tk_result_u128 tk_atoi_simd_parse_pos_u128(tk_bytes s, bool skip)
 {
     return tk_called_whole_pos_u128(skip, s);
 }
 
 /* atoi_fast/src/short_prefix.rt:189 */
-TK_INLINE tk_option_pair_i8_size tk_prefix_in_word_i8(uint64_t word, uint32_t len, tk_bytes s)
+TK_HINTED tk_option_pair_i8_size tk_prefix_in_word_i8(uint64_t word, uint32_t len, tk_bytes s)
 {
     (void)s;
     uint64_t magnitude = tk_value_by_product(tk_u64_wrapping_sub(word, TK_ZEROS), len);
@@ -4304,7 +4310,7 @@ TK_INLINE tk_option_pair_i8_size tk_prefix_in_word_i8(uint64_t word, uint32_t le
 }
 
 /* atoi_fast/src/short_prefix.rt:174 */
-TK_INLINE tk_option_pair_i8_size tk_unsigned_prefix_i8(tk_bytes s)
+TK_HINTED tk_option_pair_i8_size tk_unsigned_prefix_i8(tk_bytes s)
 {
     uint64_t word = tk_load_full(s);
     uint32_t len = tk_leading_digits(word);
@@ -4316,7 +4322,7 @@ TK_INLINE tk_option_pair_i8_size tk_unsigned_prefix_i8(tk_bytes s)
 
 /* `unsigned_prefix`, which counts its load. */
 /* atoi_fast/src/short_prefix.rt:33 */
-TK_INLINE tk_option_pair_i8_size tk_loaded_prefix_i8(tk_bytes s)
+TK_HINTED tk_option_pair_i8_size tk_loaded_prefix_i8(tk_bytes s)
 {
     return tk_unsigned_prefix_i8(s);
 }
@@ -4326,7 +4332,7 @@ TK_INLINE tk_option_pair_i8_size tk_loaded_prefix_i8(tk_bytes s)
  * The errors are `Empty`, `Size` and `Overflow`.
  */
 /* atoi_core/src/calls.rt:102 */
-TK_INLINE tk_result_pair_i8_size tk_atoi_core_prefix_pos_i8(bool skip, tk_bytes s)
+TK_HINTED tk_result_pair_i8_size tk_atoi_core_prefix_pos_i8(bool skip, tk_bytes s)
 {
     return tk_prefix_with_sign_i8(false, skip, s);
 }
@@ -4346,19 +4352,19 @@ TK_NOINLINE tk_result_pair_i8_size tk_called_prefix_pos_i8(bool skip, tk_bytes s
 }
 
 /* atoi_simd/src/parse_pos_trait.rt:42 */
-TK_INLINE tk_result_pair_i8_size tk_atoi_simd_parse_prefix_pos_i8(tk_bytes s, bool skip)
+TK_HINTED tk_result_pair_i8_size tk_atoi_simd_parse_prefix_pos_i8(tk_bytes s, bool skip)
 {
     return tk_called_prefix_pos_i8(skip, s);
 }
 
 /* atoi_fast/src/short_prefix.rt:33 */
-TK_INLINE tk_option_pair_u8_size tk_loaded_prefix_u8(tk_bytes s)
+TK_HINTED tk_option_pair_u8_size tk_loaded_prefix_u8(tk_bytes s)
 {
     return tk_unsigned_prefix_u8(s);
 }
 
 /* atoi_core/src/calls.rt:102 */
-TK_INLINE tk_result_pair_u8_size tk_atoi_core_prefix_pos_u8(bool skip, tk_bytes s)
+TK_HINTED tk_result_pair_u8_size tk_atoi_core_prefix_pos_u8(bool skip, tk_bytes s)
 {
     return tk_prefix_with_sign_u8(false, skip, s);
 }
@@ -4377,13 +4383,13 @@ TK_NOINLINE tk_result_pair_u8_size tk_called_prefix_pos_u8(bool skip, tk_bytes s
 }
 
 /* atoi_simd/src/parse_pos_trait.rt:30 */
-TK_INLINE tk_result_pair_u8_size tk_atoi_simd_parse_prefix_pos_u8(tk_bytes s, bool skip)
+TK_HINTED tk_result_pair_u8_size tk_atoi_simd_parse_prefix_pos_u8(tk_bytes s, bool skip)
 {
     return tk_called_prefix_pos_u8(skip, s);
 }
 
 /* atoi_fast/src/short_prefix.rt:189 */
-TK_INLINE tk_option_pair_i16_size tk_prefix_in_word_i16(uint64_t word, uint32_t len, tk_bytes s)
+TK_HINTED tk_option_pair_i16_size tk_prefix_in_word_i16(uint64_t word, uint32_t len, tk_bytes s)
 {
     (void)s;
     uint64_t magnitude = tk_value_by_product(tk_u64_wrapping_sub(word, TK_ZEROS), len);
@@ -4396,7 +4402,7 @@ TK_INLINE tk_option_pair_i16_size tk_prefix_in_word_i16(uint64_t word, uint32_t 
 }
 
 /* atoi_fast/src/short_prefix.rt:174 */
-TK_INLINE tk_option_pair_i16_size tk_unsigned_prefix_i16(tk_bytes s)
+TK_HINTED tk_option_pair_i16_size tk_unsigned_prefix_i16(tk_bytes s)
 {
     uint64_t word = tk_load_full(s);
     uint32_t len = tk_leading_digits(word);
@@ -4407,13 +4413,13 @@ TK_INLINE tk_option_pair_i16_size tk_unsigned_prefix_i16(tk_bytes s)
 }
 
 /* atoi_fast/src/short_prefix.rt:33 */
-TK_INLINE tk_option_pair_i16_size tk_loaded_prefix_i16(tk_bytes s)
+TK_HINTED tk_option_pair_i16_size tk_loaded_prefix_i16(tk_bytes s)
 {
     return tk_unsigned_prefix_i16(s);
 }
 
 /* atoi_core/src/calls.rt:102 */
-TK_INLINE tk_result_pair_i16_size tk_atoi_core_prefix_pos_i16(bool skip, tk_bytes s)
+TK_HINTED tk_result_pair_i16_size tk_atoi_core_prefix_pos_i16(bool skip, tk_bytes s)
 {
     return tk_prefix_with_sign_i16(false, skip, s);
 }
@@ -4432,19 +4438,19 @@ TK_NOINLINE tk_result_pair_i16_size tk_called_prefix_pos_i16(bool skip, tk_bytes
 }
 
 /* atoi_simd/src/parse_pos_trait.rt:66 */
-TK_INLINE tk_result_pair_i16_size tk_atoi_simd_parse_prefix_pos_i16(tk_bytes s, bool skip)
+TK_HINTED tk_result_pair_i16_size tk_atoi_simd_parse_prefix_pos_i16(tk_bytes s, bool skip)
 {
     return tk_called_prefix_pos_i16(skip, s);
 }
 
 /* atoi_fast/src/short_prefix.rt:33 */
-TK_INLINE tk_option_pair_u16_size tk_loaded_prefix_u16(tk_bytes s)
+TK_HINTED tk_option_pair_u16_size tk_loaded_prefix_u16(tk_bytes s)
 {
     return tk_unsigned_prefix_u16(s);
 }
 
 /* atoi_core/src/calls.rt:102 */
-TK_INLINE tk_result_pair_u16_size tk_atoi_core_prefix_pos_u16(bool skip, tk_bytes s)
+TK_HINTED tk_result_pair_u16_size tk_atoi_core_prefix_pos_u16(bool skip, tk_bytes s)
 {
     return tk_prefix_with_sign_u16(false, skip, s);
 }
@@ -4463,7 +4469,7 @@ TK_NOINLINE tk_result_pair_u16_size tk_called_prefix_pos_u16(bool skip, tk_bytes
 }
 
 /* atoi_simd/src/parse_pos_trait.rt:54 */
-TK_INLINE tk_result_pair_u16_size tk_atoi_simd_parse_prefix_pos_u16(tk_bytes s, bool skip)
+TK_HINTED tk_result_pair_u16_size tk_atoi_simd_parse_prefix_pos_u16(tk_bytes s, bool skip)
 {
     return tk_called_prefix_pos_u16(skip, s);
 }
@@ -4499,7 +4505,7 @@ TK_INLINE tk_option_pair_i32_size tk_loaded_prefix_i32(tk_bytes s)
 }
 
 /* atoi_core/src/calls.rt:102 */
-TK_INLINE tk_result_pair_i32_size tk_atoi_core_prefix_pos_i32(bool skip, tk_bytes s)
+TK_HINTED tk_result_pair_i32_size tk_atoi_core_prefix_pos_i32(bool skip, tk_bytes s)
 {
     return tk_prefix_with_sign_i32(false, skip, s);
 }
@@ -4518,7 +4524,7 @@ TK_INLINE tk_result_pair_i32_size tk_called_prefix_pos_i32(bool skip, tk_bytes s
 }
 
 /* atoi_simd/src/parse_pos_trait.rt:90 */
-TK_INLINE tk_result_pair_i32_size tk_atoi_simd_parse_prefix_pos_i32(tk_bytes s, bool skip)
+TK_HINTED tk_result_pair_i32_size tk_atoi_simd_parse_prefix_pos_i32(tk_bytes s, bool skip)
 {
     return tk_called_prefix_pos_i32(skip, s);
 }
@@ -4530,7 +4536,7 @@ TK_INLINE tk_option_pair_u32_size tk_loaded_prefix_u32(tk_bytes s)
 }
 
 /* atoi_core/src/calls.rt:102 */
-TK_INLINE tk_result_pair_u32_size tk_atoi_core_prefix_pos_u32(bool skip, tk_bytes s)
+TK_HINTED tk_result_pair_u32_size tk_atoi_core_prefix_pos_u32(bool skip, tk_bytes s)
 {
     return tk_prefix_with_sign_u32(false, skip, s);
 }
@@ -4549,7 +4555,7 @@ TK_INLINE tk_result_pair_u32_size tk_called_prefix_pos_u32(bool skip, tk_bytes s
 }
 
 /* atoi_simd/src/parse_pos_trait.rt:78 */
-TK_INLINE tk_result_pair_u32_size tk_atoi_simd_parse_prefix_pos_u32(tk_bytes s, bool skip)
+TK_HINTED tk_result_pair_u32_size tk_atoi_simd_parse_prefix_pos_u32(tk_bytes s, bool skip)
 {
     return tk_called_prefix_pos_u32(skip, s);
 }
@@ -4585,7 +4591,7 @@ TK_INLINE tk_option_pair_i64_size tk_loaded_prefix_i64(tk_bytes s)
 }
 
 /* atoi_core/src/calls.rt:102 */
-TK_INLINE tk_result_pair_i64_size tk_atoi_core_prefix_pos_i64(bool skip, tk_bytes s)
+TK_HINTED tk_result_pair_i64_size tk_atoi_core_prefix_pos_i64(bool skip, tk_bytes s)
 {
     return tk_prefix_with_sign_i64(false, skip, s);
 }
@@ -4604,7 +4610,7 @@ TK_INLINE tk_result_pair_i64_size tk_called_prefix_pos_i64(bool skip, tk_bytes s
 }
 
 /* atoi_simd/src/parse_pos_trait.rt:138 */
-TK_INLINE tk_result_pair_i64_size tk_atoi_simd_parse_prefix_pos_i64(tk_bytes s, bool skip)
+TK_HINTED tk_result_pair_i64_size tk_atoi_simd_parse_prefix_pos_i64(tk_bytes s, bool skip)
 {
     return tk_called_prefix_pos_i64(skip, s);
 }
@@ -4616,7 +4622,7 @@ TK_INLINE tk_option_pair_u64_size tk_loaded_prefix_u64(tk_bytes s)
 }
 
 /* atoi_core/src/calls.rt:102 */
-TK_INLINE tk_result_pair_u64_size tk_atoi_core_prefix_pos_u64(bool skip, tk_bytes s)
+TK_HINTED tk_result_pair_u64_size tk_atoi_core_prefix_pos_u64(bool skip, tk_bytes s)
 {
     return tk_prefix_with_sign_u64(false, skip, s);
 }
@@ -4635,13 +4641,13 @@ TK_INLINE tk_result_pair_u64_size tk_called_prefix_pos_u64(bool skip, tk_bytes s
 }
 
 /* atoi_simd/src/parse_pos_trait.rt:126 */
-TK_INLINE tk_result_pair_u64_size tk_atoi_simd_parse_prefix_pos_u64(tk_bytes s, bool skip)
+TK_HINTED tk_result_pair_u64_size tk_atoi_simd_parse_prefix_pos_u64(tk_bytes s, bool skip)
 {
     return tk_called_prefix_pos_u64(skip, s);
 }
 
 /* atoi_fast/src/short_prefix.rt:189 */
-TK_INLINE tk_option_pair_i128_size tk_prefix_in_word_i128(uint64_t word, uint32_t len, tk_bytes s)
+TK_HINTED tk_option_pair_i128_size tk_prefix_in_word_i128(uint64_t word, uint32_t len, tk_bytes s)
 {
     (void)s;
     uint64_t magnitude = tk_value_by_product(tk_u64_wrapping_sub(word, TK_ZEROS), len);
@@ -4654,7 +4660,7 @@ TK_INLINE tk_option_pair_i128_size tk_prefix_in_word_i128(uint64_t word, uint32_
 }
 
 /* atoi_fast/src/short_prefix.rt:174 */
-TK_INLINE tk_option_pair_i128_size tk_unsigned_prefix_i128(tk_bytes s)
+TK_HINTED tk_option_pair_i128_size tk_unsigned_prefix_i128(tk_bytes s)
 {
     uint64_t word = tk_load_full(s);
     uint32_t len = tk_leading_digits(word);
@@ -4665,13 +4671,13 @@ TK_INLINE tk_option_pair_i128_size tk_unsigned_prefix_i128(tk_bytes s)
 }
 
 /* atoi_fast/src/short_prefix.rt:33 */
-TK_INLINE tk_option_pair_i128_size tk_loaded_prefix_i128(tk_bytes s)
+TK_HINTED tk_option_pair_i128_size tk_loaded_prefix_i128(tk_bytes s)
 {
     return tk_unsigned_prefix_i128(s);
 }
 
 /* atoi_core/src/calls.rt:102 */
-TK_INLINE tk_result_pair_i128_size tk_atoi_core_prefix_pos_i128(bool skip, tk_bytes s)
+TK_HINTED tk_result_pair_i128_size tk_atoi_core_prefix_pos_i128(bool skip, tk_bytes s)
 {
     return tk_prefix_with_sign_i128(false, skip, s);
 }
@@ -4690,19 +4696,19 @@ TK_NOINLINE tk_result_pair_i128_size tk_called_prefix_pos_i128(bool skip, tk_byt
 }
 
 /* atoi_simd/src/parse_pos_trait.rt:162 */
-TK_INLINE tk_result_pair_i128_size tk_atoi_simd_parse_prefix_pos_i128(tk_bytes s, bool skip)
+TK_HINTED tk_result_pair_i128_size tk_atoi_simd_parse_prefix_pos_i128(tk_bytes s, bool skip)
 {
     return tk_called_prefix_pos_i128(skip, s);
 }
 
 /* atoi_fast/src/short_prefix.rt:33 */
-TK_INLINE tk_option_pair_u128_size tk_loaded_prefix_u128(tk_bytes s)
+TK_HINTED tk_option_pair_u128_size tk_loaded_prefix_u128(tk_bytes s)
 {
     return tk_unsigned_prefix_u128(s);
 }
 
 /* atoi_core/src/calls.rt:102 */
-TK_INLINE tk_result_pair_u128_size tk_atoi_core_prefix_pos_u128(bool skip, tk_bytes s)
+TK_HINTED tk_result_pair_u128_size tk_atoi_core_prefix_pos_u128(bool skip, tk_bytes s)
 {
     return tk_prefix_with_sign_u128(false, skip, s);
 }
@@ -4721,7 +4727,7 @@ TK_NOINLINE tk_result_pair_u128_size tk_called_prefix_pos_u128(bool skip, tk_byt
 }
 
 /* atoi_simd/src/parse_pos_trait.rt:150 */
-TK_INLINE tk_result_pair_u128_size tk_atoi_simd_parse_prefix_pos_u128(tk_bytes s, bool skip)
+TK_HINTED tk_result_pair_u128_size tk_atoi_simd_parse_prefix_pos_u128(tk_bytes s, bool skip)
 {
     return tk_called_prefix_pos_u128(skip, s);
 }
@@ -4880,7 +4886,7 @@ TK_HINTED size_t tk_error_text(tk_error self, uint8_t *out)
  * one or more digits. With `SKIP_ZEROES`, leading zeros do not count towards the limit of digits.
  */
 /* atoi_simd/src/functions.rt:31 */
-TK_INLINE tk_result_i8 tk_parse_i8(bool skip_zeroes, bool skip_plus, tk_bytes s)
+TK_HINTED tk_result_i8 tk_parse_i8(bool skip_zeroes, bool skip_plus, tk_bytes s)
 {
     return tk_atoi_simd_parse_i8(s, skip_zeroes, skip_plus);
 }
@@ -4911,7 +4917,7 @@ TK_HINTED tk_option_i8 tk_canonical_i8(tk_bytes text)
 }
 
 /* atoi_simd/src/functions.rt:31 */
-TK_INLINE tk_result_u8 tk_parse_u8(bool skip_zeroes, bool skip_plus, tk_bytes s)
+TK_HINTED tk_result_u8 tk_parse_u8(bool skip_zeroes, bool skip_plus, tk_bytes s)
 {
     return tk_atoi_simd_parse_u8(s, skip_zeroes, skip_plus);
 }
@@ -4931,7 +4937,7 @@ TK_HINTED tk_option_u8 tk_canonical_u8(tk_bytes text)
 }
 
 /* atoi_simd/src/functions.rt:31 */
-TK_INLINE tk_result_i16 tk_parse_i16(bool skip_zeroes, bool skip_plus, tk_bytes s)
+TK_HINTED tk_result_i16 tk_parse_i16(bool skip_zeroes, bool skip_plus, tk_bytes s)
 {
     return tk_atoi_simd_parse_i16(s, skip_zeroes, skip_plus);
 }
@@ -4951,7 +4957,7 @@ TK_HINTED tk_option_i16 tk_canonical_i16(tk_bytes text)
 }
 
 /* atoi_simd/src/functions.rt:31 */
-TK_INLINE tk_result_u16 tk_parse_u16(bool skip_zeroes, bool skip_plus, tk_bytes s)
+TK_HINTED tk_result_u16 tk_parse_u16(bool skip_zeroes, bool skip_plus, tk_bytes s)
 {
     return tk_atoi_simd_parse_u16(s, skip_zeroes, skip_plus);
 }
@@ -4971,7 +4977,7 @@ TK_HINTED tk_option_u16 tk_canonical_u16(tk_bytes text)
 }
 
 /* atoi_simd/src/functions.rt:31 */
-TK_INLINE tk_result_i32 tk_parse_i32(bool skip_zeroes, bool skip_plus, tk_bytes s)
+TK_HINTED tk_result_i32 tk_parse_i32(bool skip_zeroes, bool skip_plus, tk_bytes s)
 {
     return tk_atoi_simd_parse_i32(s, skip_zeroes, skip_plus);
 }
@@ -4991,7 +4997,7 @@ TK_HINTED tk_option_i32 tk_canonical_i32(tk_bytes text)
 }
 
 /* atoi_simd/src/functions.rt:31 */
-TK_INLINE tk_result_u32 tk_parse_u32(bool skip_zeroes, bool skip_plus, tk_bytes s)
+TK_HINTED tk_result_u32 tk_parse_u32(bool skip_zeroes, bool skip_plus, tk_bytes s)
 {
     return tk_atoi_simd_parse_u32(s, skip_zeroes, skip_plus);
 }
@@ -5011,7 +5017,7 @@ TK_HINTED tk_option_u32 tk_canonical_u32(tk_bytes text)
 }
 
 /* atoi_simd/src/functions.rt:31 */
-TK_INLINE tk_result_i64 tk_parse_i64(bool skip_zeroes, bool skip_plus, tk_bytes s)
+TK_HINTED tk_result_i64 tk_parse_i64(bool skip_zeroes, bool skip_plus, tk_bytes s)
 {
     return tk_atoi_simd_parse_i64(s, skip_zeroes, skip_plus);
 }
@@ -5031,7 +5037,7 @@ TK_HINTED tk_option_i64 tk_canonical_i64(tk_bytes text)
 }
 
 /* atoi_simd/src/functions.rt:31 */
-TK_INLINE tk_result_u64 tk_parse_u64(bool skip_zeroes, bool skip_plus, tk_bytes s)
+TK_HINTED tk_result_u64 tk_parse_u64(bool skip_zeroes, bool skip_plus, tk_bytes s)
 {
     return tk_atoi_simd_parse_u64(s, skip_zeroes, skip_plus);
 }
@@ -5051,7 +5057,7 @@ TK_HINTED tk_option_u64 tk_canonical_u64(tk_bytes text)
 }
 
 /* atoi_simd/src/functions.rt:31 */
-TK_INLINE tk_result_i128 tk_parse_i128(bool skip_zeroes, bool skip_plus, tk_bytes s)
+TK_HINTED tk_result_i128 tk_parse_i128(bool skip_zeroes, bool skip_plus, tk_bytes s)
 {
     return tk_atoi_simd_parse_i128(s, skip_zeroes, skip_plus);
 }
@@ -5071,7 +5077,7 @@ TK_HINTED tk_option_i128 tk_canonical_i128(tk_bytes text)
 }
 
 /* atoi_simd/src/functions.rt:31 */
-TK_INLINE tk_result_u128 tk_parse_u128(bool skip_zeroes, bool skip_plus, tk_bytes s)
+TK_HINTED tk_result_u128 tk_parse_u128(bool skip_zeroes, bool skip_plus, tk_bytes s)
 {
     return tk_atoi_simd_parse_u128(s, skip_zeroes, skip_plus);
 }
@@ -5122,7 +5128,7 @@ TK_HINTED int8_t tk_from_pos_i8(tk_u128 value)
  * number and its length in bytes, a sign and leading zeros included.
  */
 /* atoi_simd/src/functions.rt:117 */
-TK_INLINE tk_result_pair_i8_size tk_parse_prefix_i8(bool skip_zeroes, bool skip_plus, tk_bytes s)
+TK_HINTED tk_result_pair_i8_size tk_parse_prefix_i8(bool skip_zeroes, bool skip_plus, tk_bytes s)
 {
     return tk_atoi_simd_parse_prefix_i8(s, skip_zeroes, skip_plus);
 }
@@ -5180,7 +5186,7 @@ TK_HINTED uint8_t tk_from_pos_u8(tk_u128 value)
 }
 
 /* atoi_simd/src/functions.rt:117 */
-TK_INLINE tk_result_pair_u8_size tk_parse_prefix_u8(bool skip_zeroes, bool skip_plus, tk_bytes s)
+TK_HINTED tk_result_pair_u8_size tk_parse_prefix_u8(bool skip_zeroes, bool skip_plus, tk_bytes s)
 {
     return tk_atoi_simd_parse_prefix_u8(s, skip_zeroes, skip_plus);
 }
@@ -5225,7 +5231,7 @@ TK_HINTED int16_t tk_from_pos_i16(tk_u128 value)
 }
 
 /* atoi_simd/src/functions.rt:117 */
-TK_INLINE tk_result_pair_i16_size tk_parse_prefix_i16(bool skip_zeroes, bool skip_plus, tk_bytes s)
+TK_HINTED tk_result_pair_i16_size tk_parse_prefix_i16(bool skip_zeroes, bool skip_plus, tk_bytes s)
 {
     return tk_atoi_simd_parse_prefix_i16(s, skip_zeroes, skip_plus);
 }
@@ -5270,7 +5276,7 @@ TK_HINTED uint16_t tk_from_pos_u16(tk_u128 value)
 }
 
 /* atoi_simd/src/functions.rt:117 */
-TK_INLINE tk_result_pair_u16_size tk_parse_prefix_u16(bool skip_zeroes, bool skip_plus, tk_bytes s)
+TK_HINTED tk_result_pair_u16_size tk_parse_prefix_u16(bool skip_zeroes, bool skip_plus, tk_bytes s)
 {
     return tk_atoi_simd_parse_prefix_u16(s, skip_zeroes, skip_plus);
 }
@@ -5315,7 +5321,7 @@ TK_HINTED int32_t tk_from_pos_i32(tk_u128 value)
 }
 
 /* atoi_simd/src/functions.rt:117 */
-TK_INLINE tk_result_pair_i32_size tk_parse_prefix_i32(bool skip_zeroes, bool skip_plus, tk_bytes s)
+TK_HINTED tk_result_pair_i32_size tk_parse_prefix_i32(bool skip_zeroes, bool skip_plus, tk_bytes s)
 {
     return tk_atoi_simd_parse_prefix_i32(s, skip_zeroes, skip_plus);
 }
@@ -5360,7 +5366,7 @@ TK_HINTED uint32_t tk_from_pos_u32(tk_u128 value)
 }
 
 /* atoi_simd/src/functions.rt:117 */
-TK_INLINE tk_result_pair_u32_size tk_parse_prefix_u32(bool skip_zeroes, bool skip_plus, tk_bytes s)
+TK_HINTED tk_result_pair_u32_size tk_parse_prefix_u32(bool skip_zeroes, bool skip_plus, tk_bytes s)
 {
     return tk_atoi_simd_parse_prefix_u32(s, skip_zeroes, skip_plus);
 }
@@ -5405,7 +5411,7 @@ TK_HINTED int64_t tk_from_pos_i64(tk_u128 value)
 }
 
 /* atoi_simd/src/functions.rt:117 */
-TK_INLINE tk_result_pair_i64_size tk_parse_prefix_i64(bool skip_zeroes, bool skip_plus, tk_bytes s)
+TK_HINTED tk_result_pair_i64_size tk_parse_prefix_i64(bool skip_zeroes, bool skip_plus, tk_bytes s)
 {
     return tk_atoi_simd_parse_prefix_i64(s, skip_zeroes, skip_plus);
 }
@@ -5450,7 +5456,7 @@ TK_HINTED uint64_t tk_from_pos_u64(tk_u128 value)
 }
 
 /* atoi_simd/src/functions.rt:117 */
-TK_INLINE tk_result_pair_u64_size tk_parse_prefix_u64(bool skip_zeroes, bool skip_plus, tk_bytes s)
+TK_HINTED tk_result_pair_u64_size tk_parse_prefix_u64(bool skip_zeroes, bool skip_plus, tk_bytes s)
 {
     return tk_atoi_simd_parse_prefix_u64(s, skip_zeroes, skip_plus);
 }
@@ -5495,7 +5501,7 @@ TK_HINTED tk_i128 tk_from_pos_i128(tk_u128 value)
 }
 
 /* atoi_simd/src/functions.rt:117 */
-TK_INLINE tk_result_pair_i128_size tk_parse_prefix_i128(bool skip_zeroes, bool skip_plus, tk_bytes s)
+TK_HINTED tk_result_pair_i128_size tk_parse_prefix_i128(bool skip_zeroes, bool skip_plus, tk_bytes s)
 {
     return tk_atoi_simd_parse_prefix_i128(s, skip_zeroes, skip_plus);
 }
@@ -5540,7 +5546,7 @@ TK_HINTED tk_u128 tk_from_pos_u128(tk_u128 value)
 }
 
 /* atoi_simd/src/functions.rt:117 */
-TK_INLINE tk_result_pair_u128_size tk_parse_prefix_u128(bool skip_zeroes, bool skip_plus, tk_bytes s)
+TK_HINTED tk_result_pair_u128_size tk_parse_prefix_u128(bool skip_zeroes, bool skip_plus, tk_bytes s)
 {
     return tk_atoi_simd_parse_prefix_u128(s, skip_zeroes, skip_plus);
 }
@@ -5580,7 +5586,7 @@ TK_HINTED tk_option_pair_u128_bytes tk_json_integer_u128(tk_bytes text)
 
 /* The fields of `input`, with a separator between them. One more may follow the last field. */
 /* atoi_column/src/fields.rt:86 */
-TK_HINTED tk_fields tk_fields_new(tk_bytes input, uint8_t separator)
+TK_INLINE tk_fields tk_fields_new(tk_bytes input, uint8_t separator)
 {
     return tk_new_fields(input, separator, false, 0, input.len);
 }
@@ -5590,7 +5596,7 @@ TK_HINTED tk_fields tk_fields_new(tk_bytes input, uint8_t separator)
  * no part of it.
  */
 /* atoi_column/src/fields.rt:117 */
-TK_HINTED tk_fields tk_fields_lines(tk_bytes input)
+TK_INLINE tk_fields tk_fields_lines(tk_bytes input)
 {
     return tk_new_fields(input, '\n', true, 0, input.len);
 }
@@ -5601,14 +5607,14 @@ TK_HINTED tk_fields tk_fields_lines(tk_bytes input)
  * `Iterator::position` by this name (see the [guide](crate::guide#read-files)).
  */
 /* atoi_column/src/fields.rt:177 */
-TK_HINTED tk_pair_size_size tk_fields_position(tk_fields self)
+TK_INLINE tk_pair_size_size tk_fields_position(tk_fields self)
 {
     return tk_new_pair_size_size(self.index, self.end - self.rest.len);
 }
 
 /* Returns the number of a first field of one byte, and what follows its separator. */
 /* atoi_column/src/fields.rt:277 */
-TK_INLINE tk_option_pair_i8_bytes tk_one_digit_field_i8(tk_bytes rest, uint8_t separator)
+TK_HINTED tk_option_pair_i8_bytes tk_one_digit_field_i8(tk_bytes rest, uint8_t separator)
 {
     if (rest.len >= 2 && rest.at[1] == separator && tk_u8_is_digit(rest.at[0])) {
         tk_bytes following = tk_bytes_from(rest, 2);
@@ -5624,14 +5630,14 @@ TK_INLINE tk_option_pair_i8_bytes tk_one_digit_field_i8(tk_bytes rest, uint8_t s
 
 /* Like [`parse_prefix`], but accepts no sign. */
 /* atoi_simd/src/functions.rt:147 */
-TK_INLINE tk_result_pair_i8_size tk_parse_prefix_pos_i8(bool skip_zeroes, tk_bytes s)
+TK_HINTED tk_result_pair_i8_size tk_parse_prefix_pos_i8(bool skip_zeroes, tk_bytes s)
 {
     return tk_atoi_simd_parse_prefix_pos_i8(s, skip_zeroes);
 }
 
 /* `parse_prefix` without a plus. Unless some numbers `have_minus`, a first digit says that there is no sign. */
 /* atoi_column/src/fields.rt:261 */
-TK_INLINE tk_result_pair_i8_size tk_first_number_i8(tk_bytes rest, bool have_minus)
+TK_HINTED tk_result_pair_i8_size tk_first_number_i8(tk_bytes rest, bool have_minus)
 {
     if (rest.len >= 1 && '0' <= rest.at[0] && rest.at[0] <= '9' && !have_minus) {
         return tk_parse_prefix_pos_i8(true, rest);
@@ -5662,7 +5668,7 @@ TK_INLINE tk_option_bytes tk_after_field(tk_bytes tail, uint8_t separator, bool 
  * number without a plus.
  */
 /* atoi_column/src/fields.rt:234 */
-TK_INLINE tk_option_pair_i8_bytes tk_accepted_field_i8(tk_bytes rest, uint8_t separator, bool is_lines, tk_guess guess)
+TK_HINTED tk_option_pair_i8_bytes tk_accepted_field_i8(tk_bytes rest, uint8_t separator, bool is_lines, tk_guess guess)
 {
     if (guess.mostly_one_digit) {
         tk_option_pair_i8_bytes found = tk_one_digit_field_i8(rest, separator);
@@ -5687,7 +5693,7 @@ TK_INLINE tk_option_pair_i8_bytes tk_accepted_field_i8(tk_bytes rest, uint8_t se
 }
 
 /* atoi_column/src/fields.rt:350 */
-TK_HINTED size_t tk_field_len(tk_bytes rest, uint8_t separator)
+TK_INLINE size_t tk_field_len(tk_bytes rest, uint8_t separator)
 {
     size_t count = 0;
     size_t at = 0;
@@ -5704,7 +5710,7 @@ TK_HINTED size_t tk_field_len(tk_bytes rest, uint8_t separator)
 
 /* Returns the text of a field that a separator ends. */
 /* atoi_column/src/fields.rt:357 */
-TK_HINTED tk_bytes tk_text_of(tk_bytes field, bool is_lines)
+TK_INLINE tk_bytes tk_text_of(tk_bytes field, bool is_lines)
 {
     if (field.len >= 1 && field.at[field.len - 1] == '\r' && is_lines) {
         tk_bytes text = tk_bytes_to(field, field.len - 1);
@@ -5714,7 +5720,7 @@ TK_HINTED tk_bytes tk_text_of(tk_bytes field, bool is_lines)
 }
 
 /* atoi_column/src/fields.rt:339 */
-TK_HINTED tk_pair_bytes_bytes tk_first_field(tk_bytes rest, uint8_t separator, bool is_lines)
+TK_INLINE tk_pair_bytes_bytes tk_first_field(tk_bytes rest, uint8_t separator, bool is_lines)
 {
     size_t at = tk_field_len(rest, separator);
     tk_bytes field = tk_bytes_to(rest, at);
@@ -5748,7 +5754,7 @@ TK_COLD tk_pair_result_i8_field_error_bytes tk_read_field_i8(tk_bytes rest, uint
 }
 
 /* atoi_column/src/fields.rt:192 */
-TK_INLINE tk_option_result_i8_field_error tk_fields_next_i8(tk_fields *self)
+TK_HINTED tk_option_result_i8_field_error tk_fields_next_i8(tk_fields *self)
 {
     tk_bytes rest = self->rest;
     size_t index = self->index;
@@ -5772,7 +5778,7 @@ TK_INLINE tk_option_result_i8_field_error tk_fields_next_i8(tk_fields *self)
 }
 
 /* atoi_column/src/fields.rt:277 */
-TK_INLINE tk_option_pair_u8_bytes tk_one_digit_field_u8(tk_bytes rest, uint8_t separator)
+TK_HINTED tk_option_pair_u8_bytes tk_one_digit_field_u8(tk_bytes rest, uint8_t separator)
 {
     if (rest.len >= 2 && rest.at[1] == separator && tk_u8_is_digit(rest.at[0])) {
         tk_bytes following = tk_bytes_from(rest, 2);
@@ -5787,20 +5793,20 @@ TK_INLINE tk_option_pair_u8_bytes tk_one_digit_field_u8(tk_bytes rest, uint8_t s
 }
 
 /* atoi_simd/src/functions.rt:147 */
-TK_INLINE tk_result_pair_u8_size tk_parse_prefix_pos_u8(bool skip_zeroes, tk_bytes s)
+TK_HINTED tk_result_pair_u8_size tk_parse_prefix_pos_u8(bool skip_zeroes, tk_bytes s)
 {
     return tk_atoi_simd_parse_prefix_pos_u8(s, skip_zeroes);
 }
 
 /* atoi_column/src/fields.rt:261 */
-TK_INLINE tk_result_pair_u8_size tk_first_number_u8(tk_bytes rest, bool have_minus)
+TK_HINTED tk_result_pair_u8_size tk_first_number_u8(tk_bytes rest, bool have_minus)
 {
     (void)have_minus;
     return tk_parse_prefix_pos_u8(true, rest);
 }
 
 /* atoi_column/src/fields.rt:234 */
-TK_INLINE tk_option_pair_u8_bytes tk_accepted_field_u8(tk_bytes rest, uint8_t separator, bool is_lines, tk_guess guess)
+TK_HINTED tk_option_pair_u8_bytes tk_accepted_field_u8(tk_bytes rest, uint8_t separator, bool is_lines, tk_guess guess)
 {
     if (guess.mostly_one_digit) {
         tk_option_pair_u8_bytes found = tk_one_digit_field_u8(rest, separator);
@@ -5842,7 +5848,7 @@ TK_COLD tk_pair_result_u8_field_error_bytes tk_read_field_u8(tk_bytes rest, uint
 }
 
 /* atoi_column/src/fields.rt:192 */
-TK_INLINE tk_option_result_u8_field_error tk_fields_next_u8(tk_fields *self)
+TK_HINTED tk_option_result_u8_field_error tk_fields_next_u8(tk_fields *self)
 {
     tk_bytes rest = self->rest;
     size_t index = self->index;
@@ -5866,7 +5872,7 @@ TK_INLINE tk_option_result_u8_field_error tk_fields_next_u8(tk_fields *self)
 }
 
 /* atoi_column/src/fields.rt:277 */
-TK_INLINE tk_option_pair_i16_bytes tk_one_digit_field_i16(tk_bytes rest, uint8_t separator)
+TK_HINTED tk_option_pair_i16_bytes tk_one_digit_field_i16(tk_bytes rest, uint8_t separator)
 {
     if (rest.len >= 2 && rest.at[1] == separator && tk_u8_is_digit(rest.at[0])) {
         tk_bytes following = tk_bytes_from(rest, 2);
@@ -5881,13 +5887,13 @@ TK_INLINE tk_option_pair_i16_bytes tk_one_digit_field_i16(tk_bytes rest, uint8_t
 }
 
 /* atoi_simd/src/functions.rt:147 */
-TK_INLINE tk_result_pair_i16_size tk_parse_prefix_pos_i16(bool skip_zeroes, tk_bytes s)
+TK_HINTED tk_result_pair_i16_size tk_parse_prefix_pos_i16(bool skip_zeroes, tk_bytes s)
 {
     return tk_atoi_simd_parse_prefix_pos_i16(s, skip_zeroes);
 }
 
 /* atoi_column/src/fields.rt:261 */
-TK_INLINE tk_result_pair_i16_size tk_first_number_i16(tk_bytes rest, bool have_minus)
+TK_HINTED tk_result_pair_i16_size tk_first_number_i16(tk_bytes rest, bool have_minus)
 {
     if (rest.len >= 1 && '0' <= rest.at[0] && rest.at[0] <= '9' && !have_minus) {
         return tk_parse_prefix_pos_i16(true, rest);
@@ -5896,7 +5902,7 @@ TK_INLINE tk_result_pair_i16_size tk_first_number_i16(tk_bytes rest, bool have_m
 }
 
 /* atoi_column/src/fields.rt:234 */
-TK_INLINE tk_option_pair_i16_bytes tk_accepted_field_i16(tk_bytes rest, uint8_t separator, bool is_lines,
+TK_HINTED tk_option_pair_i16_bytes tk_accepted_field_i16(tk_bytes rest, uint8_t separator, bool is_lines,
                                                          tk_guess guess)
 {
     if (guess.mostly_one_digit) {
@@ -5939,7 +5945,7 @@ TK_COLD tk_pair_result_i16_field_error_bytes tk_read_field_i16(tk_bytes rest, ui
 }
 
 /* atoi_column/src/fields.rt:192 */
-TK_INLINE tk_option_result_i16_field_error tk_fields_next_i16(tk_fields *self)
+TK_HINTED tk_option_result_i16_field_error tk_fields_next_i16(tk_fields *self)
 {
     tk_bytes rest = self->rest;
     size_t index = self->index;
@@ -5964,7 +5970,7 @@ TK_INLINE tk_option_result_i16_field_error tk_fields_next_i16(tk_fields *self)
 }
 
 /* atoi_column/src/fields.rt:277 */
-TK_INLINE tk_option_pair_u16_bytes tk_one_digit_field_u16(tk_bytes rest, uint8_t separator)
+TK_HINTED tk_option_pair_u16_bytes tk_one_digit_field_u16(tk_bytes rest, uint8_t separator)
 {
     if (rest.len >= 2 && rest.at[1] == separator && tk_u8_is_digit(rest.at[0])) {
         tk_bytes following = tk_bytes_from(rest, 2);
@@ -5979,20 +5985,20 @@ TK_INLINE tk_option_pair_u16_bytes tk_one_digit_field_u16(tk_bytes rest, uint8_t
 }
 
 /* atoi_simd/src/functions.rt:147 */
-TK_INLINE tk_result_pair_u16_size tk_parse_prefix_pos_u16(bool skip_zeroes, tk_bytes s)
+TK_HINTED tk_result_pair_u16_size tk_parse_prefix_pos_u16(bool skip_zeroes, tk_bytes s)
 {
     return tk_atoi_simd_parse_prefix_pos_u16(s, skip_zeroes);
 }
 
 /* atoi_column/src/fields.rt:261 */
-TK_INLINE tk_result_pair_u16_size tk_first_number_u16(tk_bytes rest, bool have_minus)
+TK_HINTED tk_result_pair_u16_size tk_first_number_u16(tk_bytes rest, bool have_minus)
 {
     (void)have_minus;
     return tk_parse_prefix_pos_u16(true, rest);
 }
 
 /* atoi_column/src/fields.rt:234 */
-TK_INLINE tk_option_pair_u16_bytes tk_accepted_field_u16(tk_bytes rest, uint8_t separator, bool is_lines,
+TK_HINTED tk_option_pair_u16_bytes tk_accepted_field_u16(tk_bytes rest, uint8_t separator, bool is_lines,
                                                          tk_guess guess)
 {
     if (guess.mostly_one_digit) {
@@ -6035,7 +6041,7 @@ TK_COLD tk_pair_result_u16_field_error_bytes tk_read_field_u16(tk_bytes rest, ui
 }
 
 /* atoi_column/src/fields.rt:192 */
-TK_INLINE tk_option_result_u16_field_error tk_fields_next_u16(tk_fields *self)
+TK_HINTED tk_option_result_u16_field_error tk_fields_next_u16(tk_fields *self)
 {
     tk_bytes rest = self->rest;
     size_t index = self->index;
@@ -6075,7 +6081,7 @@ TK_INLINE tk_option_pair_i32_bytes tk_one_digit_field_i32(tk_bytes rest, uint8_t
 }
 
 /* atoi_simd/src/functions.rt:147 */
-TK_INLINE tk_result_pair_i32_size tk_parse_prefix_pos_i32(bool skip_zeroes, tk_bytes s)
+TK_HINTED tk_result_pair_i32_size tk_parse_prefix_pos_i32(bool skip_zeroes, tk_bytes s)
 {
     return tk_atoi_simd_parse_prefix_pos_i32(s, skip_zeroes);
 }
@@ -6173,7 +6179,7 @@ TK_INLINE tk_option_pair_u32_bytes tk_one_digit_field_u32(tk_bytes rest, uint8_t
 }
 
 /* atoi_simd/src/functions.rt:147 */
-TK_INLINE tk_result_pair_u32_size tk_parse_prefix_pos_u32(bool skip_zeroes, tk_bytes s)
+TK_HINTED tk_result_pair_u32_size tk_parse_prefix_pos_u32(bool skip_zeroes, tk_bytes s)
 {
     return tk_atoi_simd_parse_prefix_pos_u32(s, skip_zeroes);
 }
@@ -6269,7 +6275,7 @@ TK_INLINE tk_option_pair_i64_bytes tk_one_digit_field_i64(tk_bytes rest, uint8_t
 }
 
 /* atoi_simd/src/functions.rt:147 */
-TK_INLINE tk_result_pair_i64_size tk_parse_prefix_pos_i64(bool skip_zeroes, tk_bytes s)
+TK_HINTED tk_result_pair_i64_size tk_parse_prefix_pos_i64(bool skip_zeroes, tk_bytes s)
 {
     return tk_atoi_simd_parse_prefix_pos_i64(s, skip_zeroes);
 }
@@ -6367,7 +6373,7 @@ TK_INLINE tk_option_pair_u64_bytes tk_one_digit_field_u64(tk_bytes rest, uint8_t
 }
 
 /* atoi_simd/src/functions.rt:147 */
-TK_INLINE tk_result_pair_u64_size tk_parse_prefix_pos_u64(bool skip_zeroes, tk_bytes s)
+TK_HINTED tk_result_pair_u64_size tk_parse_prefix_pos_u64(bool skip_zeroes, tk_bytes s)
 {
     return tk_atoi_simd_parse_prefix_pos_u64(s, skip_zeroes);
 }
@@ -6448,7 +6454,7 @@ TK_INLINE tk_option_result_u64_field_error tk_fields_next_u64(tk_fields *self)
 }
 
 /* atoi_column/src/fields.rt:277 */
-TK_INLINE tk_option_pair_i128_bytes tk_one_digit_field_i128(tk_bytes rest, uint8_t separator)
+TK_HINTED tk_option_pair_i128_bytes tk_one_digit_field_i128(tk_bytes rest, uint8_t separator)
 {
     if (rest.len >= 2 && rest.at[1] == separator && tk_u8_is_digit(rest.at[0])) {
         tk_bytes following = tk_bytes_from(rest, 2);
@@ -6463,13 +6469,13 @@ TK_INLINE tk_option_pair_i128_bytes tk_one_digit_field_i128(tk_bytes rest, uint8
 }
 
 /* atoi_simd/src/functions.rt:147 */
-TK_INLINE tk_result_pair_i128_size tk_parse_prefix_pos_i128(bool skip_zeroes, tk_bytes s)
+TK_HINTED tk_result_pair_i128_size tk_parse_prefix_pos_i128(bool skip_zeroes, tk_bytes s)
 {
     return tk_atoi_simd_parse_prefix_pos_i128(s, skip_zeroes);
 }
 
 /* atoi_column/src/fields.rt:261 */
-TK_INLINE tk_result_pair_i128_size tk_first_number_i128(tk_bytes rest, bool have_minus)
+TK_HINTED tk_result_pair_i128_size tk_first_number_i128(tk_bytes rest, bool have_minus)
 {
     if (rest.len >= 1 && '0' <= rest.at[0] && rest.at[0] <= '9' && !have_minus) {
         return tk_parse_prefix_pos_i128(true, rest);
@@ -6478,7 +6484,7 @@ TK_INLINE tk_result_pair_i128_size tk_first_number_i128(tk_bytes rest, bool have
 }
 
 /* atoi_column/src/fields.rt:234 */
-TK_INLINE tk_option_pair_i128_bytes tk_accepted_field_i128(tk_bytes rest, uint8_t separator, bool is_lines,
+TK_HINTED tk_option_pair_i128_bytes tk_accepted_field_i128(tk_bytes rest, uint8_t separator, bool is_lines,
                                                            tk_guess guess)
 {
     if (guess.mostly_one_digit) {
@@ -6521,7 +6527,7 @@ TK_COLD tk_pair_result_i128_field_error_bytes tk_read_field_i128(tk_bytes rest, 
 }
 
 /* atoi_column/src/fields.rt:192 */
-TK_INLINE tk_option_result_i128_field_error tk_fields_next_i128(tk_fields *self)
+TK_HINTED tk_option_result_i128_field_error tk_fields_next_i128(tk_fields *self)
 {
     tk_bytes rest = self->rest;
     size_t index = self->index;
@@ -6546,7 +6552,7 @@ TK_INLINE tk_option_result_i128_field_error tk_fields_next_i128(tk_fields *self)
 }
 
 /* atoi_column/src/fields.rt:277 */
-TK_INLINE tk_option_pair_u128_bytes tk_one_digit_field_u128(tk_bytes rest, uint8_t separator)
+TK_HINTED tk_option_pair_u128_bytes tk_one_digit_field_u128(tk_bytes rest, uint8_t separator)
 {
     if (rest.len >= 2 && rest.at[1] == separator && tk_u8_is_digit(rest.at[0])) {
         tk_bytes following = tk_bytes_from(rest, 2);
@@ -6561,20 +6567,20 @@ TK_INLINE tk_option_pair_u128_bytes tk_one_digit_field_u128(tk_bytes rest, uint8
 }
 
 /* atoi_simd/src/functions.rt:147 */
-TK_INLINE tk_result_pair_u128_size tk_parse_prefix_pos_u128(bool skip_zeroes, tk_bytes s)
+TK_HINTED tk_result_pair_u128_size tk_parse_prefix_pos_u128(bool skip_zeroes, tk_bytes s)
 {
     return tk_atoi_simd_parse_prefix_pos_u128(s, skip_zeroes);
 }
 
 /* atoi_column/src/fields.rt:261 */
-TK_INLINE tk_result_pair_u128_size tk_first_number_u128(tk_bytes rest, bool have_minus)
+TK_HINTED tk_result_pair_u128_size tk_first_number_u128(tk_bytes rest, bool have_minus)
 {
     (void)have_minus;
     return tk_parse_prefix_pos_u128(true, rest);
 }
 
 /* atoi_column/src/fields.rt:234 */
-TK_INLINE tk_option_pair_u128_bytes tk_accepted_field_u128(tk_bytes rest, uint8_t separator, bool is_lines,
+TK_HINTED tk_option_pair_u128_bytes tk_accepted_field_u128(tk_bytes rest, uint8_t separator, bool is_lines,
                                                            tk_guess guess)
 {
     if (guess.mostly_one_digit) {
@@ -6617,7 +6623,7 @@ TK_COLD tk_pair_result_u128_field_error_bytes tk_read_field_u128(tk_bytes rest, 
 }
 
 /* atoi_column/src/fields.rt:192 */
-TK_INLINE tk_option_result_u128_field_error tk_fields_next_u128(tk_fields *self)
+TK_HINTED tk_option_result_u128_field_error tk_fields_next_u128(tk_fields *self)
 {
     tk_bytes rest = self->rest;
     size_t index = self->index;
@@ -6670,7 +6676,7 @@ TK_INLINE size_t tk_sign_len(bool is_signed, tk_bytes rest)
 
 /* The word of the first eight bytes. */
 /* atoi_column/src/words.rt:71 */
-TK_HINTED tk_option_u64 tk_first_word(tk_bytes s)
+TK_INLINE tk_option_u64 tk_first_word(tk_bytes s)
 {
     if (s.len < 8) {
         return tk_none_u64();
@@ -6683,7 +6689,7 @@ TK_HINTED tk_option_u64 tk_first_word(tk_bytes s)
  * product shifts it, too.
  */
 /* atoi_column/src/words.rt:81 */
-TK_HINTED uint64_t tk_sum_of_shifted(uint64_t digits, uint32_t shift)
+TK_INLINE uint64_t tk_sum_of_shifted(uint64_t digits, uint32_t shift)
 {
     uint64_t tens = (tk_u64_wrapping_mul(digits, UINT64_C(2561) << shift) >> 8) & UINT64_C(0x00FF00FF00FF00FF);
     uint64_t hundreds = tk_u64_wrapping_mul(tens, 0x640001);
@@ -6716,7 +6722,7 @@ TK_INLINE tk_option_u64 tk_number_before(tk_bytes s, size_t width, uint64_t end_
 
 /* Returns the value of this sign and magnitude, if it fits the type. */
 /* atoi_column/src/guesses.rt:132 */
-TK_INLINE tk_option_i8 tk_signed_i8(bool minus, uint64_t magnitude)
+TK_HINTED tk_option_i8 tk_signed_i8(bool minus, uint64_t magnitude)
 {
     /* A type that has all numbers of 64 bits needs no test. */
     if (tk_u128_less(tk_u128_of(127), tk_u128_of(UINT64_C(18446744073709551615)))
@@ -6728,7 +6734,7 @@ TK_INLINE tk_option_i8 tk_signed_i8(bool minus, uint64_t magnitude)
 
 /* `number_of_digits`, if the first `end_len` bytes of `end_word` follow the number. */
 /* atoi_column/src/guesses.rt:87 */
-TK_INLINE tk_option_pair_i8_size tk_number_with_end_i8(tk_bytes rest, size_t width, uint64_t end_word, size_t end_len)
+TK_HINTED tk_option_pair_i8_size tk_number_with_end_i8(tk_bytes rest, size_t width, uint64_t end_word, size_t end_len)
 {
     if (width == 0 || rest.len <= 8) {
         return tk_none_pair_i8_size();
@@ -6791,7 +6797,7 @@ TK_INLINE tk_option_u64 tk_number_of_width(tk_bytes s, size_t width)
  * minus.
  */
 /* atoi_column/src/guesses.rt:114 */
-TK_INLINE tk_option_pair_i8_size tk_number_of_digits_i8(tk_bytes rest, size_t width)
+TK_HINTED tk_option_pair_i8_size tk_number_of_digits_i8(tk_bytes rest, size_t width)
 {
     if (width == 0 || width > 16) {
         return tk_number_of_any_width_i8(rest, width);
@@ -6825,7 +6831,7 @@ TK_INLINE bool tk_starts_with(tk_bytes s, uint64_t bytes, size_t count)
 
 /* `accepted_field`, if the field looks as guessed. */
 /* atoi_column/src/fields/read.rt:231 */
-TK_INLINE tk_option_pair_i8_bytes tk_guessed_field_i8(tk_bytes rest, uint8_t separator, bool is_lines, tk_guess guess)
+TK_HINTED tk_option_pair_i8_bytes tk_guessed_field_i8(tk_bytes rest, uint8_t separator, bool is_lines, tk_guess guess)
 {
     tk_pair_u64_size found = tk_end_of(separator, is_lines, guess.has_return);
     uint64_t end_word = found.first;
@@ -6853,7 +6859,7 @@ TK_INLINE tk_option_pair_i8_bytes tk_guessed_field_i8(tk_bytes rest, uint8_t sep
 
 /* `next_number`, if the field looks as guessed. */
 /* atoi_column/src/fields/read.rt:179 */
-TK_INLINE tk_option_i8 tk_fields_guessed_number_i8(tk_fields *self, tk_guess guess)
+TK_HINTED tk_option_i8 tk_fields_guessed_number_i8(tk_fields *self, tk_guess guess)
 {
     tk_bytes rest = self->rest;
     size_t index = self->index;
@@ -6870,7 +6876,7 @@ TK_INLINE tk_option_i8 tk_fields_guessed_number_i8(tk_fields *self, tk_guess gue
 
 /* Returns the number of the next field, if it is one. Otherwise, nothing changes. */
 /* atoi_column/src/fields/read.rt:194 */
-TK_INLINE tk_option_i8 tk_fields_next_number_i8(tk_fields *self, tk_guess guess)
+TK_HINTED tk_option_i8 tk_fields_next_number_i8(tk_fields *self, tk_guess guess)
 {
     tk_bytes rest = self->rest;
     size_t index = self->index;
@@ -6925,7 +6931,7 @@ TK_NOINLINE size_t tk_fields_read_part_i8(bool guesses, tk_fields *self, tk_room
 
 /* `read_part` for numbers of any width. */
 /* atoi_column/src/fields/read.rt:96 */
-TK_INLINE size_t tk_fields_read_plain_i8(tk_fields *self, tk_room_i8 values, size_t from, size_t most, tk_guess guess)
+TK_HINTED size_t tk_fields_read_plain_i8(tk_fields *self, tk_room_i8 values, size_t from, size_t most, tk_guess guess)
 {
     /* Each case has a loop of its own, since `read_part` is inlined. */
     if (guess.mostly_one_digit) {
@@ -7030,7 +7036,7 @@ TK_HINTED size_t tk_fields_read_i8(tk_fields *self, tk_room_i8 values)
 }
 
 /* atoi_column/src/guesses.rt:132 */
-TK_INLINE tk_option_u8 tk_signed_u8(bool minus, uint64_t magnitude)
+TK_HINTED tk_option_u8 tk_signed_u8(bool minus, uint64_t magnitude)
 {
     /* A type that has all numbers of 64 bits needs no test. */
     if (tk_u128_less(tk_u128_of(255), tk_u128_of(UINT64_C(18446744073709551615)))
@@ -7041,7 +7047,7 @@ TK_INLINE tk_option_u8 tk_signed_u8(bool minus, uint64_t magnitude)
 }
 
 /* atoi_column/src/guesses.rt:87 */
-TK_INLINE tk_option_pair_u8_size tk_number_with_end_u8(tk_bytes rest, size_t width, uint64_t end_word, size_t end_len)
+TK_HINTED tk_option_pair_u8_size tk_number_with_end_u8(tk_bytes rest, size_t width, uint64_t end_word, size_t end_len)
 {
     if (width == 0 || rest.len <= 8) {
         return tk_none_pair_u8_size();
@@ -7075,7 +7081,7 @@ TK_HINTED tk_option_pair_u8_size tk_number_of_any_width_u8(tk_bytes rest, size_t
 }
 
 /* atoi_column/src/guesses.rt:114 */
-TK_INLINE tk_option_pair_u8_size tk_number_of_digits_u8(tk_bytes rest, size_t width)
+TK_HINTED tk_option_pair_u8_size tk_number_of_digits_u8(tk_bytes rest, size_t width)
 {
     if (width == 0 || width > 16) {
         return tk_number_of_any_width_u8(rest, width);
@@ -7097,7 +7103,7 @@ TK_INLINE tk_option_pair_u8_size tk_number_of_digits_u8(tk_bytes rest, size_t wi
 }
 
 /* atoi_column/src/fields/read.rt:231 */
-TK_INLINE tk_option_pair_u8_bytes tk_guessed_field_u8(tk_bytes rest, uint8_t separator, bool is_lines, tk_guess guess)
+TK_HINTED tk_option_pair_u8_bytes tk_guessed_field_u8(tk_bytes rest, uint8_t separator, bool is_lines, tk_guess guess)
 {
     tk_pair_u64_size found = tk_end_of(separator, is_lines, guess.has_return);
     uint64_t end_word = found.first;
@@ -7124,7 +7130,7 @@ TK_INLINE tk_option_pair_u8_bytes tk_guessed_field_u8(tk_bytes rest, uint8_t sep
 }
 
 /* atoi_column/src/fields/read.rt:179 */
-TK_INLINE tk_option_u8 tk_fields_guessed_number_u8(tk_fields *self, tk_guess guess)
+TK_HINTED tk_option_u8 tk_fields_guessed_number_u8(tk_fields *self, tk_guess guess)
 {
     tk_bytes rest = self->rest;
     size_t index = self->index;
@@ -7140,7 +7146,7 @@ TK_INLINE tk_option_u8 tk_fields_guessed_number_u8(tk_fields *self, tk_guess gue
 }
 
 /* atoi_column/src/fields/read.rt:194 */
-TK_INLINE tk_option_u8 tk_fields_next_number_u8(tk_fields *self, tk_guess guess)
+TK_HINTED tk_option_u8 tk_fields_next_number_u8(tk_fields *self, tk_guess guess)
 {
     tk_bytes rest = self->rest;
     size_t index = self->index;
@@ -7193,7 +7199,7 @@ TK_NOINLINE size_t tk_fields_read_part_u8(bool guesses, tk_fields *self, tk_room
 }
 
 /* atoi_column/src/fields/read.rt:96 */
-TK_INLINE size_t tk_fields_read_plain_u8(tk_fields *self, tk_room_u8 values, size_t from, size_t most, tk_guess guess)
+TK_HINTED size_t tk_fields_read_plain_u8(tk_fields *self, tk_room_u8 values, size_t from, size_t most, tk_guess guess)
 {
     /* Each case has a loop of its own, since `read_part` is inlined. */
     if (guess.mostly_one_digit) {
@@ -7282,7 +7288,7 @@ TK_HINTED size_t tk_fields_read_u8(tk_fields *self, tk_room_u8 values)
 }
 
 /* atoi_column/src/guesses.rt:132 */
-TK_INLINE tk_option_i16 tk_signed_i16(bool minus, uint64_t magnitude)
+TK_HINTED tk_option_i16 tk_signed_i16(bool minus, uint64_t magnitude)
 {
     /* A type that has all numbers of 64 bits needs no test. */
     if (tk_u128_less(tk_u128_of(32767), tk_u128_of(UINT64_C(18446744073709551615)))
@@ -7293,7 +7299,7 @@ TK_INLINE tk_option_i16 tk_signed_i16(bool minus, uint64_t magnitude)
 }
 
 /* atoi_column/src/guesses.rt:87 */
-TK_INLINE tk_option_pair_i16_size tk_number_with_end_i16(tk_bytes rest, size_t width, uint64_t end_word, size_t end_len)
+TK_HINTED tk_option_pair_i16_size tk_number_with_end_i16(tk_bytes rest, size_t width, uint64_t end_word, size_t end_len)
 {
     if (width == 0 || rest.len <= 8) {
         return tk_none_pair_i16_size();
@@ -7327,7 +7333,7 @@ TK_HINTED tk_option_pair_i16_size tk_number_of_any_width_i16(tk_bytes rest, size
 }
 
 /* atoi_column/src/guesses.rt:114 */
-TK_INLINE tk_option_pair_i16_size tk_number_of_digits_i16(tk_bytes rest, size_t width)
+TK_HINTED tk_option_pair_i16_size tk_number_of_digits_i16(tk_bytes rest, size_t width)
 {
     if (width == 0 || width > 16) {
         return tk_number_of_any_width_i16(rest, width);
@@ -7349,7 +7355,7 @@ TK_INLINE tk_option_pair_i16_size tk_number_of_digits_i16(tk_bytes rest, size_t 
 }
 
 /* atoi_column/src/fields/read.rt:231 */
-TK_INLINE tk_option_pair_i16_bytes tk_guessed_field_i16(tk_bytes rest, uint8_t separator, bool is_lines, tk_guess guess)
+TK_HINTED tk_option_pair_i16_bytes tk_guessed_field_i16(tk_bytes rest, uint8_t separator, bool is_lines, tk_guess guess)
 {
     tk_pair_u64_size found = tk_end_of(separator, is_lines, guess.has_return);
     uint64_t end_word = found.first;
@@ -7376,7 +7382,7 @@ TK_INLINE tk_option_pair_i16_bytes tk_guessed_field_i16(tk_bytes rest, uint8_t s
 }
 
 /* atoi_column/src/fields/read.rt:179 */
-TK_INLINE tk_option_i16 tk_fields_guessed_number_i16(tk_fields *self, tk_guess guess)
+TK_HINTED tk_option_i16 tk_fields_guessed_number_i16(tk_fields *self, tk_guess guess)
 {
     tk_bytes rest = self->rest;
     size_t index = self->index;
@@ -7392,7 +7398,7 @@ TK_INLINE tk_option_i16 tk_fields_guessed_number_i16(tk_fields *self, tk_guess g
 }
 
 /* atoi_column/src/fields/read.rt:194 */
-TK_INLINE tk_option_i16 tk_fields_next_number_i16(tk_fields *self, tk_guess guess)
+TK_HINTED tk_option_i16 tk_fields_next_number_i16(tk_fields *self, tk_guess guess)
 {
     tk_bytes rest = self->rest;
     size_t index = self->index;
@@ -7446,7 +7452,7 @@ TK_NOINLINE size_t tk_fields_read_part_i16(bool guesses, tk_fields *self, tk_roo
 }
 
 /* atoi_column/src/fields/read.rt:96 */
-TK_INLINE size_t tk_fields_read_plain_i16(tk_fields *self, tk_room_i16 values, size_t from, size_t most, tk_guess guess)
+TK_HINTED size_t tk_fields_read_plain_i16(tk_fields *self, tk_room_i16 values, size_t from, size_t most, tk_guess guess)
 {
     /* Each case has a loop of its own, since `read_part` is inlined. */
     if (guess.mostly_one_digit) {
@@ -7538,7 +7544,7 @@ TK_HINTED size_t tk_fields_read_i16(tk_fields *self, tk_room_i16 values)
 }
 
 /* atoi_column/src/guesses.rt:132 */
-TK_INLINE tk_option_u16 tk_signed_u16(bool minus, uint64_t magnitude)
+TK_HINTED tk_option_u16 tk_signed_u16(bool minus, uint64_t magnitude)
 {
     /* A type that has all numbers of 64 bits needs no test. */
     if (tk_u128_less(tk_u128_of(65535), tk_u128_of(UINT64_C(18446744073709551615)))
@@ -7549,7 +7555,7 @@ TK_INLINE tk_option_u16 tk_signed_u16(bool minus, uint64_t magnitude)
 }
 
 /* atoi_column/src/guesses.rt:87 */
-TK_INLINE tk_option_pair_u16_size tk_number_with_end_u16(tk_bytes rest, size_t width, uint64_t end_word, size_t end_len)
+TK_HINTED tk_option_pair_u16_size tk_number_with_end_u16(tk_bytes rest, size_t width, uint64_t end_word, size_t end_len)
 {
     if (width == 0 || rest.len <= 8) {
         return tk_none_pair_u16_size();
@@ -7583,7 +7589,7 @@ TK_HINTED tk_option_pair_u16_size tk_number_of_any_width_u16(tk_bytes rest, size
 }
 
 /* atoi_column/src/guesses.rt:114 */
-TK_INLINE tk_option_pair_u16_size tk_number_of_digits_u16(tk_bytes rest, size_t width)
+TK_HINTED tk_option_pair_u16_size tk_number_of_digits_u16(tk_bytes rest, size_t width)
 {
     if (width == 0 || width > 16) {
         return tk_number_of_any_width_u16(rest, width);
@@ -7605,7 +7611,7 @@ TK_INLINE tk_option_pair_u16_size tk_number_of_digits_u16(tk_bytes rest, size_t 
 }
 
 /* atoi_column/src/fields/read.rt:231 */
-TK_INLINE tk_option_pair_u16_bytes tk_guessed_field_u16(tk_bytes rest, uint8_t separator, bool is_lines, tk_guess guess)
+TK_HINTED tk_option_pair_u16_bytes tk_guessed_field_u16(tk_bytes rest, uint8_t separator, bool is_lines, tk_guess guess)
 {
     tk_pair_u64_size found = tk_end_of(separator, is_lines, guess.has_return);
     uint64_t end_word = found.first;
@@ -7632,7 +7638,7 @@ TK_INLINE tk_option_pair_u16_bytes tk_guessed_field_u16(tk_bytes rest, uint8_t s
 }
 
 /* atoi_column/src/fields/read.rt:179 */
-TK_INLINE tk_option_u16 tk_fields_guessed_number_u16(tk_fields *self, tk_guess guess)
+TK_HINTED tk_option_u16 tk_fields_guessed_number_u16(tk_fields *self, tk_guess guess)
 {
     tk_bytes rest = self->rest;
     size_t index = self->index;
@@ -7648,7 +7654,7 @@ TK_INLINE tk_option_u16 tk_fields_guessed_number_u16(tk_fields *self, tk_guess g
 }
 
 /* atoi_column/src/fields/read.rt:194 */
-TK_INLINE tk_option_u16 tk_fields_next_number_u16(tk_fields *self, tk_guess guess)
+TK_HINTED tk_option_u16 tk_fields_next_number_u16(tk_fields *self, tk_guess guess)
 {
     tk_bytes rest = self->rest;
     size_t index = self->index;
@@ -7702,7 +7708,7 @@ TK_NOINLINE size_t tk_fields_read_part_u16(bool guesses, tk_fields *self, tk_roo
 }
 
 /* atoi_column/src/fields/read.rt:96 */
-TK_INLINE size_t tk_fields_read_plain_u16(tk_fields *self, tk_room_u16 values, size_t from, size_t most, tk_guess guess)
+TK_HINTED size_t tk_fields_read_plain_u16(tk_fields *self, tk_room_u16 values, size_t from, size_t most, tk_guess guess)
 {
     /* Each case has a loop of its own, since `read_part` is inlined. */
     if (guess.mostly_one_digit) {
@@ -7821,7 +7827,7 @@ TK_INLINE tk_option_pair_i32_size tk_number_with_end_i32(tk_bytes rest, size_t w
 }
 
 /* atoi_column/src/guesses.rt:145 */
-TK_HINTED tk_option_pair_i32_size tk_number_of_any_width_i32(tk_bytes rest, size_t width)
+TK_INLINE tk_option_pair_i32_size tk_number_of_any_width_i32(tk_bytes rest, size_t width)
 {
     size_t at = tk_size_saturating_add(width, tk_sign_len(true, rest));
     if (at > rest.len) {
@@ -8022,7 +8028,7 @@ TK_NOINLINE size_t tk_fields_read_guessed_i32(tk_fields *self, tk_room_i32 value
 }
 
 /* atoi_column/src/fields/read.rt:55 */
-TK_HINTED size_t tk_fields_read_i32(tk_fields *self, tk_room_i32 values)
+TK_INLINE size_t tk_fields_read_i32(tk_fields *self, tk_room_i32 values)
 {
     size_t read = 0;
     size_t part = self->rest.len < TK_SHORT_TEXT ? TK_SHORT_TEXT : TK_PART;
@@ -8077,7 +8083,7 @@ TK_INLINE tk_option_pair_u32_size tk_number_with_end_u32(tk_bytes rest, size_t w
 }
 
 /* atoi_column/src/guesses.rt:145 */
-TK_HINTED tk_option_pair_u32_size tk_number_of_any_width_u32(tk_bytes rest, size_t width)
+TK_INLINE tk_option_pair_u32_size tk_number_of_any_width_u32(tk_bytes rest, size_t width)
 {
     size_t at = tk_size_saturating_add(width, tk_sign_len(false, rest));
     if (at > rest.len) {
@@ -8275,7 +8281,7 @@ TK_NOINLINE size_t tk_fields_read_guessed_u32(tk_fields *self, tk_room_u32 value
 }
 
 /* atoi_column/src/fields/read.rt:55 */
-TK_HINTED size_t tk_fields_read_u32(tk_fields *self, tk_room_u32 values)
+TK_INLINE size_t tk_fields_read_u32(tk_fields *self, tk_room_u32 values)
 {
     size_t read = 0;
     size_t part = self->rest.len < TK_SHORT_TEXT ? TK_SHORT_TEXT : TK_PART;
@@ -8330,7 +8336,7 @@ TK_INLINE tk_option_pair_i64_size tk_number_with_end_i64(tk_bytes rest, size_t w
 }
 
 /* atoi_column/src/guesses.rt:145 */
-TK_HINTED tk_option_pair_i64_size tk_number_of_any_width_i64(tk_bytes rest, size_t width)
+TK_INLINE tk_option_pair_i64_size tk_number_of_any_width_i64(tk_bytes rest, size_t width)
 {
     size_t at = tk_size_saturating_add(width, tk_sign_len(true, rest));
     if (at > rest.len) {
@@ -8531,7 +8537,7 @@ TK_NOINLINE size_t tk_fields_read_guessed_i64(tk_fields *self, tk_room_i64 value
 }
 
 /* atoi_column/src/fields/read.rt:55 */
-TK_HINTED size_t tk_fields_read_i64(tk_fields *self, tk_room_i64 values)
+TK_INLINE size_t tk_fields_read_i64(tk_fields *self, tk_room_i64 values)
 {
     size_t read = 0;
     size_t part = self->rest.len < TK_SHORT_TEXT ? TK_SHORT_TEXT : TK_PART;
@@ -8586,7 +8592,7 @@ TK_INLINE tk_option_pair_u64_size tk_number_with_end_u64(tk_bytes rest, size_t w
 }
 
 /* atoi_column/src/guesses.rt:145 */
-TK_HINTED tk_option_pair_u64_size tk_number_of_any_width_u64(tk_bytes rest, size_t width)
+TK_INLINE tk_option_pair_u64_size tk_number_of_any_width_u64(tk_bytes rest, size_t width)
 {
     size_t at = tk_size_saturating_add(width, tk_sign_len(false, rest));
     if (at > rest.len) {
@@ -8784,7 +8790,7 @@ TK_NOINLINE size_t tk_fields_read_guessed_u64(tk_fields *self, tk_room_u64 value
 }
 
 /* atoi_column/src/fields/read.rt:55 */
-TK_HINTED size_t tk_fields_read_u64(tk_fields *self, tk_room_u64 values)
+TK_INLINE size_t tk_fields_read_u64(tk_fields *self, tk_room_u64 values)
 {
     size_t read = 0;
     size_t part = self->rest.len < TK_SHORT_TEXT ? TK_SHORT_TEXT : TK_PART;
@@ -8809,7 +8815,7 @@ TK_HINTED size_t tk_fields_read_u64(tk_fields *self, tk_room_u64 values)
 }
 
 /* atoi_column/src/guesses.rt:132 */
-TK_INLINE tk_option_i128 tk_signed_i128(bool minus, uint64_t magnitude)
+TK_HINTED tk_option_i128 tk_signed_i128(bool minus, uint64_t magnitude)
 {
     /* A type that has all numbers of 64 bits needs no test. */
     if (tk_u128_less(tk_u128_make(UINT64_C(9223372036854775807), UINT64_C(18446744073709551615)),
@@ -8822,7 +8828,7 @@ TK_INLINE tk_option_i128 tk_signed_i128(bool minus, uint64_t magnitude)
 }
 
 /* atoi_column/src/guesses.rt:87 */
-TK_INLINE tk_option_pair_i128_size tk_number_with_end_i128(tk_bytes rest, size_t width, uint64_t end_word,
+TK_HINTED tk_option_pair_i128_size tk_number_with_end_i128(tk_bytes rest, size_t width, uint64_t end_word,
                                                            size_t end_len)
 {
     if (width == 0 || rest.len <= 8) {
@@ -8857,7 +8863,7 @@ TK_HINTED tk_option_pair_i128_size tk_number_of_any_width_i128(tk_bytes rest, si
 }
 
 /* atoi_column/src/guesses.rt:114 */
-TK_INLINE tk_option_pair_i128_size tk_number_of_digits_i128(tk_bytes rest, size_t width)
+TK_HINTED tk_option_pair_i128_size tk_number_of_digits_i128(tk_bytes rest, size_t width)
 {
     if (width == 0 || width > 16) {
         return tk_number_of_any_width_i128(rest, width);
@@ -8879,7 +8885,7 @@ TK_INLINE tk_option_pair_i128_size tk_number_of_digits_i128(tk_bytes rest, size_
 }
 
 /* atoi_column/src/fields/read.rt:231 */
-TK_INLINE tk_option_pair_i128_bytes tk_guessed_field_i128(tk_bytes rest, uint8_t separator, bool is_lines,
+TK_HINTED tk_option_pair_i128_bytes tk_guessed_field_i128(tk_bytes rest, uint8_t separator, bool is_lines,
                                                           tk_guess guess)
 {
     tk_pair_u64_size found = tk_end_of(separator, is_lines, guess.has_return);
@@ -8907,7 +8913,7 @@ TK_INLINE tk_option_pair_i128_bytes tk_guessed_field_i128(tk_bytes rest, uint8_t
 }
 
 /* atoi_column/src/fields/read.rt:179 */
-TK_INLINE tk_option_i128 tk_fields_guessed_number_i128(tk_fields *self, tk_guess guess)
+TK_HINTED tk_option_i128 tk_fields_guessed_number_i128(tk_fields *self, tk_guess guess)
 {
     tk_bytes rest = self->rest;
     size_t index = self->index;
@@ -8923,7 +8929,7 @@ TK_INLINE tk_option_i128 tk_fields_guessed_number_i128(tk_fields *self, tk_guess
 }
 
 /* atoi_column/src/fields/read.rt:194 */
-TK_INLINE tk_option_i128 tk_fields_next_number_i128(tk_fields *self, tk_guess guess)
+TK_HINTED tk_option_i128 tk_fields_next_number_i128(tk_fields *self, tk_guess guess)
 {
     tk_bytes rest = self->rest;
     size_t index = self->index;
@@ -8977,7 +8983,7 @@ TK_NOINLINE size_t tk_fields_read_part_i128(bool guesses, tk_fields *self, tk_ro
 }
 
 /* atoi_column/src/fields/read.rt:96 */
-TK_INLINE size_t tk_fields_read_plain_i128(tk_fields *self, tk_room_i128 values, size_t from, size_t most,
+TK_HINTED size_t tk_fields_read_plain_i128(tk_fields *self, tk_room_i128 values, size_t from, size_t most,
                                            tk_guess guess)
 {
     /* Each case has a loop of its own, since `read_part` is inlined. */
@@ -9070,7 +9076,7 @@ TK_HINTED size_t tk_fields_read_i128(tk_fields *self, tk_room_i128 values)
 }
 
 /* atoi_column/src/guesses.rt:132 */
-TK_INLINE tk_option_u128 tk_signed_u128(bool minus, uint64_t magnitude)
+TK_HINTED tk_option_u128 tk_signed_u128(bool minus, uint64_t magnitude)
 {
     /* A type that has all numbers of 64 bits needs no test. */
     if (tk_u128_less(tk_u128_make(UINT64_C(18446744073709551615), UINT64_C(18446744073709551615)),
@@ -9083,7 +9089,7 @@ TK_INLINE tk_option_u128 tk_signed_u128(bool minus, uint64_t magnitude)
 }
 
 /* atoi_column/src/guesses.rt:87 */
-TK_INLINE tk_option_pair_u128_size tk_number_with_end_u128(tk_bytes rest, size_t width, uint64_t end_word,
+TK_HINTED tk_option_pair_u128_size tk_number_with_end_u128(tk_bytes rest, size_t width, uint64_t end_word,
                                                            size_t end_len)
 {
     if (width == 0 || rest.len <= 8) {
@@ -9118,7 +9124,7 @@ TK_HINTED tk_option_pair_u128_size tk_number_of_any_width_u128(tk_bytes rest, si
 }
 
 /* atoi_column/src/guesses.rt:114 */
-TK_INLINE tk_option_pair_u128_size tk_number_of_digits_u128(tk_bytes rest, size_t width)
+TK_HINTED tk_option_pair_u128_size tk_number_of_digits_u128(tk_bytes rest, size_t width)
 {
     if (width == 0 || width > 16) {
         return tk_number_of_any_width_u128(rest, width);
@@ -9140,7 +9146,7 @@ TK_INLINE tk_option_pair_u128_size tk_number_of_digits_u128(tk_bytes rest, size_
 }
 
 /* atoi_column/src/fields/read.rt:231 */
-TK_INLINE tk_option_pair_u128_bytes tk_guessed_field_u128(tk_bytes rest, uint8_t separator, bool is_lines,
+TK_HINTED tk_option_pair_u128_bytes tk_guessed_field_u128(tk_bytes rest, uint8_t separator, bool is_lines,
                                                           tk_guess guess)
 {
     tk_pair_u64_size found = tk_end_of(separator, is_lines, guess.has_return);
@@ -9168,7 +9174,7 @@ TK_INLINE tk_option_pair_u128_bytes tk_guessed_field_u128(tk_bytes rest, uint8_t
 }
 
 /* atoi_column/src/fields/read.rt:179 */
-TK_INLINE tk_option_u128 tk_fields_guessed_number_u128(tk_fields *self, tk_guess guess)
+TK_HINTED tk_option_u128 tk_fields_guessed_number_u128(tk_fields *self, tk_guess guess)
 {
     tk_bytes rest = self->rest;
     size_t index = self->index;
@@ -9184,7 +9190,7 @@ TK_INLINE tk_option_u128 tk_fields_guessed_number_u128(tk_fields *self, tk_guess
 }
 
 /* atoi_column/src/fields/read.rt:194 */
-TK_INLINE tk_option_u128 tk_fields_next_number_u128(tk_fields *self, tk_guess guess)
+TK_HINTED tk_option_u128 tk_fields_next_number_u128(tk_fields *self, tk_guess guess)
 {
     tk_bytes rest = self->rest;
     size_t index = self->index;
@@ -9238,7 +9244,7 @@ TK_NOINLINE size_t tk_fields_read_part_u128(bool guesses, tk_fields *self, tk_ro
 }
 
 /* atoi_column/src/fields/read.rt:96 */
-TK_INLINE size_t tk_fields_read_plain_u128(tk_fields *self, tk_room_u128 values, size_t from, size_t most,
+TK_HINTED size_t tk_fields_read_plain_u128(tk_fields *self, tk_room_u128 values, size_t from, size_t most,
                                            tk_guess guess)
 {
     /* Each case has a loop of its own, since `read_part` is inlined. */
@@ -9345,7 +9351,7 @@ static torkettle_status tk_status_of(tk_error error)
 }
 
 /* An error has the rest of the text, which reaches to its end. */
-static torkettle_error tk_explained(tk_error error, tk_bytes text)
+TK_NOINLINE torkettle_error tk_explained(tk_error error, tk_bytes text)
 {
     torkettle_error made = TK_MAKE(torkettle_error, tk_status_of(error), 0, 0, error.size, 0, 0);
     if (error.tag != TK_ERROR_EMPTY)
@@ -9452,7 +9458,8 @@ const char *torkettle_version(void) TORKETTLE_NOEXCEPT { return TORKETTLE_VERSIO
             return TK_MAKE(torkettle_found_##name, long_.value, length);                                               \
         return tk_found_##name(tk_atoi_simd_parse_##name(bytes, TK_ZEROES, TK_PLUS), length);                          \
     }                                                                                                                  \
-    torkettle_found_##name torkettle_whole_##name(const char *text, size_t length, unsigned flags) TORKETTLE_NOEXCEPT  \
+    TK_FAR torkettle_found_##name torkettle_whole_##name(const char *text, size_t length, unsigned flags)              \
+        TORKETTLE_NOEXCEPT                                                                                             \
     {                                                                                                                  \
         tk_option_##name quick = tk_quick_slice_##name(tk_text(text, length));                                         \
         if (quick.is_some)                                                                                             \

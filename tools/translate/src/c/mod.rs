@@ -45,16 +45,21 @@ const CALLED: &str = "atoi_core::narrow_prefix atoi_core::whole_64 atoi_core::wh
     atoi_fast::prefix_64 atoi_fast::prefix_128 atoi_fast::prefix_of_three_words atoi_fast::window \
     atoi_simd::atoi_simd_parse_prefix";
 
-/// The types that most numbers have, and what C calls only for the others.
+/// The types that most numbers have, what C calls only for the others, and whose functions every compiler has to inline
+/// in `torkettle.c` only for these types. Most compilers take less time if they may choose.
 const COMMON: &str = "i32 u32 i64 u64";
 const CALLED_BY_OTHERS: &str = "atoi_column::read_part atoi_fast::prefix_pos";
+const INLINED: &str = "atoi_column atoi_fast";
 
 /// Says whether C calls a function that Rust inlines.
 pub fn is_called(world: &World, key: &Instance) -> bool {
     let name = format!("{}::{}", world.module(key.id).crate_name, world.name(key.id));
+    has(CALLED, &name) || is_for_others(key) && has(CALLED_BY_OTHERS, &name)
+}
+
+fn is_for_others(key: &Instance) -> bool {
     let is_common = |of: &Type| of.integer().is_some_and(|it| has(COMMON, it.0));
-    let is_for_others = key.bindings.get("T").is_some_and(|of| !is_common(of));
-    has(CALLED, &name) || is_for_others && has(CALLED_BY_OTHERS, &name)
+    key.bindings.get("T").is_some_and(|of| !is_common(of))
 }
 
 /// What is written by hand of the library: the start of its functions, the header and the source.
@@ -111,6 +116,13 @@ pub fn print(world: &World, roots: &str, types: &str, is_checked: bool) -> Done<
         false if constant.contains(&it.key) => "TK_CONSTEXPR",
         false => qualifier(world, it),
     };
+    let in_source = |it: &Function| match qualifier(it) {
+        "TK_INLINE" | "TK_HINTED" => {
+            let is_inlined = has(INLINED, &world.module(it.key.id).crate_name);
+            if is_inlined && !is_for_others(&it.key) { "TK_INLINE" } else { "TK_HINTED" }
+        }
+        other => other,
+    };
     let mut printer = Printer::new(world, &functions, is_checked)?;
     for far in functions.iter().filter(|it| qualifier(it) == "TK_FAR") {
         printer.declaration(far, "TK_FAR")?;
@@ -119,6 +131,6 @@ pub fn print(world: &World, roots: &str, types: &str, is_checked: bool) -> Done<
         functions.into_iter().partition(|it| inline.contains(&it.key) && !is_far(it));
     near.iter().try_for_each(|it| printer.function(it, qualifier(it)))?;
     let inline = printer.take();
-    rest.iter().try_for_each(|it| printer.function(it, qualifier(it)))?;
+    rest.iter().try_for_each(|it| printer.function(it, in_source(it)))?;
     Ok((inline, printer.take()))
 }
