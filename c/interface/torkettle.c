@@ -3,12 +3,6 @@
 #define TORKETTLE_SOURCE_
 #include "torkettle.h"
 
-/* gcc takes less time for this file if it chooses what to inline of these. */
-#if defined __GNUC__ && !defined __clang__
-#undef TK_HINTED
-#define TK_HINTED static inline __attribute__((__unused__))
-#endif
-
 /* ---- Made by .ci/translate from the proved sources, up to the next such line. */
 
 /* @proved */

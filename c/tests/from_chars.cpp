@@ -34,8 +34,7 @@ using LargeIntegers = Types<>;
 // Whether from_chars does what std::from_chars does, with a base, a format or nothing more.
 template <class T, class... More> bool is_same_call(std::string_view text, More... more)
 {
-    const char *const first = text.data();
-    const char *const last = first + text.size();
+    const char *const first = text.data(), *const last = first + text.size();
     T ours = 77, theirs = 77;
     const torkettle::from_chars_result left = torkettle::from_chars(first, last, ours, more...);
     const std::from_chars_result right = std::from_chars(first, last, theirs, more...);
@@ -94,15 +93,18 @@ void compare_short_texts()
     }
 }
 
-// Every number below a bound, with zeros in front of it or none, and with bytes behind it.
-void compare_all_numbers(int bound)
+// Every text of so many digits, with a minus or none before them, and after them in turn each byte that is no digit.
+template <class T> void compare_all_digits(std::size_t count, bool has_minus, T bound)
 {
-    for (int number = 0, value = -1; number < bound; number++) {
-        char text[40];
-        std::snprintf(text, sizeof text, "%0*d,77777777777777777", 1 + number % 9, number);
-        const std::string_view digits(text, std::string_view(text).find(','));
-        const char *const end = torkettle::from_chars(text, text + std::strlen(text), value).ptr;
-        require(end == digits.end() && value == number, "a number", text);
+    std::string text = std::string(has_minus, '-') + std::string(count, '0') + ",77777777777777777";
+    char *const start = text.data(), *const after = start + has_minus + count;
+    for (T number = 0; number < bound; number++) {
+        T found = 1;
+        *after = static_cast<char>(number % 246 + '9' + 1);
+        const bool is_whole = torkettle::from_chars(start, start + text.size(), found).ptr == after;
+        require(is_whole && found == (has_minus ? 0 - number : number), "a number", text);
+        for (char *digit = after; digit != start + has_minus && (*--digit)++ == '9';)
+            *digit = '0';
     }
 }
 
@@ -183,9 +185,8 @@ void read_ranges()
             "-5,6");
     require(torkettle::column<char>("5,6", ',').read(chars, 2) == 2 && chars[0] == 5 && chars[1] == 6, "read", "5,6");
     torkettle::fields<int> fields("0,1,x,3,4", ',');
-    const auto end = fields.end();
     auto at = fields.begin();
-    while (at != end && at->value)
+    while (at != fields.end() && at->value)
         at++;
     require(at->index == 2 && (*at++).index == 2 && at->index == 3, "an iterator after an error", "0,1,x,3,4");
 #if __cplusplus >= 202002L && (!defined(__clang__) || __clang_major__ > 15)
@@ -250,7 +251,11 @@ int main(int count, char **arguments)
     const unsigned long texts = count > 1 ? std::strtoul(arguments[1], nullptr, 10) : 2000000;
     Random random;
     compare_short_texts();
-    compare_all_numbers(texts > 1000000 ? 10000000 : 10000);
+    for (std::uint32_t digits = 1, bound = 10; digits <= (texts > 1000000 ? 8 : 4); digits++, bound *= 10) {
+        compare_all_digits<std::uint32_t>(digits, false, bound);
+        compare_all_digits<std::int64_t>(digits, false, bound);
+        compare_all_digits<std::int64_t>(digits, true, bound);
+    }
     compare_others();
     call_by_pointer();
     read_refused_separators();
@@ -259,8 +264,7 @@ int main(int count, char **arguments)
     compare_constants(Integers());
     compare_constants(LargeIntegers());
 #endif
-    // Few of these are numbers. The other texts are counted.
-    calls = accepted = out_of_range = 0;
+    calls = accepted = out_of_range = 0; // Few texts above are numbers: only the others are counted.
     for (unsigned long number = 0; number < texts; number++)
         compare_all(random_text(random) + (number % 2 == 0 ? "" : ",0123456789012345"));
     std::printf("%lu texts, %llu calls: %llu numbers, %llu out of range\n", texts, calls, accepted, out_of_range);
