@@ -1,6 +1,5 @@
 // Compares what c/README.md has in place of functions of libc and of std::stoi with these, for texts of few characters
-// and for random texts, many of them near the bounds: the number, the end (except of atoi and sscanf) and, of functions
-// like strtol, errno.
+// and random ones, many near the bounds: the number, the end (not of atoi and sscanf) and, of strtol and others, errno.
 #define main run_samples
 #include "samples.c"
 #undef main
