@@ -118,7 +118,7 @@ pub fn print(world: &World, roots: &str, types: &str, is_checked: bool) -> Done<
     };
     let in_source = |it: &Function| match qualifier(it) {
         "TK_INLINE" | "TK_HINTED" => {
-            let is_inlined = has(INLINED, &world.module(it.key.id).crate_name);
+            let is_inlined = has(INLINED, world.module(it.key.id).crate_name);
             if is_inlined && !is_for_others(&it.key) { "TK_INLINE" } else { "TK_HINTED" }
         }
         other => other,
