@@ -42,11 +42,11 @@ const HEAD: &str =
 
 /// What C calls where Rust inlines it: long functions that few numbers need. Each type would have a copy.
 const CALLED: &str = "atoi_core::narrow_prefix atoi_core::whole_64 atoi_core::whole_128 atoi_fast::loaded_slice \
-    atoi_fast::prefix_64 atoi_fast::prefix_128 atoi_fast::prefix_of_three_words atoi_fast::window \
+    atoi_fast::prefix_64 atoi_fast::prefix_128 atoi_fast::prefix_of_two_words atoi_fast::window \
     atoi_simd::atoi_simd_parse_prefix";
 
-/// The types that most numbers have, what C calls only for the others, and whose functions every compiler has to inline
-/// in `torkettle.c` only for these types. Most compilers take less time if they may choose.
+/// The types that most numbers have, what C calls only for the others, and the crates whose functions gcc has to inline
+/// in `torkettle.c`, but only for these types. It takes less time if it may choose for others.
 const COMMON: &str = "i32 u32 i64 u64";
 const CALLED_BY_OTHERS: &str = "atoi_column::read_part atoi_fast::prefix_pos";
 const INLINED: &str = "atoi_column atoi_fast";
