@@ -6,8 +6,7 @@ use std::path::{Path, PathBuf};
 use torkettle_translate::modules::CRATES;
 use torkettle_translate::{c, compare, made, write};
 
-// A file of each crate, and the module `text`.
-const MADE: usize = CRATES.len() + 1;
+const MADE: usize = CRATES.len() + 1; // and the module `text`
 
 /// A folder with the sources of a package.
 struct Package(PathBuf);
@@ -124,7 +123,6 @@ fn the_library_has_an_inline_part_and_the_rest() {
         ("TK_INLINE tk_option_pair_i64_size tk_quick_prefix_i64(", (1, 0)),
         ("TK_INLINE tk_pair_size_size tk_fields_position(", (0, 1)),
         ("TK_INLINE tk_option_pair_u8_bytes tk_accepted_field_u8(", (0, 0)),
-        ("TK_INLINE tk_option_pair_u32_bytes tk_accepted_field_u32(", (0, 1)),
         ("TK_NOINLINE tk_result_u64 tk_whole_64(", (0, 1)),
         ("TK_FAR tk_option_pair_i64_size tk_prefix_of_three_words_i64(", (1, 1)),
         ("TK_SYMBOL(tk_prefix_of_three_words_i64);", (1, 0)),
