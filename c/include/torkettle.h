@@ -640,156 +640,6 @@ TK_CONSTEXPR tk_option_pair_u64_size tk_none_pair_u64_size(void)
     return TK_MAKE(tk_option_pair_u64_size, false, tk_new_pair_u64_size(0, 0));
 }
 
-typedef struct tk_option_i8 {
-    bool is_some;
-    int8_t value;
-} tk_option_i8;
-
-TK_CONSTEXPR tk_option_i8 tk_some_i8(int8_t value)
-{
-    return TK_MAKE(tk_option_i8, true, value);
-}
-
-TK_CONSTEXPR tk_option_i8 tk_none_i8(void)
-{
-    return TK_MAKE(tk_option_i8, false, 0);
-}
-
-typedef struct tk_option_u8 {
-    bool is_some;
-    uint8_t value;
-} tk_option_u8;
-
-TK_CONSTEXPR tk_option_u8 tk_some_u8(uint8_t value)
-{
-    return TK_MAKE(tk_option_u8, true, value);
-}
-
-TK_CONSTEXPR tk_option_u8 tk_none_u8(void)
-{
-    return TK_MAKE(tk_option_u8, false, 0);
-}
-
-typedef struct tk_option_i16 {
-    bool is_some;
-    int16_t value;
-} tk_option_i16;
-
-TK_CONSTEXPR tk_option_i16 tk_some_i16(int16_t value)
-{
-    return TK_MAKE(tk_option_i16, true, value);
-}
-
-TK_CONSTEXPR tk_option_i16 tk_none_i16(void)
-{
-    return TK_MAKE(tk_option_i16, false, 0);
-}
-
-typedef struct tk_option_u16 {
-    bool is_some;
-    uint16_t value;
-} tk_option_u16;
-
-TK_CONSTEXPR tk_option_u16 tk_some_u16(uint16_t value)
-{
-    return TK_MAKE(tk_option_u16, true, value);
-}
-
-TK_CONSTEXPR tk_option_u16 tk_none_u16(void)
-{
-    return TK_MAKE(tk_option_u16, false, 0);
-}
-
-typedef struct tk_option_i32 {
-    bool is_some;
-    int32_t value;
-} tk_option_i32;
-
-TK_CONSTEXPR tk_option_i32 tk_some_i32(int32_t value)
-{
-    return TK_MAKE(tk_option_i32, true, value);
-}
-
-TK_CONSTEXPR tk_option_i32 tk_none_i32(void)
-{
-    return TK_MAKE(tk_option_i32, false, 0);
-}
-
-typedef struct tk_option_u32 {
-    bool is_some;
-    uint32_t value;
-} tk_option_u32;
-
-TK_CONSTEXPR tk_option_u32 tk_some_u32(uint32_t value)
-{
-    return TK_MAKE(tk_option_u32, true, value);
-}
-
-TK_CONSTEXPR tk_option_u32 tk_none_u32(void)
-{
-    return TK_MAKE(tk_option_u32, false, 0);
-}
-
-typedef struct tk_option_i64 {
-    bool is_some;
-    int64_t value;
-} tk_option_i64;
-
-TK_CONSTEXPR tk_option_i64 tk_some_i64(int64_t value)
-{
-    return TK_MAKE(tk_option_i64, true, value);
-}
-
-TK_CONSTEXPR tk_option_i64 tk_none_i64(void)
-{
-    return TK_MAKE(tk_option_i64, false, 0);
-}
-
-typedef struct tk_option_u64 {
-    bool is_some;
-    uint64_t value;
-} tk_option_u64;
-
-TK_CONSTEXPR tk_option_u64 tk_some_u64(uint64_t value)
-{
-    return TK_MAKE(tk_option_u64, true, value);
-}
-
-TK_CONSTEXPR tk_option_u64 tk_none_u64(void)
-{
-    return TK_MAKE(tk_option_u64, false, 0);
-}
-
-typedef struct tk_option_i128 {
-    bool is_some;
-    tk_i128 value;
-} tk_option_i128;
-
-TK_CONSTEXPR tk_option_i128 tk_some_i128(tk_i128 value)
-{
-    return TK_MAKE(tk_option_i128, true, value);
-}
-
-TK_CONSTEXPR tk_option_i128 tk_none_i128(void)
-{
-    return TK_MAKE(tk_option_i128, false, tk_i128_of(0));
-}
-
-typedef struct tk_option_u128 {
-    bool is_some;
-    tk_u128 value;
-} tk_option_u128;
-
-TK_CONSTEXPR tk_option_u128 tk_some_u128(tk_u128 value)
-{
-    return TK_MAKE(tk_option_u128, true, value);
-}
-
-TK_CONSTEXPR tk_option_u128 tk_none_u128(void)
-{
-    return TK_MAKE(tk_option_u128, false, tk_u128_of(0));
-}
-
 typedef struct tk_pair_i8_size {
     int8_t first;
     size_t second;
@@ -990,6 +840,156 @@ TK_CONSTEXPR tk_option_pair_u128_size tk_none_pair_u128_size(void)
     return TK_MAKE(tk_option_pair_u128_size, false, tk_new_pair_u128_size(tk_u128_of(0), 0));
 }
 
+typedef struct tk_option_i8 {
+    bool is_some;
+    int8_t value;
+} tk_option_i8;
+
+TK_CONSTEXPR tk_option_i8 tk_some_i8(int8_t value)
+{
+    return TK_MAKE(tk_option_i8, true, value);
+}
+
+TK_CONSTEXPR tk_option_i8 tk_none_i8(void)
+{
+    return TK_MAKE(tk_option_i8, false, 0);
+}
+
+typedef struct tk_option_u8 {
+    bool is_some;
+    uint8_t value;
+} tk_option_u8;
+
+TK_CONSTEXPR tk_option_u8 tk_some_u8(uint8_t value)
+{
+    return TK_MAKE(tk_option_u8, true, value);
+}
+
+TK_CONSTEXPR tk_option_u8 tk_none_u8(void)
+{
+    return TK_MAKE(tk_option_u8, false, 0);
+}
+
+typedef struct tk_option_i16 {
+    bool is_some;
+    int16_t value;
+} tk_option_i16;
+
+TK_CONSTEXPR tk_option_i16 tk_some_i16(int16_t value)
+{
+    return TK_MAKE(tk_option_i16, true, value);
+}
+
+TK_CONSTEXPR tk_option_i16 tk_none_i16(void)
+{
+    return TK_MAKE(tk_option_i16, false, 0);
+}
+
+typedef struct tk_option_u16 {
+    bool is_some;
+    uint16_t value;
+} tk_option_u16;
+
+TK_CONSTEXPR tk_option_u16 tk_some_u16(uint16_t value)
+{
+    return TK_MAKE(tk_option_u16, true, value);
+}
+
+TK_CONSTEXPR tk_option_u16 tk_none_u16(void)
+{
+    return TK_MAKE(tk_option_u16, false, 0);
+}
+
+typedef struct tk_option_i32 {
+    bool is_some;
+    int32_t value;
+} tk_option_i32;
+
+TK_CONSTEXPR tk_option_i32 tk_some_i32(int32_t value)
+{
+    return TK_MAKE(tk_option_i32, true, value);
+}
+
+TK_CONSTEXPR tk_option_i32 tk_none_i32(void)
+{
+    return TK_MAKE(tk_option_i32, false, 0);
+}
+
+typedef struct tk_option_u32 {
+    bool is_some;
+    uint32_t value;
+} tk_option_u32;
+
+TK_CONSTEXPR tk_option_u32 tk_some_u32(uint32_t value)
+{
+    return TK_MAKE(tk_option_u32, true, value);
+}
+
+TK_CONSTEXPR tk_option_u32 tk_none_u32(void)
+{
+    return TK_MAKE(tk_option_u32, false, 0);
+}
+
+typedef struct tk_option_i64 {
+    bool is_some;
+    int64_t value;
+} tk_option_i64;
+
+TK_CONSTEXPR tk_option_i64 tk_some_i64(int64_t value)
+{
+    return TK_MAKE(tk_option_i64, true, value);
+}
+
+TK_CONSTEXPR tk_option_i64 tk_none_i64(void)
+{
+    return TK_MAKE(tk_option_i64, false, 0);
+}
+
+typedef struct tk_option_u64 {
+    bool is_some;
+    uint64_t value;
+} tk_option_u64;
+
+TK_CONSTEXPR tk_option_u64 tk_some_u64(uint64_t value)
+{
+    return TK_MAKE(tk_option_u64, true, value);
+}
+
+TK_CONSTEXPR tk_option_u64 tk_none_u64(void)
+{
+    return TK_MAKE(tk_option_u64, false, 0);
+}
+
+typedef struct tk_option_i128 {
+    bool is_some;
+    tk_i128 value;
+} tk_option_i128;
+
+TK_CONSTEXPR tk_option_i128 tk_some_i128(tk_i128 value)
+{
+    return TK_MAKE(tk_option_i128, true, value);
+}
+
+TK_CONSTEXPR tk_option_i128 tk_none_i128(void)
+{
+    return TK_MAKE(tk_option_i128, false, tk_i128_of(0));
+}
+
+typedef struct tk_option_u128 {
+    bool is_some;
+    tk_u128 value;
+} tk_option_u128;
+
+TK_CONSTEXPR tk_option_u128 tk_some_u128(tk_u128 value)
+{
+    return TK_MAKE(tk_option_u128, true, value);
+}
+
+TK_CONSTEXPR tk_option_u128 tk_none_u128(void)
+{
+    return TK_MAKE(tk_option_u128, false, tk_u128_of(0));
+}
+
 typedef struct tk_pair_bool_bytes {
     bool first;
     tk_bytes second;
@@ -999,29 +999,6 @@ TK_CONSTEXPR tk_pair_bool_bytes tk_new_pair_bool_bytes(bool first, tk_bytes seco
 {
     return TK_MAKE(tk_pair_bool_bytes, first, second);
 }
-
-#define TK_ZEROS UINT64_C(0x3030303030303030)
-
-/* Indexed by the exponent. */
-static const uint64_t tk_powers[17] = {
-    1,
-    10,
-    100,
-    1000,
-    10000,
-    100000,
-    1000000,
-    10000000,
-    100000000,
-    1000000000,
-    UINT64_C(10000000000),
-    UINT64_C(100000000000),
-    UINT64_C(1000000000000),
-    UINT64_C(10000000000000),
-    UINT64_C(100000000000000),
-    UINT64_C(1000000000000000),
-    UINT64_C(10000000000000000),
-};
 
 /* Indexed by how many digits there are: `sum_of`'s first factor, shifted by eight bytes less the digits. */
 static const uint64_t tk_factors[8] = {
@@ -1035,15 +1012,39 @@ static const uint64_t tk_factors[8] = {
     UINT64_C(2561) << 8,
 };
 
-#define TK_MOST_IN_TWO_WORDS UINT64_C(1000000000000000000)
+#define TK_ZEROS UINT64_C(0x3030303030303030)
 
 #define TK_MOST_IN_WORD 1000000000
 
-TK_FAR tk_option_pair_i64_size tk_prefix_of_three_words_i64(bool minus, uint64_t high, uint64_t second,
-                                                            tk_bytes s) TK_SYMBOL(tk_prefix_of_three_words_i64);
+TK_FAR tk_option_pair_i64_size tk_prefix_of_two_words_i64(bool minus, uint64_t high,
+                                                          tk_bytes s) TK_SYMBOL(tk_prefix_of_two_words_i64);
 
-TK_FAR tk_option_pair_u64_size tk_prefix_of_three_words_u64(bool minus, uint64_t high, uint64_t second,
-                                                            tk_bytes s) TK_SYMBOL(tk_prefix_of_three_words_u64);
+TK_FAR tk_option_pair_u64_size tk_prefix_of_two_words_u64(bool minus, uint64_t high,
+                                                          tk_bytes s) TK_SYMBOL(tk_prefix_of_two_words_u64);
+
+TK_FAR tk_option_pair_i8_size tk_prefix_of_two_words_i8(bool minus, uint64_t high,
+                                                        tk_bytes s) TK_SYMBOL(tk_prefix_of_two_words_i8);
+
+TK_FAR tk_option_pair_u8_size tk_prefix_of_two_words_u8(bool minus, uint64_t high,
+                                                        tk_bytes s) TK_SYMBOL(tk_prefix_of_two_words_u8);
+
+TK_FAR tk_option_pair_i16_size tk_prefix_of_two_words_i16(bool minus, uint64_t high,
+                                                          tk_bytes s) TK_SYMBOL(tk_prefix_of_two_words_i16);
+
+TK_FAR tk_option_pair_u16_size tk_prefix_of_two_words_u16(bool minus, uint64_t high,
+                                                          tk_bytes s) TK_SYMBOL(tk_prefix_of_two_words_u16);
+
+TK_FAR tk_option_pair_i32_size tk_prefix_of_two_words_i32(bool minus, uint64_t high,
+                                                          tk_bytes s) TK_SYMBOL(tk_prefix_of_two_words_i32);
+
+TK_FAR tk_option_pair_u32_size tk_prefix_of_two_words_u32(bool minus, uint64_t high,
+                                                          tk_bytes s) TK_SYMBOL(tk_prefix_of_two_words_u32);
+
+TK_FAR tk_option_pair_i128_size tk_prefix_of_two_words_i128(bool minus, uint64_t high,
+                                                            tk_bytes s) TK_SYMBOL(tk_prefix_of_two_words_i128);
+
+TK_FAR tk_option_pair_u128_size tk_prefix_of_two_words_u128(bool minus, uint64_t high,
+                                                            tk_bytes s) TK_SYMBOL(tk_prefix_of_two_words_u128);
 
 /* atoi_core/src/number.rt:87 */
 TK_CONSTEXPR tk_i128 tk_with_sign_64(bool minus, uint64_t magnitude)
@@ -1277,26 +1278,6 @@ TK_HINTED uint64_t tk_load_full(tk_bytes s)
     return 0;
 }
 
-/* Returns how many digits the word begins with. */
-/* atoi_fast/src/digits.rt:19 */
-TK_HINTED uint32_t tk_leading_digits(uint64_t word)
-{
-    uint64_t above = tk_u64_wrapping_add(word, UINT64_C(0x4646464646464646));
-    uint64_t below = tk_u64_wrapping_sub(word, TK_ZEROS);
-    uint64_t marks = (above | below) & UINT64_C(0x8080808080808080);
-    if (marks == 0) {
-        return 8;
-    }
-    return tk_u64_trailing_zeros(marks) / 8;
-}
-
-/* Returns ten to the power of `digits`, which is at most 16. */
-/* atoi_core/src/powers.rt:26 */
-TK_HINTED uint64_t tk_power_of_ten(uint32_t digits)
-{
-    return tk_powers[tk_index(TK_CAST(size_t, digits), 17)];
-}
-
 /* atoi_fast/src/in_range.rt:20 */
 TK_INLINE tk_option_u8 tk_number_in_range_u8(uint64_t most, bool minus, uint64_t magnitude)
 {
@@ -1401,30 +1382,6 @@ TK_HINTED uint64_t tk_value_by_product(uint64_t digits, uint32_t len)
     return tk_sum_of_product(tk_u64_wrapping_mul(digits, tk_factors[tk_index(TK_CAST(size_t, len), 8)]));
 }
 
-/* The number of 8 to 15 bytes, of which the first eight spell `high`, with a zero for a minus. */
-/* atoi_fast/src/short_prefix.rt:86 */
-TK_INLINE tk_option_pair_i64_size tk_prefix_of_two_words_i64(bool minus, uint64_t high, tk_bytes s)
-{
-    uint64_t next = tk_load_full(tk_bytes_from(s, 8));
-    uint32_t more = tk_leading_digits(next);
-    if (more == 8) {
-        tk_option_pair_i64_size found = tk_prefix_of_three_words_i64(minus, high, next, s);
-        if (!found.is_some) {
-            return tk_none_pair_i64_size();
-        }
-        tk_pair_i64_size found_2 = found.value;
-        return tk_some_pair_i64_size(found_2);
-    }
-    uint64_t low = tk_value_by_product(tk_u64_wrapping_sub(next, TK_ZEROS), more);
-    uint64_t magnitude = high * tk_power_of_ten(more) + low;
-    tk_option_i64 found = tk_number_in_range_i64(TK_MOST_IN_TWO_WORDS, minus, magnitude);
-    if (!found.is_some) {
-        return tk_none_pair_i64_size();
-    }
-    int64_t number = found.value;
-    return tk_some_pair_i64_size(tk_new_pair_i64_size(number, 8 + TK_CAST(size_t, more)));
-}
-
 /*
  * Returns the number at the start of `s` and its length, if that is below 16 or, for `i64` and `u64`, at most 19
  * digits. Others may be `None`, too.
@@ -1461,29 +1418,6 @@ TK_INLINE tk_option_pair_i64_size tk_prefix_of_words_i64(tk_bytes s)
     }
     int64_t number = found.value;
     return tk_some_pair_i64_size(tk_new_pair_i64_size(number, TK_CAST(size_t, len)));
-}
-
-/* atoi_fast/src/short_prefix.rt:86 */
-TK_INLINE tk_option_pair_u64_size tk_prefix_of_two_words_u64(bool minus, uint64_t high, tk_bytes s)
-{
-    uint64_t next = tk_load_full(tk_bytes_from(s, 8));
-    uint32_t more = tk_leading_digits(next);
-    if (more == 8) {
-        tk_option_pair_u64_size found = tk_prefix_of_three_words_u64(minus, high, next, s);
-        if (!found.is_some) {
-            return tk_none_pair_u64_size();
-        }
-        tk_pair_u64_size found_2 = found.value;
-        return tk_some_pair_u64_size(found_2);
-    }
-    uint64_t low = tk_value_by_product(tk_u64_wrapping_sub(next, TK_ZEROS), more);
-    uint64_t magnitude = high * tk_power_of_ten(more) + low;
-    tk_option_u64 found = tk_number_in_range_u64(TK_MOST_IN_TWO_WORDS, minus, magnitude);
-    if (!found.is_some) {
-        return tk_none_pair_u64_size();
-    }
-    uint64_t number = found.value;
-    return tk_some_pair_u64_size(tk_new_pair_u64_size(number, 8 + TK_CAST(size_t, more)));
 }
 
 /* atoi_fast/src/short_prefix.rt:46 */
@@ -1578,24 +1512,6 @@ TK_INLINE tk_option_pair_u64_size tk_few_digits(tk_bytes s, uint8_t separator)
     return tk_none_pair_u64_size();
 }
 
-/* atoi_fast/src/short_prefix.rt:86 */
-TK_INLINE tk_option_pair_i8_size tk_prefix_of_two_words_i8(bool minus, uint64_t high, tk_bytes s)
-{
-    uint64_t next = tk_load_full(tk_bytes_from(s, 8));
-    uint32_t more = tk_leading_digits(next);
-    if (more == 8) {
-        return tk_none_pair_i8_size();
-    }
-    uint64_t low = tk_value_by_product(tk_u64_wrapping_sub(next, TK_ZEROS), more);
-    uint64_t magnitude = high * tk_power_of_ten(more) + low;
-    tk_option_i8 found = tk_number_in_range_i8(TK_MOST_IN_TWO_WORDS, minus, magnitude);
-    if (!found.is_some) {
-        return tk_none_pair_i8_size();
-    }
-    int8_t number = found.value;
-    return tk_some_pair_i8_size(tk_new_pair_i8_size(number, 8 + TK_CAST(size_t, more)));
-}
-
 /* atoi_fast/src/short_prefix.rt:46 */
 TK_INLINE tk_option_pair_i8_size tk_prefix_of_words_i8(tk_bytes s)
 {
@@ -1658,24 +1574,6 @@ TK_INLINE tk_option_pair_i8_size tk_quick_field_i8(tk_bytes s, uint8_t separator
         return tk_some_pair_i8_size(tk_new_pair_i8_size(number, len));
     }
     return tk_none_pair_i8_size();
-}
-
-/* atoi_fast/src/short_prefix.rt:86 */
-TK_INLINE tk_option_pair_u8_size tk_prefix_of_two_words_u8(bool minus, uint64_t high, tk_bytes s)
-{
-    uint64_t next = tk_load_full(tk_bytes_from(s, 8));
-    uint32_t more = tk_leading_digits(next);
-    if (more == 8) {
-        return tk_none_pair_u8_size();
-    }
-    uint64_t low = tk_value_by_product(tk_u64_wrapping_sub(next, TK_ZEROS), more);
-    uint64_t magnitude = high * tk_power_of_ten(more) + low;
-    tk_option_u8 found = tk_number_in_range_u8(TK_MOST_IN_TWO_WORDS, minus, magnitude);
-    if (!found.is_some) {
-        return tk_none_pair_u8_size();
-    }
-    uint8_t number = found.value;
-    return tk_some_pair_u8_size(tk_new_pair_u8_size(number, 8 + TK_CAST(size_t, more)));
 }
 
 /* atoi_fast/src/short_prefix.rt:46 */
@@ -1741,24 +1639,6 @@ TK_INLINE tk_option_pair_u8_size tk_quick_field_u8(tk_bytes s, uint8_t separator
     return tk_none_pair_u8_size();
 }
 
-/* atoi_fast/src/short_prefix.rt:86 */
-TK_INLINE tk_option_pair_i16_size tk_prefix_of_two_words_i16(bool minus, uint64_t high, tk_bytes s)
-{
-    uint64_t next = tk_load_full(tk_bytes_from(s, 8));
-    uint32_t more = tk_leading_digits(next);
-    if (more == 8) {
-        return tk_none_pair_i16_size();
-    }
-    uint64_t low = tk_value_by_product(tk_u64_wrapping_sub(next, TK_ZEROS), more);
-    uint64_t magnitude = high * tk_power_of_ten(more) + low;
-    tk_option_i16 found = tk_number_in_range_i16(TK_MOST_IN_TWO_WORDS, minus, magnitude);
-    if (!found.is_some) {
-        return tk_none_pair_i16_size();
-    }
-    int16_t number = found.value;
-    return tk_some_pair_i16_size(tk_new_pair_i16_size(number, 8 + TK_CAST(size_t, more)));
-}
-
 /* atoi_fast/src/short_prefix.rt:46 */
 TK_INLINE tk_option_pair_i16_size tk_prefix_of_words_i16(tk_bytes s)
 {
@@ -1820,24 +1700,6 @@ TK_INLINE tk_option_pair_i16_size tk_quick_field_i16(tk_bytes s, uint8_t separat
         return tk_some_pair_i16_size(tk_new_pair_i16_size(number, len));
     }
     return tk_none_pair_i16_size();
-}
-
-/* atoi_fast/src/short_prefix.rt:86 */
-TK_INLINE tk_option_pair_u16_size tk_prefix_of_two_words_u16(bool minus, uint64_t high, tk_bytes s)
-{
-    uint64_t next = tk_load_full(tk_bytes_from(s, 8));
-    uint32_t more = tk_leading_digits(next);
-    if (more == 8) {
-        return tk_none_pair_u16_size();
-    }
-    uint64_t low = tk_value_by_product(tk_u64_wrapping_sub(next, TK_ZEROS), more);
-    uint64_t magnitude = high * tk_power_of_ten(more) + low;
-    tk_option_u16 found = tk_number_in_range_u16(TK_MOST_IN_TWO_WORDS, minus, magnitude);
-    if (!found.is_some) {
-        return tk_none_pair_u16_size();
-    }
-    uint16_t number = found.value;
-    return tk_some_pair_u16_size(tk_new_pair_u16_size(number, 8 + TK_CAST(size_t, more)));
 }
 
 /* atoi_fast/src/short_prefix.rt:46 */
@@ -1903,24 +1765,6 @@ TK_INLINE tk_option_pair_u16_size tk_quick_field_u16(tk_bytes s, uint8_t separat
     return tk_none_pair_u16_size();
 }
 
-/* atoi_fast/src/short_prefix.rt:86 */
-TK_INLINE tk_option_pair_i32_size tk_prefix_of_two_words_i32(bool minus, uint64_t high, tk_bytes s)
-{
-    uint64_t next = tk_load_full(tk_bytes_from(s, 8));
-    uint32_t more = tk_leading_digits(next);
-    if (more == 8) {
-        return tk_none_pair_i32_size();
-    }
-    uint64_t low = tk_value_by_product(tk_u64_wrapping_sub(next, TK_ZEROS), more);
-    uint64_t magnitude = high * tk_power_of_ten(more) + low;
-    tk_option_i32 found = tk_number_in_range_i32(TK_MOST_IN_TWO_WORDS, minus, magnitude);
-    if (!found.is_some) {
-        return tk_none_pair_i32_size();
-    }
-    int32_t number = found.value;
-    return tk_some_pair_i32_size(tk_new_pair_i32_size(number, 8 + TK_CAST(size_t, more)));
-}
-
 /* atoi_fast/src/short_prefix.rt:46 */
 TK_INLINE tk_option_pair_i32_size tk_prefix_of_words_i32(tk_bytes s)
 {
@@ -1982,24 +1826,6 @@ TK_INLINE tk_option_pair_i32_size tk_quick_field_i32(tk_bytes s, uint8_t separat
         return tk_some_pair_i32_size(tk_new_pair_i32_size(number, len));
     }
     return tk_none_pair_i32_size();
-}
-
-/* atoi_fast/src/short_prefix.rt:86 */
-TK_INLINE tk_option_pair_u32_size tk_prefix_of_two_words_u32(bool minus, uint64_t high, tk_bytes s)
-{
-    uint64_t next = tk_load_full(tk_bytes_from(s, 8));
-    uint32_t more = tk_leading_digits(next);
-    if (more == 8) {
-        return tk_none_pair_u32_size();
-    }
-    uint64_t low = tk_value_by_product(tk_u64_wrapping_sub(next, TK_ZEROS), more);
-    uint64_t magnitude = high * tk_power_of_ten(more) + low;
-    tk_option_u32 found = tk_number_in_range_u32(TK_MOST_IN_TWO_WORDS, minus, magnitude);
-    if (!found.is_some) {
-        return tk_none_pair_u32_size();
-    }
-    uint32_t number = found.value;
-    return tk_some_pair_u32_size(tk_new_pair_u32_size(number, 8 + TK_CAST(size_t, more)));
 }
 
 /* atoi_fast/src/short_prefix.rt:46 */
@@ -2123,24 +1949,6 @@ TK_INLINE tk_option_pair_u64_size tk_quick_field_u64(tk_bytes s, uint8_t separat
     return tk_none_pair_u64_size();
 }
 
-/* atoi_fast/src/short_prefix.rt:86 */
-TK_INLINE tk_option_pair_i128_size tk_prefix_of_two_words_i128(bool minus, uint64_t high, tk_bytes s)
-{
-    uint64_t next = tk_load_full(tk_bytes_from(s, 8));
-    uint32_t more = tk_leading_digits(next);
-    if (more == 8) {
-        return tk_none_pair_i128_size();
-    }
-    uint64_t low = tk_value_by_product(tk_u64_wrapping_sub(next, TK_ZEROS), more);
-    uint64_t magnitude = high * tk_power_of_ten(more) + low;
-    tk_option_i128 found = tk_number_in_range_i128(TK_MOST_IN_TWO_WORDS, minus, magnitude);
-    if (!found.is_some) {
-        return tk_none_pair_i128_size();
-    }
-    tk_i128 number = found.value;
-    return tk_some_pair_i128_size(tk_new_pair_i128_size(number, 8 + TK_CAST(size_t, more)));
-}
-
 /* atoi_fast/src/short_prefix.rt:46 */
 TK_INLINE tk_option_pair_i128_size tk_prefix_of_words_i128(tk_bytes s)
 {
@@ -2202,24 +2010,6 @@ TK_INLINE tk_option_pair_i128_size tk_quick_field_i128(tk_bytes s, uint8_t separ
         return tk_some_pair_i128_size(tk_new_pair_i128_size(number, len));
     }
     return tk_none_pair_i128_size();
-}
-
-/* atoi_fast/src/short_prefix.rt:86 */
-TK_INLINE tk_option_pair_u128_size tk_prefix_of_two_words_u128(bool minus, uint64_t high, tk_bytes s)
-{
-    uint64_t next = tk_load_full(tk_bytes_from(s, 8));
-    uint32_t more = tk_leading_digits(next);
-    if (more == 8) {
-        return tk_none_pair_u128_size();
-    }
-    uint64_t low = tk_value_by_product(tk_u64_wrapping_sub(next, TK_ZEROS), more);
-    uint64_t magnitude = high * tk_power_of_ten(more) + low;
-    tk_option_u128 found = tk_number_in_range_u128(TK_MOST_IN_TWO_WORDS, minus, magnitude);
-    if (!found.is_some) {
-        return tk_none_pair_u128_size();
-    }
-    tk_u128 number = found.value;
-    return tk_some_pair_u128_size(tk_new_pair_u128_size(number, 8 + TK_CAST(size_t, more)));
 }
 
 /* atoi_fast/src/short_prefix.rt:46 */
@@ -3660,7 +3450,6 @@ const char *torkettle_version(void) TORKETTLE_SYMBOL_(version);
 #undef TK_HINTED
 #undef TK_INLINE
 #undef TK_MAKE
-#undef TK_MOST_IN_TWO_WORDS
 #undef TK_MOST_IN_WORD
 #undef TK_NOINLINE
 #undef TK_NUMBER

@@ -1414,6 +1414,29 @@ static const uint8_t tk_short[9][8] = {
 
 #define TK_FOUR_ZEROS 0x30303030
 
+/* Indexed by the exponent. */
+static const uint64_t tk_powers[17] = {
+    1,
+    10,
+    100,
+    1000,
+    10000,
+    100000,
+    1000000,
+    10000000,
+    100000000,
+    1000000000,
+    UINT64_C(10000000000),
+    UINT64_C(100000000000),
+    UINT64_C(1000000000000),
+    UINT64_C(10000000000000),
+    UINT64_C(100000000000000),
+    UINT64_C(1000000000000000),
+    UINT64_C(10000000000000000),
+};
+
+#define TK_MOST_IN_TWO_WORDS UINT64_C(1000000000000000000)
+
 #define TK_MOST_IN_THREE_WORDS UINT64_C(9999999999999999999)
 
 #define TK_SHOWN_BYTES 48
@@ -1521,11 +1544,31 @@ TK_INLINE uint64_t tk_load_last(tk_bytes s)
     return 0;
 }
 
+/* Returns how many digits the word begins with. */
+/* atoi_fast/src/digits.rt:19 */
+TK_INLINE uint32_t tk_leading_digits(uint64_t word)
+{
+    uint64_t above = tk_u64_wrapping_add(word, UINT64_C(0x4646464646464646));
+    uint64_t below = tk_u64_wrapping_sub(word, TK_ZEROS);
+    uint64_t marks = (above | below) & UINT64_C(0x8080808080808080);
+    if (marks == 0) {
+        return 8;
+    }
+    return tk_u64_trailing_zeros(marks) / 8;
+}
+
 /* The number that the first `len` bytes of the word spell. They are digits, at least one. */
 /* atoi_fast/src/digits.rt:81 */
 TK_INLINE uint64_t tk_value_of(uint64_t word, uint32_t len)
 {
     return tk_sum_of(tk_u64_wrapping_sub(word, TK_ZEROS) << (64 - 8 * len));
+}
+
+/* Returns ten to the power of `digits`, which is at most 16. */
+/* atoi_core/src/powers.rt:26 */
+TK_HINTED uint64_t tk_power_of_ten(uint32_t digits)
+{
+    return tk_powers[tk_index(TK_CAST(size_t, digits), 17)];
 }
 
 /*
@@ -1998,7 +2041,7 @@ TK_INLINE uint64_t tk_four_by_product(uint64_t digits, uint32_t len)
  * eight are `second`.
  */
 /* atoi_fast/src/short_prefix.rt:113 */
-TK_FAR tk_option_pair_i64_size tk_prefix_of_three_words_i64(bool minus, uint64_t high, uint64_t second, tk_bytes s)
+TK_INLINE tk_option_pair_i64_size tk_prefix_of_three_words_i64(bool minus, uint64_t high, uint64_t second, tk_bytes s)
 {
     uint64_t high_2 = high * tk_power_of_ten(8) + tk_sum_of(tk_u64_wrapping_sub(second, TK_ZEROS));
     uint64_t third = tk_load_from(s, 16);
@@ -2015,6 +2058,30 @@ TK_FAR tk_option_pair_i64_size tk_prefix_of_three_words_i64(bool minus, uint64_t
     }
     int64_t number = found.value;
     return tk_some_pair_i64_size(tk_new_pair_i64_size(number, 16 + TK_CAST(size_t, more)));
+}
+
+/* The number of 8 to 15 bytes, of which the first eight spell `high`, with a zero for a minus. */
+/* atoi_fast/src/short_prefix.rt:86 */
+TK_FAR tk_option_pair_i64_size tk_prefix_of_two_words_i64(bool minus, uint64_t high, tk_bytes s)
+{
+    uint64_t next = tk_load_full(tk_bytes_from(s, 8));
+    uint32_t more = tk_leading_digits(next);
+    if (more == 8) {
+        tk_option_pair_i64_size found = tk_prefix_of_three_words_i64(minus, high, next, s);
+        if (!found.is_some) {
+            return tk_none_pair_i64_size();
+        }
+        tk_pair_i64_size found_2 = found.value;
+        return tk_some_pair_i64_size(found_2);
+    }
+    uint64_t low = tk_value_by_product(tk_u64_wrapping_sub(next, TK_ZEROS), more);
+    uint64_t magnitude = high * tk_power_of_ten(more) + low;
+    tk_option_i64 found = tk_number_in_range_i64(TK_MOST_IN_TWO_WORDS, minus, magnitude);
+    if (!found.is_some) {
+        return tk_none_pair_i64_size();
+    }
+    int64_t number = found.value;
+    return tk_some_pair_i64_size(tk_new_pair_i64_size(number, 8 + TK_CAST(size_t, more)));
 }
 
 /* atoi_fast/src/quick.rt:40 */
@@ -2036,7 +2103,7 @@ TK_INLINE tk_option_i64 tk_long_slice_i64(tk_bytes s)
 }
 
 /* atoi_fast/src/short_prefix.rt:113 */
-TK_FAR tk_option_pair_u64_size tk_prefix_of_three_words_u64(bool minus, uint64_t high, uint64_t second, tk_bytes s)
+TK_INLINE tk_option_pair_u64_size tk_prefix_of_three_words_u64(bool minus, uint64_t high, uint64_t second, tk_bytes s)
 {
     uint64_t high_2 = high * tk_power_of_ten(8) + tk_sum_of(tk_u64_wrapping_sub(second, TK_ZEROS));
     uint64_t third = tk_load_from(s, 16);
@@ -2053,6 +2120,29 @@ TK_FAR tk_option_pair_u64_size tk_prefix_of_three_words_u64(bool minus, uint64_t
     }
     uint64_t number = found.value;
     return tk_some_pair_u64_size(tk_new_pair_u64_size(number, 16 + TK_CAST(size_t, more)));
+}
+
+/* atoi_fast/src/short_prefix.rt:86 */
+TK_FAR tk_option_pair_u64_size tk_prefix_of_two_words_u64(bool minus, uint64_t high, tk_bytes s)
+{
+    uint64_t next = tk_load_full(tk_bytes_from(s, 8));
+    uint32_t more = tk_leading_digits(next);
+    if (more == 8) {
+        tk_option_pair_u64_size found = tk_prefix_of_three_words_u64(minus, high, next, s);
+        if (!found.is_some) {
+            return tk_none_pair_u64_size();
+        }
+        tk_pair_u64_size found_2 = found.value;
+        return tk_some_pair_u64_size(found_2);
+    }
+    uint64_t low = tk_value_by_product(tk_u64_wrapping_sub(next, TK_ZEROS), more);
+    uint64_t magnitude = high * tk_power_of_ten(more) + low;
+    tk_option_u64 found = tk_number_in_range_u64(TK_MOST_IN_TWO_WORDS, minus, magnitude);
+    if (!found.is_some) {
+        return tk_none_pair_u64_size();
+    }
+    uint64_t number = found.value;
+    return tk_some_pair_u64_size(tk_new_pair_u64_size(number, 8 + TK_CAST(size_t, more)));
 }
 
 /* atoi_fast/src/quick.rt:40 */
@@ -2085,6 +2175,150 @@ TK_HINTED tk_option_u128 tk_long_slice_u128(tk_bytes s)
 {
     (void)s;
     return tk_none_u128();
+}
+
+/* atoi_fast/src/short_prefix.rt:86 */
+TK_FAR tk_option_pair_i8_size tk_prefix_of_two_words_i8(bool minus, uint64_t high, tk_bytes s)
+{
+    uint64_t next = tk_load_full(tk_bytes_from(s, 8));
+    uint32_t more = tk_leading_digits(next);
+    if (more == 8) {
+        return tk_none_pair_i8_size();
+    }
+    uint64_t low = tk_value_by_product(tk_u64_wrapping_sub(next, TK_ZEROS), more);
+    uint64_t magnitude = high * tk_power_of_ten(more) + low;
+    tk_option_i8 found = tk_number_in_range_i8(TK_MOST_IN_TWO_WORDS, minus, magnitude);
+    if (!found.is_some) {
+        return tk_none_pair_i8_size();
+    }
+    int8_t number = found.value;
+    return tk_some_pair_i8_size(tk_new_pair_i8_size(number, 8 + TK_CAST(size_t, more)));
+}
+
+/* atoi_fast/src/short_prefix.rt:86 */
+TK_FAR tk_option_pair_u8_size tk_prefix_of_two_words_u8(bool minus, uint64_t high, tk_bytes s)
+{
+    uint64_t next = tk_load_full(tk_bytes_from(s, 8));
+    uint32_t more = tk_leading_digits(next);
+    if (more == 8) {
+        return tk_none_pair_u8_size();
+    }
+    uint64_t low = tk_value_by_product(tk_u64_wrapping_sub(next, TK_ZEROS), more);
+    uint64_t magnitude = high * tk_power_of_ten(more) + low;
+    tk_option_u8 found = tk_number_in_range_u8(TK_MOST_IN_TWO_WORDS, minus, magnitude);
+    if (!found.is_some) {
+        return tk_none_pair_u8_size();
+    }
+    uint8_t number = found.value;
+    return tk_some_pair_u8_size(tk_new_pair_u8_size(number, 8 + TK_CAST(size_t, more)));
+}
+
+/* atoi_fast/src/short_prefix.rt:86 */
+TK_FAR tk_option_pair_i16_size tk_prefix_of_two_words_i16(bool minus, uint64_t high, tk_bytes s)
+{
+    uint64_t next = tk_load_full(tk_bytes_from(s, 8));
+    uint32_t more = tk_leading_digits(next);
+    if (more == 8) {
+        return tk_none_pair_i16_size();
+    }
+    uint64_t low = tk_value_by_product(tk_u64_wrapping_sub(next, TK_ZEROS), more);
+    uint64_t magnitude = high * tk_power_of_ten(more) + low;
+    tk_option_i16 found = tk_number_in_range_i16(TK_MOST_IN_TWO_WORDS, minus, magnitude);
+    if (!found.is_some) {
+        return tk_none_pair_i16_size();
+    }
+    int16_t number = found.value;
+    return tk_some_pair_i16_size(tk_new_pair_i16_size(number, 8 + TK_CAST(size_t, more)));
+}
+
+/* atoi_fast/src/short_prefix.rt:86 */
+TK_FAR tk_option_pair_u16_size tk_prefix_of_two_words_u16(bool minus, uint64_t high, tk_bytes s)
+{
+    uint64_t next = tk_load_full(tk_bytes_from(s, 8));
+    uint32_t more = tk_leading_digits(next);
+    if (more == 8) {
+        return tk_none_pair_u16_size();
+    }
+    uint64_t low = tk_value_by_product(tk_u64_wrapping_sub(next, TK_ZEROS), more);
+    uint64_t magnitude = high * tk_power_of_ten(more) + low;
+    tk_option_u16 found = tk_number_in_range_u16(TK_MOST_IN_TWO_WORDS, minus, magnitude);
+    if (!found.is_some) {
+        return tk_none_pair_u16_size();
+    }
+    uint16_t number = found.value;
+    return tk_some_pair_u16_size(tk_new_pair_u16_size(number, 8 + TK_CAST(size_t, more)));
+}
+
+/* atoi_fast/src/short_prefix.rt:86 */
+TK_FAR tk_option_pair_i32_size tk_prefix_of_two_words_i32(bool minus, uint64_t high, tk_bytes s)
+{
+    uint64_t next = tk_load_full(tk_bytes_from(s, 8));
+    uint32_t more = tk_leading_digits(next);
+    if (more == 8) {
+        return tk_none_pair_i32_size();
+    }
+    uint64_t low = tk_value_by_product(tk_u64_wrapping_sub(next, TK_ZEROS), more);
+    uint64_t magnitude = high * tk_power_of_ten(more) + low;
+    tk_option_i32 found = tk_number_in_range_i32(TK_MOST_IN_TWO_WORDS, minus, magnitude);
+    if (!found.is_some) {
+        return tk_none_pair_i32_size();
+    }
+    int32_t number = found.value;
+    return tk_some_pair_i32_size(tk_new_pair_i32_size(number, 8 + TK_CAST(size_t, more)));
+}
+
+/* atoi_fast/src/short_prefix.rt:86 */
+TK_FAR tk_option_pair_u32_size tk_prefix_of_two_words_u32(bool minus, uint64_t high, tk_bytes s)
+{
+    uint64_t next = tk_load_full(tk_bytes_from(s, 8));
+    uint32_t more = tk_leading_digits(next);
+    if (more == 8) {
+        return tk_none_pair_u32_size();
+    }
+    uint64_t low = tk_value_by_product(tk_u64_wrapping_sub(next, TK_ZEROS), more);
+    uint64_t magnitude = high * tk_power_of_ten(more) + low;
+    tk_option_u32 found = tk_number_in_range_u32(TK_MOST_IN_TWO_WORDS, minus, magnitude);
+    if (!found.is_some) {
+        return tk_none_pair_u32_size();
+    }
+    uint32_t number = found.value;
+    return tk_some_pair_u32_size(tk_new_pair_u32_size(number, 8 + TK_CAST(size_t, more)));
+}
+
+/* atoi_fast/src/short_prefix.rt:86 */
+TK_FAR tk_option_pair_i128_size tk_prefix_of_two_words_i128(bool minus, uint64_t high, tk_bytes s)
+{
+    uint64_t next = tk_load_full(tk_bytes_from(s, 8));
+    uint32_t more = tk_leading_digits(next);
+    if (more == 8) {
+        return tk_none_pair_i128_size();
+    }
+    uint64_t low = tk_value_by_product(tk_u64_wrapping_sub(next, TK_ZEROS), more);
+    uint64_t magnitude = high * tk_power_of_ten(more) + low;
+    tk_option_i128 found = tk_number_in_range_i128(TK_MOST_IN_TWO_WORDS, minus, magnitude);
+    if (!found.is_some) {
+        return tk_none_pair_i128_size();
+    }
+    tk_i128 number = found.value;
+    return tk_some_pair_i128_size(tk_new_pair_i128_size(number, 8 + TK_CAST(size_t, more)));
+}
+
+/* atoi_fast/src/short_prefix.rt:86 */
+TK_FAR tk_option_pair_u128_size tk_prefix_of_two_words_u128(bool minus, uint64_t high, tk_bytes s)
+{
+    uint64_t next = tk_load_full(tk_bytes_from(s, 8));
+    uint32_t more = tk_leading_digits(next);
+    if (more == 8) {
+        return tk_none_pair_u128_size();
+    }
+    uint64_t low = tk_value_by_product(tk_u64_wrapping_sub(next, TK_ZEROS), more);
+    uint64_t magnitude = high * tk_power_of_ten(more) + low;
+    tk_option_u128 found = tk_number_in_range_u128(TK_MOST_IN_TWO_WORDS, minus, magnitude);
+    if (!found.is_some) {
+        return tk_none_pair_u128_size();
+    }
+    tk_u128 number = found.value;
+    return tk_some_pair_u128_size(tk_new_pair_u128_size(number, 8 + TK_CAST(size_t, more)));
 }
 
 /* Returns the number of one digit. */

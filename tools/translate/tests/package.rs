@@ -124,8 +124,8 @@ fn the_library_has_an_inline_part_and_the_rest() {
         ("TK_INLINE tk_pair_size_size tk_fields_position(", (0, 1)),
         ("TK_INLINE tk_option_pair_u8_bytes tk_accepted_field_u8(", (0, 0)),
         ("TK_NOINLINE tk_result_u64 tk_whole_64(", (0, 1)),
-        ("TK_FAR tk_option_pair_i64_size tk_prefix_of_three_words_i64(", (1, 1)),
-        ("TK_SYMBOL(tk_prefix_of_three_words_i64);", (1, 0)),
+        ("TK_FAR tk_option_pair_i64_size tk_prefix_of_two_words_i64(", (1, 1)),
+        ("TK_SYMBOL(tk_prefix_of_two_words_i64);", (1, 0)),
         ("#undef TK_INLINE", (1, 0)),
     ] {
         assert_eq!((header.matches(head).count(), source.matches(head).count()), counts, "{head}");

@@ -42,7 +42,7 @@ const HEAD: &str =
 
 /// What C calls where Rust inlines it: long functions that few numbers need. Each type would have a copy.
 const CALLED: &str = "atoi_core::narrow_prefix atoi_core::whole_64 atoi_core::whole_128 atoi_fast::loaded_slice \
-    atoi_fast::prefix_64 atoi_fast::prefix_128 atoi_fast::prefix_of_three_words atoi_fast::window \
+    atoi_fast::prefix_64 atoi_fast::prefix_128 atoi_fast::prefix_of_two_words atoi_fast::window \
     atoi_simd::atoi_simd_parse_prefix";
 
 /// The types that most numbers have, what C calls only for the others, and the crates whose functions gcc has to inline
