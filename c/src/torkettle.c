@@ -2036,17 +2036,14 @@ TK_INLINE uint64_t tk_four_by_product(uint64_t digits, uint32_t len)
     return tk_u64_wrapping_mul(tens, 0x640001) >> 48;
 }
 
-/*
- * The number of 16 to 20 bytes, of which the first eight spell `high`, with a zero for a minus, and the next
- * eight are `second`.
- */
-/* atoi_fast/src/short_prefix.rt:113 */
+/* `prefix_of_two_words` for 16 to 20 bytes, of which the second eight are `second`. */
+/* atoi_fast/src/short_prefix.rt:114 */
 TK_INLINE tk_option_pair_i64_size tk_prefix_of_three_words_i64(bool minus, uint64_t high, uint64_t second, tk_bytes s)
 {
     uint64_t high_2 = high * tk_power_of_ten(8) + tk_sum_of(tk_u64_wrapping_sub(second, TK_ZEROS));
     uint64_t third = tk_load_from(s, 16);
     uint32_t more = tk_leading_digits(third);
-    /* Not more than 19 digits, which no limit refuses. */
+    /* At most 19 digits, which no limit refuses. */
     if (more > 3 + TK_CAST(uint32_t, minus)) {
         return tk_none_pair_i64_size();
     }
@@ -2061,7 +2058,7 @@ TK_INLINE tk_option_pair_i64_size tk_prefix_of_three_words_i64(bool minus, uint6
 }
 
 /* The number of 8 to 15 bytes, of which the first eight spell `high`, with a zero for a minus. */
-/* atoi_fast/src/short_prefix.rt:86 */
+/* atoi_fast/src/short_prefix.rt:88 */
 TK_FAR tk_option_pair_i64_size tk_prefix_of_two_words_i64(bool minus, uint64_t high, tk_bytes s)
 {
     uint64_t next = tk_load_full(tk_bytes_from(s, 8));
@@ -2102,13 +2099,13 @@ TK_INLINE tk_option_i64 tk_long_slice_i64(tk_bytes s)
     return tk_none_i64();
 }
 
-/* atoi_fast/src/short_prefix.rt:113 */
+/* atoi_fast/src/short_prefix.rt:114 */
 TK_INLINE tk_option_pair_u64_size tk_prefix_of_three_words_u64(bool minus, uint64_t high, uint64_t second, tk_bytes s)
 {
     uint64_t high_2 = high * tk_power_of_ten(8) + tk_sum_of(tk_u64_wrapping_sub(second, TK_ZEROS));
     uint64_t third = tk_load_from(s, 16);
     uint32_t more = tk_leading_digits(third);
-    /* Not more than 19 digits, which no limit refuses. */
+    /* At most 19 digits, which no limit refuses. */
     if (more > 3 + TK_CAST(uint32_t, minus)) {
         return tk_none_pair_u64_size();
     }
@@ -2122,7 +2119,7 @@ TK_INLINE tk_option_pair_u64_size tk_prefix_of_three_words_u64(bool minus, uint6
     return tk_some_pair_u64_size(tk_new_pair_u64_size(number, 16 + TK_CAST(size_t, more)));
 }
 
-/* atoi_fast/src/short_prefix.rt:86 */
+/* atoi_fast/src/short_prefix.rt:88 */
 TK_FAR tk_option_pair_u64_size tk_prefix_of_two_words_u64(bool minus, uint64_t high, tk_bytes s)
 {
     uint64_t next = tk_load_full(tk_bytes_from(s, 8));
@@ -2177,7 +2174,7 @@ TK_HINTED tk_option_u128 tk_long_slice_u128(tk_bytes s)
     return tk_none_u128();
 }
 
-/* atoi_fast/src/short_prefix.rt:86 */
+/* atoi_fast/src/short_prefix.rt:88 */
 TK_FAR tk_option_pair_i8_size tk_prefix_of_two_words_i8(bool minus, uint64_t high, tk_bytes s)
 {
     uint64_t next = tk_load_full(tk_bytes_from(s, 8));
@@ -2195,7 +2192,7 @@ TK_FAR tk_option_pair_i8_size tk_prefix_of_two_words_i8(bool minus, uint64_t hig
     return tk_some_pair_i8_size(tk_new_pair_i8_size(number, 8 + TK_CAST(size_t, more)));
 }
 
-/* atoi_fast/src/short_prefix.rt:86 */
+/* atoi_fast/src/short_prefix.rt:88 */
 TK_FAR tk_option_pair_u8_size tk_prefix_of_two_words_u8(bool minus, uint64_t high, tk_bytes s)
 {
     uint64_t next = tk_load_full(tk_bytes_from(s, 8));
@@ -2213,7 +2210,7 @@ TK_FAR tk_option_pair_u8_size tk_prefix_of_two_words_u8(bool minus, uint64_t hig
     return tk_some_pair_u8_size(tk_new_pair_u8_size(number, 8 + TK_CAST(size_t, more)));
 }
 
-/* atoi_fast/src/short_prefix.rt:86 */
+/* atoi_fast/src/short_prefix.rt:88 */
 TK_FAR tk_option_pair_i16_size tk_prefix_of_two_words_i16(bool minus, uint64_t high, tk_bytes s)
 {
     uint64_t next = tk_load_full(tk_bytes_from(s, 8));
@@ -2231,7 +2228,7 @@ TK_FAR tk_option_pair_i16_size tk_prefix_of_two_words_i16(bool minus, uint64_t h
     return tk_some_pair_i16_size(tk_new_pair_i16_size(number, 8 + TK_CAST(size_t, more)));
 }
 
-/* atoi_fast/src/short_prefix.rt:86 */
+/* atoi_fast/src/short_prefix.rt:88 */
 TK_FAR tk_option_pair_u16_size tk_prefix_of_two_words_u16(bool minus, uint64_t high, tk_bytes s)
 {
     uint64_t next = tk_load_full(tk_bytes_from(s, 8));
@@ -2249,7 +2246,7 @@ TK_FAR tk_option_pair_u16_size tk_prefix_of_two_words_u16(bool minus, uint64_t h
     return tk_some_pair_u16_size(tk_new_pair_u16_size(number, 8 + TK_CAST(size_t, more)));
 }
 
-/* atoi_fast/src/short_prefix.rt:86 */
+/* atoi_fast/src/short_prefix.rt:88 */
 TK_FAR tk_option_pair_i32_size tk_prefix_of_two_words_i32(bool minus, uint64_t high, tk_bytes s)
 {
     uint64_t next = tk_load_full(tk_bytes_from(s, 8));
@@ -2267,7 +2264,7 @@ TK_FAR tk_option_pair_i32_size tk_prefix_of_two_words_i32(bool minus, uint64_t h
     return tk_some_pair_i32_size(tk_new_pair_i32_size(number, 8 + TK_CAST(size_t, more)));
 }
 
-/* atoi_fast/src/short_prefix.rt:86 */
+/* atoi_fast/src/short_prefix.rt:88 */
 TK_FAR tk_option_pair_u32_size tk_prefix_of_two_words_u32(bool minus, uint64_t high, tk_bytes s)
 {
     uint64_t next = tk_load_full(tk_bytes_from(s, 8));
@@ -2285,7 +2282,7 @@ TK_FAR tk_option_pair_u32_size tk_prefix_of_two_words_u32(bool minus, uint64_t h
     return tk_some_pair_u32_size(tk_new_pair_u32_size(number, 8 + TK_CAST(size_t, more)));
 }
 
-/* atoi_fast/src/short_prefix.rt:86 */
+/* atoi_fast/src/short_prefix.rt:88 */
 TK_FAR tk_option_pair_i128_size tk_prefix_of_two_words_i128(bool minus, uint64_t high, tk_bytes s)
 {
     uint64_t next = tk_load_full(tk_bytes_from(s, 8));
@@ -2303,7 +2300,7 @@ TK_FAR tk_option_pair_i128_size tk_prefix_of_two_words_i128(bool minus, uint64_t
     return tk_some_pair_i128_size(tk_new_pair_i128_size(number, 8 + TK_CAST(size_t, more)));
 }
 
-/* atoi_fast/src/short_prefix.rt:86 */
+/* atoi_fast/src/short_prefix.rt:88 */
 TK_FAR tk_option_pair_u128_size tk_prefix_of_two_words_u128(bool minus, uint64_t high, tk_bytes s)
 {
     uint64_t next = tk_load_full(tk_bytes_from(s, 8));
@@ -3659,7 +3656,7 @@ TK_NOINLINE tk_result_pair_i8_size tk_atoi_simd_parse_prefix_i8(tk_bytes s, bool
     return tk_called_parse_prefix_text_i8(skip, skip_plus, s);
 }
 
-/* atoi_fast/src/short_prefix.rt:174 */
+/* atoi_fast/src/short_prefix.rt:176 */
 TK_HINTED tk_option_pair_u8_size tk_unsigned_prefix_u8(tk_bytes s)
 {
     uint64_t word = tk_load_full(s);
@@ -3792,7 +3789,7 @@ TK_NOINLINE tk_result_pair_i16_size tk_atoi_simd_parse_prefix_i16(tk_bytes s, bo
     return tk_called_parse_prefix_text_i16(skip, skip_plus, s);
 }
 
-/* atoi_fast/src/short_prefix.rt:174 */
+/* atoi_fast/src/short_prefix.rt:176 */
 TK_HINTED tk_option_pair_u16_size tk_unsigned_prefix_u16(tk_bytes s)
 {
     uint64_t word = tk_load_full(s);
@@ -3925,7 +3922,7 @@ TK_NOINLINE tk_result_pair_i32_size tk_atoi_simd_parse_prefix_i32(tk_bytes s, bo
     return tk_called_parse_prefix_text_i32(skip, skip_plus, s);
 }
 
-/* atoi_fast/src/short_prefix.rt:174 */
+/* atoi_fast/src/short_prefix.rt:176 */
 TK_INLINE tk_option_pair_u32_size tk_unsigned_prefix_u32(tk_bytes s)
 {
     uint64_t word = tk_load_full(s);
@@ -4059,7 +4056,7 @@ TK_NOINLINE tk_result_pair_i64_size tk_atoi_simd_parse_prefix_i64(tk_bytes s, bo
     return tk_called_parse_prefix_text_i64(skip, skip_plus, s);
 }
 
-/* atoi_fast/src/short_prefix.rt:174 */
+/* atoi_fast/src/short_prefix.rt:176 */
 TK_INLINE tk_option_pair_u64_size tk_unsigned_prefix_u64(tk_bytes s)
 {
     uint64_t word = tk_load_full(s);
@@ -4195,7 +4192,7 @@ TK_NOINLINE tk_result_pair_i128_size tk_atoi_simd_parse_prefix_i128(tk_bytes s, 
     return tk_called_parse_prefix_text_i128(skip, skip_plus, s);
 }
 
-/* atoi_fast/src/short_prefix.rt:174 */
+/* atoi_fast/src/short_prefix.rt:176 */
 TK_HINTED tk_option_pair_u128_size tk_unsigned_prefix_u128(tk_bytes s)
 {
     uint64_t word = tk_load_full(s);
@@ -4524,7 +4521,7 @@ TK_HINTED tk_result_u128 tk_atoi_simd_parse_pos_u128(tk_bytes s, bool skip)
     return tk_called_whole_pos_u128(skip, s);
 }
 
-/* atoi_fast/src/short_prefix.rt:189 */
+/* atoi_fast/src/short_prefix.rt:191 */
 TK_HINTED tk_option_pair_i8_size tk_prefix_in_word_i8(uint64_t word, uint32_t len, tk_bytes s)
 {
     (void)s;
@@ -4537,7 +4534,7 @@ TK_HINTED tk_option_pair_i8_size tk_prefix_in_word_i8(uint64_t word, uint32_t le
     return tk_some_pair_i8_size(tk_new_pair_i8_size(number, TK_CAST(size_t, len)));
 }
 
-/* atoi_fast/src/short_prefix.rt:174 */
+/* atoi_fast/src/short_prefix.rt:176 */
 TK_HINTED tk_option_pair_i8_size tk_unsigned_prefix_i8(tk_bytes s)
 {
     uint64_t word = tk_load_full(s);
@@ -4616,7 +4613,7 @@ TK_HINTED tk_result_pair_u8_size tk_atoi_simd_parse_prefix_pos_u8(tk_bytes s, bo
     return tk_called_prefix_pos_u8(skip, s);
 }
 
-/* atoi_fast/src/short_prefix.rt:189 */
+/* atoi_fast/src/short_prefix.rt:191 */
 TK_HINTED tk_option_pair_i16_size tk_prefix_in_word_i16(uint64_t word, uint32_t len, tk_bytes s)
 {
     (void)s;
@@ -4629,7 +4626,7 @@ TK_HINTED tk_option_pair_i16_size tk_prefix_in_word_i16(uint64_t word, uint32_t 
     return tk_some_pair_i16_size(tk_new_pair_i16_size(number, TK_CAST(size_t, len)));
 }
 
-/* atoi_fast/src/short_prefix.rt:174 */
+/* atoi_fast/src/short_prefix.rt:176 */
 TK_HINTED tk_option_pair_i16_size tk_unsigned_prefix_i16(tk_bytes s)
 {
     uint64_t word = tk_load_full(s);
@@ -4702,7 +4699,7 @@ TK_HINTED tk_result_pair_u16_size tk_atoi_simd_parse_prefix_pos_u16(tk_bytes s, 
     return tk_called_prefix_pos_u16(skip, s);
 }
 
-/* atoi_fast/src/short_prefix.rt:189 */
+/* atoi_fast/src/short_prefix.rt:191 */
 TK_INLINE tk_option_pair_i32_size tk_prefix_in_word_i32(uint64_t word, uint32_t len, tk_bytes s)
 {
     (void)s;
@@ -4715,7 +4712,7 @@ TK_INLINE tk_option_pair_i32_size tk_prefix_in_word_i32(uint64_t word, uint32_t 
     return tk_some_pair_i32_size(tk_new_pair_i32_size(number, TK_CAST(size_t, len)));
 }
 
-/* atoi_fast/src/short_prefix.rt:174 */
+/* atoi_fast/src/short_prefix.rt:176 */
 TK_INLINE tk_option_pair_i32_size tk_unsigned_prefix_i32(tk_bytes s)
 {
     uint64_t word = tk_load_full(s);
@@ -4788,7 +4785,7 @@ TK_HINTED tk_result_pair_u32_size tk_atoi_simd_parse_prefix_pos_u32(tk_bytes s, 
     return tk_called_prefix_pos_u32(skip, s);
 }
 
-/* atoi_fast/src/short_prefix.rt:189 */
+/* atoi_fast/src/short_prefix.rt:191 */
 TK_INLINE tk_option_pair_i64_size tk_prefix_in_word_i64(uint64_t word, uint32_t len, tk_bytes s)
 {
     (void)s;
@@ -4801,7 +4798,7 @@ TK_INLINE tk_option_pair_i64_size tk_prefix_in_word_i64(uint64_t word, uint32_t 
     return tk_some_pair_i64_size(tk_new_pair_i64_size(number, TK_CAST(size_t, len)));
 }
 
-/* atoi_fast/src/short_prefix.rt:174 */
+/* atoi_fast/src/short_prefix.rt:176 */
 TK_INLINE tk_option_pair_i64_size tk_unsigned_prefix_i64(tk_bytes s)
 {
     uint64_t word = tk_load_full(s);
@@ -4874,7 +4871,7 @@ TK_HINTED tk_result_pair_u64_size tk_atoi_simd_parse_prefix_pos_u64(tk_bytes s, 
     return tk_called_prefix_pos_u64(skip, s);
 }
 
-/* atoi_fast/src/short_prefix.rt:189 */
+/* atoi_fast/src/short_prefix.rt:191 */
 TK_HINTED tk_option_pair_i128_size tk_prefix_in_word_i128(uint64_t word, uint32_t len, tk_bytes s)
 {
     (void)s;
@@ -4887,7 +4884,7 @@ TK_HINTED tk_option_pair_i128_size tk_prefix_in_word_i128(uint64_t word, uint32_
     return tk_some_pair_i128_size(tk_new_pair_i128_size(number, TK_CAST(size_t, len)));
 }
 
-/* atoi_fast/src/short_prefix.rt:174 */
+/* atoi_fast/src/short_prefix.rt:176 */
 TK_HINTED tk_option_pair_i128_size tk_unsigned_prefix_i128(tk_bytes s)
 {
     uint64_t word = tk_load_full(s);

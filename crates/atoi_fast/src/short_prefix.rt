@@ -68,7 +68,9 @@ pub(crate) fn prefix_of_words<T: Number>(s: &[u8]) -> Option<(T, usize)>
         return None;
     }
     if marks == 0 {
-        return prefix_of_two_words(minus, sum_of(digits), s);
+        // With `return` of the call, clang++ 19 returns all lengths in memory: 1.23 of the time.
+        let found = prefix_of_two_words(minus, sum_of(digits), s)?;
+        return Some(found);
     }
     let len = marks.trailing_zeros() / 8;
     let number = number_in_range::<T>(MOST_IN_WORD, minus, value_by_product(digits, len))?;
@@ -107,8 +109,7 @@ fn prefix_of_two_words<T: Number>(minus: bool, high: u64, s: &[u8]) -> Option<(T
     Some((number, 8 + more as usize))
 }
 
-// The number of 16 to 20 bytes, of which the first eight spell `high`, with a zero for a minus, and the next
-// eight are `second`.
+// `prefix_of_two_words` for 16 to 20 bytes, of which the second eight are `second`.
 #[inline(always)]
 fn prefix_of_three_words<T: Number>(
     minus: bool,
@@ -129,7 +130,7 @@ fn prefix_of_three_words<T: Number>(
     let high = high * power_of_ten(8) + sum_of(second.wrapping_sub(ZEROS));
     let third = load_from(s, 16);
     let more = leading_digits(third);
-    // Not more than 19 digits, which no limit refuses.
+    // At most 19 digits, which no limit refuses.
     if more > 3 + u32::from(minus) {
         return None;
     }
@@ -165,7 +166,8 @@ pub(crate) fn prefix_by_length<T: Number>(s: &[u8]) -> Option<(T, usize)>
         return Some((number, 3));
     }
     if marks == 0 {
-        return prefix_of_two_words(false, sum_of(digits), s);
+        let found = prefix_of_two_words(false, sum_of(digits), s)?;
+        return Some(found);
     }
     prefix_in_word(word, marks.trailing_zeros() / 8, s)
 }
