@@ -1,5 +1,5 @@
 -- The answers that a run decides: with zeros skipped, a magnitude in range has few enough digits.
-use Rattle.std.proofs.Common.{◌≡◌, ℕ, ◌+◌, ◌<◌, ◌≤◌, Bool, true, false, List, length, Some, None, nat_lt, if◌then◌else◌, Result, Ok, Err, IsErr, inl, refl, sym, arith}
+use Rattle.std.proofs.Common.{◌≡◌, ℕ, ◌+◌, ◌<◌, ◌≤◌, Bool, true, false, List, length, Some, None, nat_lt, if◌then◌else◌, Result, Ok, IsErr, inl, refl, sym, arith}
 use Rattle.std.proofs.lemmas.Bool.Decides.{nat_tests}
 use Rattle.atoi_core.specs.Digit.{decimal_table}
 use Rattle.atoi_core.specs.Run.{run_len, run, value}

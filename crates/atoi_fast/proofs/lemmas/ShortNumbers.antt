@@ -1,5 +1,5 @@
 -- Numbers of so few digits that no limit refuses them.
-use Rattle.std.proofs.Common.{◌≡◌, ℕ, ◌<◌, ◌≤◌, ◌+◌, ◌==◌, Bool, true, false, List, [], ◌∷◌, length, take, drop, get_or, Option, Some, None, IfSome, ℤ, Ok, refl, sym, ap, ap₂, suc, ◌∙◌, arith, if◌then◌else◌, length-drop}
+use Rattle.std.proofs.Common.{◌≡◌, ℕ, ◌<◌, ◌≤◌, ◌+◌, ◌==◌, Bool, true, false, List, [], ◌∷◌, length, take, drop, get_or, Option, None, IfSome, ℤ, Ok, refl, sym, ap, ap₂, suc, ◌∙◌, arith, if◌then◌else◌, length-drop}
 use Rattle.std.proofs.lemmas.Bool.Decides.{nat_tests}
 use Rattle.atoi_core.specs.Digit.{Table, decimal_table, is_digit}
 use Rattle.atoi_core.specs.Run.{run_len, zeros, run, value}

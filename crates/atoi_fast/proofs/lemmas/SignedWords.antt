@@ -284,7 +284,8 @@ module _ (word : ℕ) where
   unfolding low_bytes
   digit_at_2 some = grind (arith, nat_tests)
 
-  pub value_of_one : 1 ≤ run_len decimal_table (low_bytes 8 word) → (lowered_word % 256 ≡ low_value (low_bytes 1 word)) × (lowered_word % 256 ≤ 9)
+  pub value_of_one : 1 ≤ run_len decimal_table (low_bytes 8 word)
+      → (lowered_word % 256 ≡ low_value (low_bytes 1 word)) × (lowered_word % 256 ≤ 9)
   unfolding low_bytes
   value_of_one some =
       let first = digit_at_0 some in

@@ -16,5 +16,5 @@ returns-in-Some-clause-number g c no_digit skip plus =
     prefix_len_passes (is_digit decimal_table) s len 0 in
     let ends : len ≡ run_len decimal_table s = grind (arith, goes_on, found.digits, found.separator, no_digit) in
     rw c.in_ok-number.ensures.number
-    (prefix_is int false s len c.in-Some.magnitude (λ no. absurd (cc no)) (omega (arith, found.few)) (omega (arith, found.few, sixteen_fit int))
-    ends found.value c.in_ok-number.ensures.in_range skip plus)
+    (prefix_is int false s len c.in-Some.magnitude (λ no. absurd (cc no)) (omega (arith, found.few))
+    (omega (arith, found.few, sixteen_fit int)) ends found.value c.in_ok-number.ensures.in_range skip plus)

@@ -8,7 +8,8 @@ pub returns-in_ok-number-in-len4-up : goal.returns-in_ok-number-in-len4-up
 returns-in_ok-number-in-len4-up g c =
     let r = c.requires in
     rw c.in_ok-number-in-len4-up.ensures.number
-    (first_three_digits g.T.Number.int_type c.args.s.now (omega arith) (grind (arith, nat_tests, c.is_ascii_digit-then-not-is_ascii_digit.ensures))
+    (first_three_digits g.T.Number.int_type c.args.s.now (omega arith)
+    (grind (arith, nat_tests, c.is_ascii_digit-then-not-is_ascii_digit.ensures))
     (grind (arith, nat_tests, c.is_ascii_digit-then-not-is_ascii_digit.ensures)) r.second.0 r.second.1 r.third.0 r.third.1
     (grind (arith, nat_tests, c.is_ascii_digit.ensures)) _
     (omega (arith, c.from.ensures, c.from-in-len4-up.ensures, c.from-in-len4-up-2.ensures)) c.in_ok-number-in-len4-up.ensures.in_range)

@@ -1,6 +1,5 @@
 -- The first mark says how many digits the word begins with.
-use Rattle.std.proofs.Common.{◌≡◌, ◌+◌, ◌*◌, ◌∙◌, false, refl, arith, add-zero}
-use Rattle.atoi_core.specs.IntType.{bound_of}
+use Rattle.std.proofs.Common.{ℕ, ◌<◌, get_or, ◌∙◌, false, refl, arith, add-zero}
 use Rattle.atoi_core.proofs.lemmas.LoweredWords.{marks_of_8}
 use Rattle.atoi_fast.proofs.lemmas.ShortNumbers.{least_bound}
 use Rattle.atoi_fast.proofs.lemmas.ShortPrefixes.{unsigned_word_prefix, zeroed_run, zeroed_value}
@@ -54,7 +53,15 @@ returns-then-marks-ne0-3 g c =
     rw c.from_parts-then-marks-ne0-3.ensures
     (unsigned_word_prefix int c.args.s.now (omega arith) (λ i. (c.type_inv.s i).fits) word 2 _ c.load_full-word.ensures (omega (arith, run))
     (omega arith) (omega arith)
-    (omega (arith, value, c.from-then-marks-ne0-3.ensures, c.from-first.ensures, c.from-2.ensures, c.lowest_byte.ensures, c.lowest_byte-2.ensures))
+    (omega (
+      arith,
+      value,
+      c.from-then-marks-ne0-3.ensures,
+      c.from-first.ensures,
+      c.from-2.ensures,
+      c.lowest_byte.ensures,
+      c.lowest_byte-2.ensures,
+    ))
     (omega (
       arith,
       value,
@@ -92,14 +99,16 @@ sum_of-requires g c = (lowered_eight c.load_full-word.result _ (none_marked c.lo
 pub prefix_of_two_words-requires-clause-full : goal.prefix_of_two_words-requires-clause-full
 prefix_of_two_words-requires-clause-full g c =
     let word = c.load_full-word.result in
-    let run = zeroed_run false c.args.s.now (omega arith) (λ i. (c.type_inv.s i).fits) word c.load_full-word.ensures (λ no. absurd (cc no)) in
+    let fits : (i : ℕ) → get_or c.args.s.now i 0 < 256 = λ i. (c.type_inv.s i).fits in
+    let run = zeroed_run false c.args.s.now (omega arith) fits word c.load_full-word.ensures (λ no. absurd (cc no)) in
     omega (arith, rw add-zero at run, none_marked word c.if-marks-eq0.true)
 
 pub prefix_of_two_words-requires-clause-high : goal.prefix_of_two_words-requires-clause-high
 prefix_of_two_words-requires-clause-high g c =
     let word = c.load_full-word.result in
     let full = none_marked word c.if-marks-eq0.true in
-    let value = zeroed_value false c.args.s.now (omega arith) (λ i. (c.type_inv.s i).fits) word c.load_full-word.ensures (λ no. absurd (cc no))
+    let fits : (i : ℕ) → get_or c.args.s.now i 0 < 256 = λ i. (c.type_inv.s i).fits in
+    let value = zeroed_value false c.args.s.now (omega arith) fits word c.load_full-word.ensures (λ no. absurd (cc no))
     8 (rw add-zero (omega (arith, full))) in
     c.sum_of.ensures.sum ∙ (lowered_eight word _ full refl).1 ∙ (rw add-zero at value)
 

@@ -6,7 +6,7 @@ use Rattle.atoi_core.proofs.lemmas.LoweredWords.{without_48}
 use Rattle.atoi_core.specs.IntType.{bound_of}
 use Rattle.atoi_fast.proofs.lemmas.ShortNumbers.{least_bound}
 use Rattle.atoi_fast.proofs.lemmas.WordRuns.{lowered_eight}
-use Rattle.atoi_fast.proofs.lemmas.SignedWords.{zeroed, marks_after_first, IsSigned, to_signed, signed_run, signed_run_full, lowered_at_top}
+use Rattle.atoi_fast.proofs.lemmas.SignedWords.{marks_after_first, IsSigned, to_signed, signed_run, signed_run_full, lowered_at_top}
 use Rattle.atoi_fast.proofs.lemmas.ShortPrefixes.{one_digit_prefix, one_word_prefix, has_minus, zeroed_run, zeroed_value}
 use Rattle.atoi_fast.proofs.short_prefix.prefix_of_words.Goals as goal
 use Rattle.atoi_fast.proofs.short_prefix.prefix_of_words.Goals.{Else-lowest_byte-gt9}
