@@ -296,7 +296,7 @@ public:
     // Reads at most `count` numbers into `values` and returns how many it has read. It reads fewer than `count` only if
     // it reaches the end or an error, which `error_item` then returns. Of fields and lines, the next call continues
     // after the error, so a loop must not end because a call has read fewer. A column has no more items then. This is
-    // faster than `next` for more than about 15 fields if nearly all have equally many digits, from 3 to 16.
+    // faster than `next` for more than about 15 fields if at least 99 % have equally many digits, from 4 to 16.
     std::size_t read(T *values, std::size_t count) noexcept
     {
         const std::size_t numbers = functions::read(state, values, count);

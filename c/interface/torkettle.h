@@ -190,7 +190,7 @@ typedef struct torkettle_error {
  *
  * size_t torkettle_column_i64_read(torkettle_column_i64 *column, int64_t *values, size_t count);
  *
- * Reads several fields, which for more than about 15 is faster if nearly all have equally many digits, from 3 to 16.
+ * Reads several fields, which for more than about 15 is faster if at least 99 % have equally many digits: 4 to 16.
  * Writes at most `count` numbers to `values` and returns how many it has written. It writes fewer than `count` only if
  * it reaches a bad field or the end of the text. If `count` is 0, it reads nothing, and `values` may be NULL. It is
  * fastest if `count` is 128 or more.
@@ -241,7 +241,7 @@ typedef struct torkettle_error {
  *
  * size_t torkettle_fields_i64_read(torkettle_fields_i64 *fields, int64_t *values, size_t count);
  *
- * Reads several fields, which for more than about 15 is faster if nearly all have equally many digits, from 3 to 16.
+ * Reads several fields, which for more than about 15 is faster if at least 99 % have equally many digits: 4 to 16.
  * Writes at most `count` numbers to `values` and returns how many it has written. It stops at a bad field and sets the
  * status. Otherwise, the status is TORKETTLE_OK. The next call continues after the bad field, so a loop must not end
  * because a call wrote fewer than `count` numbers. If `count` is 0, `values` may be NULL.
