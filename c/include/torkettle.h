@@ -50,10 +50,14 @@
 #include <intrin.h>
 #endif
 
-/* Programs that declare variables only at the start of a block may ask compilers for this warning. */
-#if defined __GNUC__ && !defined __cplusplus
+/* Programs may ask compilers to warn of variables that are declared late, and of casts that change no type. */
+#ifdef __GNUC__
 #pragma GCC diagnostic push
+#ifndef __cplusplus
 #pragma GCC diagnostic ignored "-Wdeclaration-after-statement"
+#elif !defined __clang__
+#pragma GCC diagnostic ignored "-Wuseless-cast"
+#endif
 #endif
 
 #ifdef __cplusplus
@@ -313,8 +317,9 @@ typedef struct torkettle_error {
 #define TK_HINTED TK_INLINE
 #endif
 
-/* What a compiler of C++20 can call in a constant expression. */
+/* What a compiler of C++20 can call in a constant expression. To include the header takes less time without TK_ALL. */
 #if defined __GNUC__ && defined __cplusplus && __cplusplus >= 202002L
+#define TK_ALL
 #define TK_CONSTEXPR constexpr TK_INLINE
 #else
 #define TK_CONSTEXPR TK_INLINE
@@ -384,21 +389,24 @@ TK_CONSTEXPR size_t tk_index(size_t index, size_t len)
     }
 
 TK_CONSTEXPR bool tk_u8_is_digit(uint8_t byte) { return '0' <= byte && byte <= '9'; }
-TK_CONSTEXPR uint32_t tk_u32_wrapping_add(uint32_t a, uint32_t b) { return a + b; }
-TK_CONSTEXPR uint32_t tk_u32_wrapping_sub(uint32_t a, uint32_t b) { return a - b; }
-TK_CONSTEXPR uint32_t tk_u32_wrapping_mul(uint32_t a, uint32_t b) { return a * b; }
 TK_CONSTEXPR uint64_t tk_u64_wrapping_add(uint64_t a, uint64_t b) { return a + b; }
 TK_CONSTEXPR uint64_t tk_u64_wrapping_sub(uint64_t a, uint64_t b) { return a - b; }
 TK_CONSTEXPR uint64_t tk_u64_wrapping_mul(uint64_t a, uint64_t b) { return a * b; }
+TK_CONSTEXPR uint64_t tk_i64_unsigned_abs(int64_t a) { return a < 0 ? 0 - TK_CAST(uint64_t, a) : TK_CAST(uint64_t, a); }
+
+#ifdef TK_ALL
+TK_CONSTEXPR uint32_t tk_u32_wrapping_add(uint32_t a, uint32_t b) { return a + b; }
+TK_CONSTEXPR uint32_t tk_u32_wrapping_sub(uint32_t a, uint32_t b) { return a - b; }
+TK_CONSTEXPR uint32_t tk_u32_wrapping_mul(uint32_t a, uint32_t b) { return a * b; }
 TK_CONSTEXPR uint32_t tk_u32_min(uint32_t a, uint32_t b) { return b < a ? b : a; }
 TK_CONSTEXPR size_t tk_size_min(size_t a, size_t b) { return b < a ? b : a; }
 TK_CONSTEXPR size_t tk_size_max(size_t a, size_t b) { return a < b ? b : a; }
 TK_CONSTEXPR size_t tk_size_saturating_add(size_t a, size_t b) { return a + b < a ? TK_CAST(size_t, -1) : a + b; }
 TK_CONSTEXPR size_t tk_size_saturating_sub(size_t a, size_t b) { return a < b ? 0 : a - b; }
-TK_CONSTEXPR uint64_t tk_i64_unsigned_abs(int64_t a) { return a < 0 ? 0 - TK_CAST(uint64_t, a) : TK_CAST(uint64_t, a); }
 TK_CONSTEXPR uint32_t tk_i32_unsigned_abs(int32_t a) { return TK_CAST(uint32_t, tk_i64_unsigned_abs(a)); }
 TK_CONSTEXPR uint16_t tk_i16_unsigned_abs(int16_t a) { return TK_CAST(uint16_t, tk_i64_unsigned_abs(a)); }
 TK_CONSTEXPR uint8_t tk_i8_unsigned_abs(int8_t a) { return TK_CAST(uint8_t, tk_i64_unsigned_abs(a)); }
+#endif
 
 /* How many low bits of a word are zero. */
 TK_INLINE uint32_t tk_u64_trailing_zeros(uint64_t word)
@@ -416,8 +424,6 @@ TK_INLINE uint32_t tk_u64_trailing_zeros(uint64_t word)
     return count;
 #endif
 }
-
-TK_INLINE uint32_t tk_u32_trailing_zeros(uint32_t word) { return tk_u64_trailing_zeros(word | UINT64_C(1) << 32); }
 
 /* Words of bytes, the first one lowest, on every processor. Compilers make one load of it. */
 TK_INLINE uint16_t tk_u16_load(const uint8_t *bytes) { return TK_CAST(uint16_t, bytes[0] | bytes[1] << 8); }
@@ -466,7 +472,6 @@ typedef struct tk_u128 {
     uint64_t low;
     uint64_t high;
 } tk_u128;
-
 typedef tk_u128 tk_i128;
 
 TK_CONSTEXPR tk_u128 tk_u128_make(uint64_t high, uint64_t low) { return TK_MAKE(tk_u128, low, high); }
@@ -528,6 +533,14 @@ TK_CONSTEXPR tk_i128 tk_u128_as_i128(tk_u128 value) { return value; }
 TK_CONSTEXPR tk_u128 tk_i128_as_u128(tk_i128 value) { return value; }
 #endif
 
+TK_CONSTEXPR tk_i128 tk_i128_of(uint64_t value) { return tk_u128_as_i128(tk_u128_of(value)); }
+TK_CONSTEXPR uint64_t tk_i128_low(tk_i128 value) { return tk_u128_low(tk_i128_as_u128(value)); }
+
+TK_CONSTEXPR tk_i128 tk_i128_negate(tk_i128 a)
+{
+    return tk_u128_as_i128(tk_u128_wrapping_sub(tk_u128_of(0), tk_i128_as_u128(a)));
+}
+
 TK_CONSTEXPR bool tk_u128_sum_fits(tk_u128 a, tk_u128 b) { return !tk_u128_less(tk_u128_wrapping_add(a, b), a); }
 
 TK_CONSTEXPR tk_u128 tk_u128_add(tk_u128 a, tk_u128 b)
@@ -535,6 +548,9 @@ TK_CONSTEXPR tk_u128 tk_u128_add(tk_u128 a, tk_u128 b)
     TORKETTLE_CHECK(tk_u128_sum_fits(a, b));
     return tk_u128_wrapping_add(a, b);
 }
+
+#ifdef TK_ALL
+TK_INLINE uint32_t tk_u32_trailing_zeros(uint32_t word) { return tk_u64_trailing_zeros(word | UINT64_C(1) << 32); }
 
 TK_CONSTEXPR tk_u128 tk_u128_mul(tk_u128 a, tk_u128 b)
 {
@@ -559,8 +575,6 @@ TK_BY_WORDS(tk_u128_or, |)
 TK_BY_WORDS(tk_u128_xor, ^)
 
 TK_CONSTEXPR tk_i128 tk_i128_make(uint64_t high, uint64_t low) { return tk_u128_as_i128(tk_u128_make(high, low)); }
-TK_CONSTEXPR tk_i128 tk_i128_of(uint64_t value) { return tk_u128_as_i128(tk_u128_of(value)); }
-TK_CONSTEXPR uint64_t tk_i128_low(tk_i128 value) { return tk_u128_low(tk_i128_as_u128(value)); }
 
 TK_CONSTEXPR bool tk_i128_less(tk_i128 a, tk_i128 b)
 {
@@ -568,15 +582,11 @@ TK_CONSTEXPR bool tk_i128_less(tk_i128 a, tk_i128 b)
     return tk_u128_less(tk_u128_xor(tk_i128_as_u128(a), sign), tk_u128_xor(tk_i128_as_u128(b), sign));
 }
 
-TK_CONSTEXPR tk_i128 tk_i128_negate(tk_i128 a)
-{
-    return tk_u128_as_i128(tk_u128_wrapping_sub(tk_u128_of(0), tk_i128_as_u128(a)));
-}
-
 TK_CONSTEXPR tk_u128 tk_i128_unsigned_abs(tk_i128 a)
 {
     return tk_i128_as_u128(tk_i128_less(a, tk_i128_of(0)) ? tk_i128_negate(a) : a);
 }
+#endif
 
 typedef struct tk_bytes {
     const uint8_t *at;
@@ -600,21 +610,6 @@ TK_CONSTEXPR tk_pair_i64_size tk_new_pair_i64_size(int64_t first, size_t second)
     return TK_MAKE(tk_pair_i64_size, first, second);
 }
 
-typedef struct tk_option_pair_i64_size {
-    bool is_some;
-    tk_pair_i64_size value;
-} tk_option_pair_i64_size;
-
-TK_CONSTEXPR tk_option_pair_i64_size tk_some_pair_i64_size(tk_pair_i64_size value)
-{
-    return TK_MAKE(tk_option_pair_i64_size, true, value);
-}
-
-TK_CONSTEXPR tk_option_pair_i64_size tk_none_pair_i64_size(void)
-{
-    return TK_MAKE(tk_option_pair_i64_size, false, tk_new_pair_i64_size(0, 0));
-}
-
 typedef struct tk_pair_u64_size {
     uint64_t first;
     size_t second;
@@ -623,6 +618,51 @@ typedef struct tk_pair_u64_size {
 TK_CONSTEXPR tk_pair_u64_size tk_new_pair_u64_size(uint64_t first, size_t second)
 {
     return TK_MAKE(tk_pair_u64_size, first, second);
+}
+
+typedef struct tk_option_u8 {
+    bool is_some;
+    uint8_t value;
+} tk_option_u8;
+
+TK_CONSTEXPR tk_option_u8 tk_some_u8(uint8_t value)
+{
+    return TK_MAKE(tk_option_u8, true, value);
+}
+
+TK_CONSTEXPR tk_option_u8 tk_none_u8(void)
+{
+    return TK_MAKE(tk_option_u8, false, 0);
+}
+
+typedef struct tk_option_i64 {
+    bool is_some;
+    int64_t value;
+} tk_option_i64;
+
+TK_CONSTEXPR tk_option_i64 tk_some_i64(int64_t value)
+{
+    return TK_MAKE(tk_option_i64, true, value);
+}
+
+TK_CONSTEXPR tk_option_i64 tk_none_i64(void)
+{
+    return TK_MAKE(tk_option_i64, false, 0);
+}
+
+typedef struct tk_option_u64 {
+    bool is_some;
+    uint64_t value;
+} tk_option_u64;
+
+TK_CONSTEXPR tk_option_u64 tk_some_u64(uint64_t value)
+{
+    return TK_MAKE(tk_option_u64, true, value);
+}
+
+TK_CONSTEXPR tk_option_u64 tk_none_u64(void)
+{
+    return TK_MAKE(tk_option_u64, false, 0);
 }
 
 typedef struct tk_option_pair_u64_size {
@@ -638,6 +678,839 @@ TK_CONSTEXPR tk_option_pair_u64_size tk_some_pair_u64_size(tk_pair_u64_size valu
 TK_CONSTEXPR tk_option_pair_u64_size tk_none_pair_u64_size(void)
 {
     return TK_MAKE(tk_option_pair_u64_size, false, tk_new_pair_u64_size(0, 0));
+}
+
+typedef struct tk_pair_bool_u128 {
+    bool first;
+    tk_u128 second;
+} tk_pair_bool_u128;
+
+TK_CONSTEXPR tk_pair_bool_u128 tk_new_pair_bool_u128(bool first, tk_u128 second)
+{
+    return TK_MAKE(tk_pair_bool_u128, first, second);
+}
+
+typedef struct tk_option_pair_i64_size {
+    bool is_some;
+    tk_pair_i64_size value;
+} tk_option_pair_i64_size;
+
+TK_CONSTEXPR tk_option_pair_i64_size tk_some_pair_i64_size(tk_pair_i64_size value)
+{
+    return TK_MAKE(tk_option_pair_i64_size, true, value);
+}
+
+TK_CONSTEXPR tk_option_pair_i64_size tk_none_pair_i64_size(void)
+{
+    return TK_MAKE(tk_option_pair_i64_size, false, tk_new_pair_i64_size(0, 0));
+}
+
+/* Indexed by how many digits there are: `sum_of`'s first factor, shifted by eight bytes less the digits. */
+static const uint64_t tk_factors[8] = {
+    0,
+    UINT64_C(2561) << 56,
+    UINT64_C(2561) << 48,
+    UINT64_C(2561) << 40,
+    UINT64_C(2561) << 32,
+    UINT64_C(2561) << 24,
+    UINT64_C(2561) << 16,
+    UINT64_C(2561) << 8,
+};
+
+#define TK_ZEROS UINT64_C(0x3030303030303030)
+
+#define TK_MOST_IN_WORD 1000000000
+
+TK_FAR tk_pair_i64_size tk_long_signed_prefix_i64(bool minus, uint64_t digits,
+                                                  tk_bytes s) TK_SYMBOL(tk_long_signed_prefix_i64);
+
+TK_FAR tk_pair_u64_size tk_long_prefix_u64(bool minus, uint64_t high, tk_bytes s) TK_SYMBOL(tk_long_prefix_u64);
+
+/* Returns the number of a slice of one digit, for each type. */
+/* atoi_fast/src/quick.rt:15 */
+TK_INLINE tk_option_u8 tk_one_digit(tk_bytes s)
+{
+    if (s.len == 1 && '0' <= s.at[0] && s.at[0] <= '9') {
+        uint8_t digit = s.at[0];
+        return tk_some_u8(TK_CAST(uint8_t, digit - '0'));
+    }
+    return tk_none_u8();
+}
+
+/* `sum_of` after its first product. A small product joins the two sums of four digits. */
+/* atoi_fast/src/digits.rt:123 */
+TK_HINTED uint64_t tk_sum_of_product(uint64_t product)
+{
+    uint64_t tens = (product >> 8) & UINT64_C(0x00FF00FF00FF00FF);
+    uint64_t hundreds = tk_u64_wrapping_mul(tens, 0x640001);
+    return ((hundreds >> 16) & 0xFFFF) * 10000 + (hundreds >> 48);
+}
+
+/* `process_8` for bytes below 16. */
+/* atoi_fast/src/digits.rt:113 */
+TK_HINTED uint64_t tk_sum_of(uint64_t digits)
+{
+    return tk_sum_of_product(tk_u64_wrapping_mul(digits, 0xA01));
+}
+
+/* atoi_fast/src/in_range.rt:38 */
+TK_INLINE bool tk_is_in_range(tk_u128 greatest, uint64_t most, bool minus, uint64_t magnitude)
+{
+    return !tk_u128_less(greatest, tk_u128_of(most)) || magnitude <= tk_u128_low(greatest) + tk_bit(minus);
+}
+
+/* atoi_core/src/number.rt:87 */
+TK_CONSTEXPR tk_i128 tk_with_sign_64(bool minus, uint64_t magnitude)
+{
+    tk_i128 number = tk_i128_of(magnitude);
+    if (minus) {
+        return tk_i128_negate(number);
+    }
+    return number;
+}
+
+/* Returns the word of the first 8 bytes. */
+/* atoi_fast/src/loads.rt:111 */
+TK_HINTED uint64_t tk_load_full(tk_bytes s)
+{
+    if (s.len >= 8) {
+        const uint8_t *first = s.at;
+        return tk_u64_load(first);
+    }
+    return 0;
+}
+
+/* atoi_core/src/number.rt:335 */
+TK_CONSTEXPR int64_t tk_from_parts_i64(bool minus, tk_u128 magnitude)
+{
+    return TK_CAST(int64_t, tk_i128_low(tk_with_sign_64(minus, tk_u128_low(magnitude))));
+}
+
+/*
+ * Returns the number of this sign and magnitude, if both types have it. The magnitude is at most `most`, a constant: a
+ * type that has all numbers up to it needs no other test.
+ */
+/* atoi_fast/src/in_range.rt:20 */
+TK_INLINE tk_option_i64 tk_number_in_range_i64(tk_u128 greatest, uint64_t most, bool minus, uint64_t magnitude)
+{
+    if (tk_is_in_range(greatest, most, minus, magnitude)
+        && tk_is_in_range(tk_u128_of(UINT64_C(9223372036854775807)), most, minus, magnitude)) {
+        return tk_some_i64(tk_from_parts_i64(minus, tk_u128_of(magnitude)));
+    }
+    return tk_none_i64();
+}
+
+/* atoi_core/src/number.rt:307 */
+TK_CONSTEXPR uint64_t tk_from_parts_u64(bool minus, tk_u128 magnitude)
+{
+    (void)minus;
+    return tk_u128_low(magnitude);
+}
+
+/* atoi_fast/src/in_range.rt:20 */
+TK_INLINE tk_option_u64 tk_number_in_range_u64(tk_u128 greatest, uint64_t most, bool minus, uint64_t magnitude)
+{
+    if (tk_is_in_range(greatest, most, minus, magnitude)
+        && tk_is_in_range(tk_u128_of(UINT64_C(18446744073709551615)), most, minus, magnitude)) {
+        return tk_some_u64(tk_from_parts_u64(minus, tk_u128_of(magnitude)));
+    }
+    return tk_none_u64();
+}
+
+/* atoi_fast/src/short_prefix.rt:112 */
+TK_HINTED uint8_t tk_lowest_byte(uint64_t word)
+{
+    return TK_CAST(uint8_t, word & 0xFF);
+}
+
+/* Returns the number of the lowest `len` bytes of `digits`, which are digits minus 48. */
+/* atoi_fast/src/digits.rt:145 */
+TK_HINTED uint64_t tk_value_by_product(uint64_t digits, uint32_t len)
+{
+    return tk_sum_of_product(tk_u64_wrapping_mul(digits, tk_factors[tk_index(TK_CAST(size_t, len), 8)]));
+}
+
+/* atoi_fast/src/quick.rt:167 */
+TK_HINTED tk_option_u64 tk_digit_of(uint8_t byte)
+{
+    if ('0' <= byte && byte <= '9') {
+        return tk_some_u64(TK_CAST(uint64_t, TK_CAST(uint8_t, byte - '0')));
+    }
+    return tk_none_u64();
+}
+
+/* One to three digits before a separator: their value and length. */
+/* atoi_fast/src/quick.rt:145 */
+TK_INLINE tk_option_pair_u64_size tk_few_digits(tk_bytes s, uint8_t separator)
+{
+    if (s.len >= 2 && s.at[1] == separator) {
+        uint8_t first = s.at[0];
+        tk_option_u64 found = tk_digit_of(first);
+        if (!found.is_some) {
+            return tk_none_pair_u64_size();
+        }
+        return tk_some_pair_u64_size(tk_new_pair_u64_size(found.value, 1));
+    }
+    if (s.len >= 3 && s.at[2] == separator) {
+        uint8_t first = s.at[0];
+        uint8_t second = s.at[1];
+        tk_option_u64 found = tk_digit_of(first);
+        if (!found.is_some) {
+            return tk_none_pair_u64_size();
+        }
+        uint64_t tens = found.value;
+        tk_option_u64 found_2 = tk_digit_of(second);
+        if (!found_2.is_some) {
+            return tk_none_pair_u64_size();
+        }
+        return tk_some_pair_u64_size(tk_new_pair_u64_size(10 * tens + found_2.value, 2));
+    }
+    if (s.len >= 4 && s.at[3] == separator) {
+        uint8_t first = s.at[0];
+        uint8_t second = s.at[1];
+        uint8_t third = s.at[2];
+        tk_option_u64 found = tk_digit_of(first);
+        if (!found.is_some) {
+            return tk_none_pair_u64_size();
+        }
+        uint64_t hundreds = found.value;
+        tk_option_u64 found_2 = tk_digit_of(second);
+        if (!found_2.is_some) {
+            return tk_none_pair_u64_size();
+        }
+        uint64_t tens = found_2.value;
+        tk_option_u64 found_3 = tk_digit_of(third);
+        if (!found_3.is_some) {
+            return tk_none_pair_u64_size();
+        }
+        return tk_some_pair_u64_size(tk_new_pair_u64_size(100 * hundreds + 10 * tens + found_3.value, 3));
+    }
+    return tk_none_pair_u64_size();
+}
+
+/* atoi_fast/src/short_prefix.rt:119 */
+TK_INLINE tk_pair_i64_size tk_long_by_digits_i64(bool minus, uint64_t digits, tk_bytes s)
+{
+    return tk_long_signed_prefix_i64(minus, digits, s);
+}
+
+/* atoi_core/src/number.rt:331 */
+TK_HINTED tk_pair_bool_u128 tk_parts_i64(int64_t self)
+{
+    return tk_new_pair_bool_u128(self < 0, tk_u128_of(tk_i64_unsigned_abs(self)));
+}
+
+/* The same number, if `T` has it and allows its digits. */
+/* atoi_fast/src/short_prefix.rt:260 */
+TK_INLINE tk_option_pair_i64_size tk_narrowed_i64(uint32_t bits, tk_u128 greatest, int64_t number, size_t len)
+{
+    if (bits < 64) {
+        tk_pair_bool_u128 found = tk_parts_i64(number);
+        bool minus = found.first;
+        tk_u128 magnitude = found.second;
+        if (tk_u128_less(tk_u128_add(greatest, tk_u128_of(minus)), magnitude) || len > 16) {
+            return tk_none_pair_i64_size();
+        }
+    }
+    return tk_some_pair_i64_size(tk_new_pair_i64_size(number, len));
+}
+
+/* `prefix_of_words` for the header of C, without numbers of one digit. Long ones take a call. */
+/* atoi_fast/src/short_prefix.rt:82 */
+TK_INLINE tk_option_pair_i64_size tk_prefix_by_calls_i64(uint32_t bits, tk_u128 greatest, tk_bytes s)
+{
+    uint64_t word = tk_load_full(s);
+    uint64_t lowered = tk_u64_wrapping_sub(word, TK_ZEROS);
+    uint64_t marks = (tk_u64_wrapping_add(word, UINT64_C(0x4646464646464646)) | lowered) & UINT64_C(0x8080808080808000);
+    if ((marks & 0x8000) != 0) {
+        return tk_none_pair_i64_size();
+    }
+    bool minus = true & (tk_lowest_byte(word) == '-');
+    uint64_t digits = tk_u64_wrapping_add(lowered, 3 * tk_bit(minus));
+    if (tk_lowest_byte(digits) > 9) {
+        return tk_none_pair_i64_size();
+    }
+    if (marks == 0) {
+        tk_pair_i64_size found = tk_long_by_digits_i64(minus, digits, s);
+        int64_t number = found.first;
+        size_t len = found.second;
+        if (len == 0) {
+            return tk_none_pair_i64_size();
+        }
+        return tk_narrowed_i64(bits, greatest, number, len);
+    }
+    uint32_t len = tk_u64_trailing_zeros(marks) / 8;
+    tk_option_i64 found = tk_number_in_range_i64(greatest, TK_MOST_IN_WORD, minus, tk_value_by_product(digits, len));
+    if (!found.is_some) {
+        return tk_none_pair_i64_size();
+    }
+    int64_t number = found.value;
+    return tk_some_pair_i64_size(tk_new_pair_i64_size(number, TK_CAST(size_t, len)));
+}
+
+/* atoi_fast/src/quick.rt:126 */
+TK_INLINE tk_option_pair_i64_size tk_long_field_i64(uint32_t bits, tk_u128 greatest, tk_bytes s, uint8_t separator)
+{
+    if (s.len < 16) {
+        return tk_none_pair_i64_size();
+    }
+    tk_option_pair_i64_size found = tk_prefix_by_calls_i64(bits, greatest, s);
+    if (!found.is_some) {
+        return tk_none_pair_i64_size();
+    }
+    int64_t number = found.value.first;
+    size_t len = found.value.second;
+    if (len < s.len && s.at[tk_index(len, s.len)] == separator) {
+        return tk_some_pair_i64_size(tk_new_pair_i64_size(number, len));
+    }
+    return tk_none_pair_i64_size();
+}
+
+/* `quick_prefix` for a number before this separator, also of three digits. */
+/* atoi_fast/src/quick.rt:109 */
+TK_INLINE tk_option_pair_i64_size tk_quick_field_i8_i64(tk_bytes s, uint8_t separator)
+{
+    tk_option_pair_u64_size found = tk_few_digits(s, separator);
+    if (found.is_some) {
+        uint64_t magnitude = found.value.first;
+        size_t len = found.value.second;
+        tk_option_i64 found_2 = tk_number_in_range_i64(tk_u128_of(127), 999, false, magnitude);
+        if (!found_2.is_some) {
+            return tk_none_pair_i64_size();
+        }
+        int64_t number = found_2.value;
+        return tk_some_pair_i64_size(tk_new_pair_i64_size(number, len));
+    }
+    return tk_long_field_i64(8, tk_u128_of(127), s, separator);
+}
+
+/* atoi_fast/src/short_prefix.rt:119 */
+TK_INLINE tk_pair_u64_size tk_long_by_digits_u64(bool minus, uint64_t digits, tk_bytes s)
+{
+    return tk_long_prefix_u64(minus, tk_sum_of(digits), s);
+}
+
+/* atoi_core/src/number.rt:303 */
+TK_HINTED tk_pair_bool_u128 tk_parts_u64(uint64_t self)
+{
+    return tk_new_pair_bool_u128(false, tk_u128_of(self));
+}
+
+/* atoi_fast/src/short_prefix.rt:260 */
+TK_INLINE tk_option_pair_u64_size tk_narrowed_u64(uint32_t bits, tk_u128 greatest, uint64_t number, size_t len)
+{
+    if (bits < 64) {
+        tk_pair_bool_u128 found = tk_parts_u64(number);
+        bool minus = found.first;
+        tk_u128 magnitude = found.second;
+        if (tk_u128_less(tk_u128_add(greatest, tk_u128_of(minus)), magnitude) || len > 16) {
+            return tk_none_pair_u64_size();
+        }
+    }
+    return tk_some_pair_u64_size(tk_new_pair_u64_size(number, len));
+}
+
+/* atoi_fast/src/short_prefix.rt:82 */
+TK_INLINE tk_option_pair_u64_size tk_prefix_by_calls_u64(uint32_t bits, tk_u128 greatest, tk_bytes s)
+{
+    uint64_t word = tk_load_full(s);
+    uint64_t lowered = tk_u64_wrapping_sub(word, TK_ZEROS);
+    uint64_t marks = (tk_u64_wrapping_add(word, UINT64_C(0x4646464646464646)) | lowered) & UINT64_C(0x8080808080808000);
+    if ((marks & 0x8000) != 0) {
+        return tk_none_pair_u64_size();
+    }
+    bool minus = false & (tk_lowest_byte(word) == '-');
+    uint64_t digits = tk_u64_wrapping_add(lowered, 3 * tk_bit(minus));
+    if (tk_lowest_byte(digits) > 9) {
+        return tk_none_pair_u64_size();
+    }
+    if (marks == 0) {
+        tk_pair_u64_size found = tk_long_by_digits_u64(minus, digits, s);
+        uint64_t number = found.first;
+        size_t len = found.second;
+        if (len == 0) {
+            return tk_none_pair_u64_size();
+        }
+        return tk_narrowed_u64(bits, greatest, number, len);
+    }
+    uint32_t len = tk_u64_trailing_zeros(marks) / 8;
+    tk_option_u64 found = tk_number_in_range_u64(greatest, TK_MOST_IN_WORD, minus, tk_value_by_product(digits, len));
+    if (!found.is_some) {
+        return tk_none_pair_u64_size();
+    }
+    uint64_t number = found.value;
+    return tk_some_pair_u64_size(tk_new_pair_u64_size(number, TK_CAST(size_t, len)));
+}
+
+/* atoi_fast/src/quick.rt:126 */
+TK_INLINE tk_option_pair_u64_size tk_long_field_u64(uint32_t bits, tk_u128 greatest, tk_bytes s, uint8_t separator)
+{
+    if (s.len < 16) {
+        return tk_none_pair_u64_size();
+    }
+    tk_option_pair_u64_size found = tk_prefix_by_calls_u64(bits, greatest, s);
+    if (!found.is_some) {
+        return tk_none_pair_u64_size();
+    }
+    uint64_t number = found.value.first;
+    size_t len = found.value.second;
+    if (len < s.len && s.at[tk_index(len, s.len)] == separator) {
+        return tk_some_pair_u64_size(tk_new_pair_u64_size(number, len));
+    }
+    return tk_none_pair_u64_size();
+}
+
+/* atoi_fast/src/quick.rt:109 */
+TK_INLINE tk_option_pair_u64_size tk_quick_field_u8_u64(tk_bytes s, uint8_t separator)
+{
+    tk_option_pair_u64_size found = tk_few_digits(s, separator);
+    if (found.is_some) {
+        uint64_t magnitude = found.value.first;
+        size_t len = found.value.second;
+        tk_option_u64 found_2 = tk_number_in_range_u64(tk_u128_of(255), 999, false, magnitude);
+        if (!found_2.is_some) {
+            return tk_none_pair_u64_size();
+        }
+        uint64_t number = found_2.value;
+        return tk_some_pair_u64_size(tk_new_pair_u64_size(number, len));
+    }
+    return tk_long_field_u64(8, tk_u128_of(255), s, separator);
+}
+
+/* atoi_fast/src/quick.rt:109 */
+TK_INLINE tk_option_pair_i64_size tk_quick_field_i16_i64(tk_bytes s, uint8_t separator)
+{
+    tk_option_pair_u64_size found = tk_few_digits(s, separator);
+    if (found.is_some) {
+        uint64_t magnitude = found.value.first;
+        size_t len = found.value.second;
+        tk_option_i64 found_2 = tk_number_in_range_i64(tk_u128_of(32767), 999, false, magnitude);
+        if (!found_2.is_some) {
+            return tk_none_pair_i64_size();
+        }
+        int64_t number = found_2.value;
+        return tk_some_pair_i64_size(tk_new_pair_i64_size(number, len));
+    }
+    return tk_long_field_i64(16, tk_u128_of(32767), s, separator);
+}
+
+/* atoi_fast/src/quick.rt:109 */
+TK_INLINE tk_option_pair_u64_size tk_quick_field_u16_u64(tk_bytes s, uint8_t separator)
+{
+    tk_option_pair_u64_size found = tk_few_digits(s, separator);
+    if (found.is_some) {
+        uint64_t magnitude = found.value.first;
+        size_t len = found.value.second;
+        tk_option_u64 found_2 = tk_number_in_range_u64(tk_u128_of(65535), 999, false, magnitude);
+        if (!found_2.is_some) {
+            return tk_none_pair_u64_size();
+        }
+        uint64_t number = found_2.value;
+        return tk_some_pair_u64_size(tk_new_pair_u64_size(number, len));
+    }
+    return tk_long_field_u64(16, tk_u128_of(65535), s, separator);
+}
+
+/* atoi_fast/src/quick.rt:109 */
+TK_INLINE tk_option_pair_i64_size tk_quick_field_i32_i64(tk_bytes s, uint8_t separator)
+{
+    tk_option_pair_u64_size found = tk_few_digits(s, separator);
+    if (found.is_some) {
+        uint64_t magnitude = found.value.first;
+        size_t len = found.value.second;
+        tk_option_i64 found_2 = tk_number_in_range_i64(tk_u128_of(2147483647), 999, false, magnitude);
+        if (!found_2.is_some) {
+            return tk_none_pair_i64_size();
+        }
+        int64_t number = found_2.value;
+        return tk_some_pair_i64_size(tk_new_pair_i64_size(number, len));
+    }
+    return tk_long_field_i64(32, tk_u128_of(2147483647), s, separator);
+}
+
+/* atoi_fast/src/quick.rt:109 */
+TK_INLINE tk_option_pair_u64_size tk_quick_field_u32_u64(tk_bytes s, uint8_t separator)
+{
+    tk_option_pair_u64_size found = tk_few_digits(s, separator);
+    if (found.is_some) {
+        uint64_t magnitude = found.value.first;
+        size_t len = found.value.second;
+        tk_option_u64 found_2 = tk_number_in_range_u64(tk_u128_of(UINT64_C(4294967295)), 999, false, magnitude);
+        if (!found_2.is_some) {
+            return tk_none_pair_u64_size();
+        }
+        uint64_t number = found_2.value;
+        return tk_some_pair_u64_size(tk_new_pair_u64_size(number, len));
+    }
+    return tk_long_field_u64(32, tk_u128_of(UINT64_C(4294967295)), s, separator);
+}
+
+/* atoi_fast/src/quick.rt:109 */
+TK_INLINE tk_option_pair_i64_size tk_quick_field_i64_i64(tk_bytes s, uint8_t separator)
+{
+    tk_option_pair_u64_size found = tk_few_digits(s, separator);
+    if (found.is_some) {
+        uint64_t magnitude = found.value.first;
+        size_t len = found.value.second;
+        tk_option_i64 found_2 = tk_number_in_range_i64(tk_u128_of(UINT64_C(9223372036854775807)), 999, false,
+                                                       magnitude);
+        if (!found_2.is_some) {
+            return tk_none_pair_i64_size();
+        }
+        int64_t number = found_2.value;
+        return tk_some_pair_i64_size(tk_new_pair_i64_size(number, len));
+    }
+    return tk_long_field_i64(64, tk_u128_of(UINT64_C(9223372036854775807)), s, separator);
+}
+
+/* atoi_fast/src/quick.rt:109 */
+TK_INLINE tk_option_pair_u64_size tk_quick_field_u64_u64(tk_bytes s, uint8_t separator)
+{
+    tk_option_pair_u64_size found = tk_few_digits(s, separator);
+    if (found.is_some) {
+        uint64_t magnitude = found.value.first;
+        size_t len = found.value.second;
+        tk_option_u64 found_2 = tk_number_in_range_u64(tk_u128_of(UINT64_C(18446744073709551615)), 999, false,
+                                                       magnitude);
+        if (!found_2.is_some) {
+            return tk_none_pair_u64_size();
+        }
+        uint64_t number = found_2.value;
+        return tk_some_pair_u64_size(tk_new_pair_u64_size(number, len));
+    }
+    return tk_long_field_u64(64, tk_u128_of(UINT64_C(18446744073709551615)), s, separator);
+}
+
+/* atoi_fast/src/quick.rt:109 */
+TK_INLINE tk_option_pair_i64_size tk_quick_field_i128_i64(tk_bytes s, uint8_t separator)
+{
+    tk_option_pair_u64_size found = tk_few_digits(s, separator);
+    if (found.is_some) {
+        uint64_t magnitude = found.value.first;
+        size_t len = found.value.second;
+        tk_option_i64 found_2 = tk_number_in_range_i64(tk_u128_make(UINT64_C(9223372036854775807),
+                                                                    UINT64_C(18446744073709551615)), 999, false,
+                                                                        magnitude);
+        if (!found_2.is_some) {
+            return tk_none_pair_i64_size();
+        }
+        int64_t number = found_2.value;
+        return tk_some_pair_i64_size(tk_new_pair_i64_size(number, len));
+    }
+    return tk_long_field_i64(128, tk_u128_make(UINT64_C(9223372036854775807), UINT64_C(18446744073709551615)), s,
+                             separator);
+}
+
+/* atoi_fast/src/quick.rt:109 */
+TK_INLINE tk_option_pair_u64_size tk_quick_field_u128_u64(tk_bytes s, uint8_t separator)
+{
+    tk_option_pair_u64_size found = tk_few_digits(s, separator);
+    if (found.is_some) {
+        uint64_t magnitude = found.value.first;
+        size_t len = found.value.second;
+        tk_option_u64 found_2 = tk_number_in_range_u64(tk_u128_make(UINT64_C(18446744073709551615),
+                                                                    UINT64_C(18446744073709551615)), 999, false,
+                                                                        magnitude);
+        if (!found_2.is_some) {
+            return tk_none_pair_u64_size();
+        }
+        uint64_t number = found_2.value;
+        return tk_some_pair_u64_size(tk_new_pair_u64_size(number, len));
+    }
+    return tk_long_field_u64(128, tk_u128_make(UINT64_C(18446744073709551615), UINT64_C(18446744073709551615)), s,
+                             separator);
+}
+
+/* The second and the third byte are digits. */
+/* atoi_fast/src/quick.rt:88 */
+TK_INLINE tk_option_pair_i64_size tk_three_or_more_i64(uint32_t bits, tk_u128 greatest, tk_bytes s)
+{
+    if (s.len >= 4 && !tk_u8_is_digit(s.at[3]) && tk_u8_is_digit(s.at[0])) {
+        uint8_t first = s.at[0];
+        uint8_t second = s.at[1];
+        uint8_t third = s.at[2];
+        uint64_t tens = 10 * TK_CAST(uint64_t, TK_CAST(uint8_t, first - '0')) + TK_CAST(uint64_t,
+                                                                                        TK_CAST(uint8_t, second - '0'));
+        uint64_t number = 10 * tens + TK_CAST(uint64_t, TK_CAST(uint8_t, third - '0'));
+        tk_option_i64 found = tk_number_in_range_i64(greatest, 999, false, number);
+        if (!found.is_some) {
+            return tk_none_pair_i64_size();
+        }
+        int64_t number_2 = found.value;
+        return tk_some_pair_i64_size(tk_new_pair_i64_size(number_2, 3));
+    }
+    return tk_prefix_by_calls_i64(bits, greatest, s);
+}
+
+/* A number of one digit or two. */
+/* atoi_fast/src/quick.rt:69 */
+TK_INLINE tk_option_pair_i64_size tk_two_or_less_i64(tk_bytes s)
+{
+    if (s.len >= 2 && '0' <= s.at[0] && s.at[0] <= '9' && !tk_u8_is_digit(s.at[1])) {
+        uint8_t first = s.at[0];
+        return tk_some_pair_i64_size(tk_new_pair_i64_size(tk_from_parts_i64(false,
+                                                                            tk_u128_of(TK_CAST(uint8_t, first - '0'))),
+                                                                                1));
+    }
+    if (s.len >= 3 && '0' <= s.at[0] && s.at[0] <= '9' && '0' <= s.at[1] && s.at[1] <= '9'
+        && !tk_u8_is_digit(s.at[2])) {
+        uint8_t first = s.at[0];
+        uint8_t second = s.at[1];
+        uint64_t number = 10 * TK_CAST(uint64_t, TK_CAST(uint8_t, first - '0')) + TK_CAST(uint64_t,
+                                                                                          TK_CAST(uint8_t,
+                                                                                                  second - '0'));
+        return tk_some_pair_i64_size(tk_new_pair_i64_size(tk_from_parts_i64(false, tk_u128_of(number)), 2));
+    }
+    if (s.len == 1 && '0' <= s.at[0] && s.at[0] <= '9') {
+        uint8_t first = s.at[0];
+        return tk_some_pair_i64_size(tk_new_pair_i64_size(tk_from_parts_i64(false,
+                                                                            tk_u128_of(TK_CAST(uint8_t, first - '0'))),
+                                                                                1));
+    }
+    return tk_none_pair_i64_size();
+}
+
+/*
+ * Returns the number at the start of a slice and its length, if that is one digit or two, or, in a slice of at least
+ * 16 bytes, fewer than 16 bytes. Others may be `None`, too. `W` is `i64` or `u64`.
+ */
+/* atoi_fast/src/quick.rt:51 */
+TK_INLINE tk_option_pair_i64_size tk_quick_prefix_i8_i64(tk_bytes s)
+{
+    if (s.len >= 16) {
+        if (s.len >= 3 && '0' <= s.at[1] && s.at[1] <= '9' && '0' <= s.at[2] && s.at[2] <= '9') {
+            return tk_three_or_more_i64(8, tk_u128_of(127), s);
+        }
+    }
+    return tk_two_or_less_i64(s);
+}
+
+/* atoi_fast/src/short_prefix.rt:290 */
+TK_INLINE tk_option_pair_u64_size tk_prefix_in_word_u64(tk_u128 greatest, uint64_t word, uint32_t len, tk_bytes s)
+{
+    (void)s;
+    uint64_t magnitude = tk_value_by_product(tk_u64_wrapping_sub(word, TK_ZEROS), len);
+    tk_option_u64 found = tk_number_in_range_u64(greatest, TK_MOST_IN_WORD, false, magnitude);
+    if (!found.is_some) {
+        return tk_none_pair_u64_size();
+    }
+    uint64_t number = found.value;
+    return tk_some_pair_u64_size(tk_new_pair_u64_size(number, TK_CAST(size_t, len)));
+}
+
+/* `prefix_by_calls` for an unsigned type, with a branch on few digits. */
+/* atoi_fast/src/short_prefix.rt:222 */
+TK_INLINE tk_option_pair_u64_size tk_prefix_by_length_u64(uint32_t bits, tk_u128 greatest, tk_bytes s)
+{
+    uint64_t word = tk_load_full(s);
+    uint64_t digits = tk_u64_wrapping_sub(word, TK_ZEROS);
+    uint64_t marks = (tk_u64_wrapping_add(word, UINT64_C(0x4646464646464646)) | digits) & UINT64_C(0x8080808080808080);
+    if ((marks & 0xFF) != 0) {
+        return tk_none_pair_u64_size();
+    }
+    uint64_t first = TK_CAST(uint64_t, tk_lowest_byte(digits));
+    if ((marks & 0xFFFF) != 0) {
+        return tk_some_pair_u64_size(tk_new_pair_u64_size(tk_from_parts_u64(false, tk_u128_of(first)), 1));
+    }
+    uint64_t two = 10 * first + TK_CAST(uint64_t, tk_lowest_byte(digits >> 8));
+    if ((marks & 0xFFFFFF) != 0) {
+        return tk_some_pair_u64_size(tk_new_pair_u64_size(tk_from_parts_u64(false, tk_u128_of(two)), 2));
+    }
+    if ((marks & UINT64_C(0xFFFFFFFF)) != 0) {
+        uint64_t three = 10 * two + TK_CAST(uint64_t, tk_lowest_byte(digits >> 16));
+        tk_option_u64 found = tk_number_in_range_u64(greatest, TK_MOST_IN_WORD, false, three);
+        if (!found.is_some) {
+            return tk_none_pair_u64_size();
+        }
+        uint64_t number = found.value;
+        return tk_some_pair_u64_size(tk_new_pair_u64_size(number, 3));
+    }
+    if (marks == 0) {
+        tk_pair_u64_size found = tk_long_prefix_u64(false, tk_sum_of(digits), s);
+        uint64_t number = found.first;
+        size_t len = found.second;
+        if (len == 0) {
+            return tk_none_pair_u64_size();
+        }
+        return tk_narrowed_u64(bits, greatest, number, len);
+    }
+    return tk_prefix_in_word_u64(greatest, word, tk_u64_trailing_zeros(marks) / 8, s);
+}
+
+/* atoi_fast/src/quick.rt:69 */
+TK_INLINE tk_option_pair_u64_size tk_two_or_less_u64(tk_bytes s)
+{
+    if (s.len >= 2 && '0' <= s.at[0] && s.at[0] <= '9' && !tk_u8_is_digit(s.at[1])) {
+        uint8_t first = s.at[0];
+        return tk_some_pair_u64_size(tk_new_pair_u64_size(tk_from_parts_u64(false,
+                                                                            tk_u128_of(TK_CAST(uint8_t, first - '0'))),
+                                                                                1));
+    }
+    if (s.len >= 3 && '0' <= s.at[0] && s.at[0] <= '9' && '0' <= s.at[1] && s.at[1] <= '9'
+        && !tk_u8_is_digit(s.at[2])) {
+        uint8_t first = s.at[0];
+        uint8_t second = s.at[1];
+        uint64_t number = 10 * TK_CAST(uint64_t, TK_CAST(uint8_t, first - '0')) + TK_CAST(uint64_t,
+                                                                                          TK_CAST(uint8_t,
+                                                                                                  second - '0'));
+        return tk_some_pair_u64_size(tk_new_pair_u64_size(tk_from_parts_u64(false, tk_u128_of(number)), 2));
+    }
+    if (s.len == 1 && '0' <= s.at[0] && s.at[0] <= '9') {
+        uint8_t first = s.at[0];
+        return tk_some_pair_u64_size(tk_new_pair_u64_size(tk_from_parts_u64(false,
+                                                                            tk_u128_of(TK_CAST(uint8_t, first - '0'))),
+                                                                                1));
+    }
+    return tk_none_pair_u64_size();
+}
+
+/* atoi_fast/src/quick.rt:51 */
+TK_INLINE tk_option_pair_u64_size tk_quick_prefix_u8_u64(tk_bytes s)
+{
+    if (s.len >= 16) {
+        return tk_prefix_by_length_u64(8, tk_u128_of(255), s);
+    }
+    return tk_two_or_less_u64(s);
+}
+
+/* atoi_fast/src/quick.rt:51 */
+TK_INLINE tk_option_pair_i64_size tk_quick_prefix_i16_i64(tk_bytes s)
+{
+    if (s.len >= 16) {
+        if (s.len >= 3 && '0' <= s.at[1] && s.at[1] <= '9' && '0' <= s.at[2] && s.at[2] <= '9') {
+            return tk_three_or_more_i64(16, tk_u128_of(32767), s);
+        }
+    }
+    return tk_two_or_less_i64(s);
+}
+
+/* atoi_fast/src/quick.rt:51 */
+TK_INLINE tk_option_pair_u64_size tk_quick_prefix_u16_u64(tk_bytes s)
+{
+    if (s.len >= 16) {
+        return tk_prefix_by_length_u64(16, tk_u128_of(65535), s);
+    }
+    return tk_two_or_less_u64(s);
+}
+
+/* atoi_fast/src/quick.rt:51 */
+TK_INLINE tk_option_pair_i64_size tk_quick_prefix_i32_i64(tk_bytes s)
+{
+    if (s.len >= 16) {
+        if (s.len >= 3 && '0' <= s.at[1] && s.at[1] <= '9' && '0' <= s.at[2] && s.at[2] <= '9') {
+            return tk_three_or_more_i64(32, tk_u128_of(2147483647), s);
+        }
+    }
+    return tk_two_or_less_i64(s);
+}
+
+/* atoi_fast/src/quick.rt:51 */
+TK_INLINE tk_option_pair_u64_size tk_quick_prefix_u32_u64(tk_bytes s)
+{
+    if (s.len >= 16) {
+        return tk_prefix_by_length_u64(32, tk_u128_of(UINT64_C(4294967295)), s);
+    }
+    return tk_two_or_less_u64(s);
+}
+
+/* atoi_fast/src/quick.rt:51 */
+TK_INLINE tk_option_pair_i64_size tk_quick_prefix_i64_i64(tk_bytes s)
+{
+    if (s.len >= 16) {
+        if (s.len >= 3 && '0' <= s.at[1] && s.at[1] <= '9' && '0' <= s.at[2] && s.at[2] <= '9') {
+            return tk_three_or_more_i64(64, tk_u128_of(UINT64_C(9223372036854775807)), s);
+        }
+    }
+    return tk_two_or_less_i64(s);
+}
+
+/* atoi_fast/src/quick.rt:51 */
+TK_INLINE tk_option_pair_u64_size tk_quick_prefix_u64_u64(tk_bytes s)
+{
+    if (s.len >= 16) {
+        return tk_prefix_by_length_u64(64, tk_u128_of(UINT64_C(18446744073709551615)), s);
+    }
+    return tk_two_or_less_u64(s);
+}
+
+/* atoi_fast/src/quick.rt:51 */
+TK_INLINE tk_option_pair_i64_size tk_quick_prefix_i128_i64(tk_bytes s)
+{
+    if (s.len >= 16) {
+        if (s.len >= 3 && '0' <= s.at[1] && s.at[1] <= '9' && '0' <= s.at[2] && s.at[2] <= '9') {
+            return tk_three_or_more_i64(128,
+                                        tk_u128_make(UINT64_C(9223372036854775807), UINT64_C(18446744073709551615)), s);
+        }
+    }
+    return tk_two_or_less_i64(s);
+}
+
+/* atoi_fast/src/quick.rt:51 */
+TK_INLINE tk_option_pair_u64_size tk_quick_prefix_u128_u64(tk_bytes s)
+{
+    if (s.len >= 16) {
+        return tk_prefix_by_length_u64(128,
+                                       tk_u128_make(UINT64_C(18446744073709551615), UINT64_C(18446744073709551615)), s);
+    }
+    return tk_two_or_less_u64(s);
+}
+
+/* Returns whether `byte` may separate fields: any byte except a digit, `+` or `-`. */
+/* atoi_column/src/column.rt:27 */
+TK_HINTED bool tk_is_separator(uint8_t byte)
+{
+    return !(('0' <= byte && byte <= '9') || byte == '+' || byte == '-');
+}
+
+#ifdef TK_ALL
+typedef struct tk_pair_bool_bytes {
+    bool first;
+    tk_bytes second;
+} tk_pair_bool_bytes;
+
+TK_CONSTEXPR tk_pair_bool_bytes tk_new_pair_bool_bytes(bool first, tk_bytes second)
+{
+    return TK_MAKE(tk_pair_bool_bytes, first, second);
+}
+
+typedef struct tk_option_u128 {
+    bool is_some;
+    tk_u128 value;
+} tk_option_u128;
+
+TK_CONSTEXPR tk_option_u128 tk_some_u128(tk_u128 value)
+{
+    return TK_MAKE(tk_option_u128, true, value);
+}
+
+TK_CONSTEXPR tk_option_u128 tk_none_u128(void)
+{
+    return TK_MAKE(tk_option_u128, false, tk_u128_of(0));
+}
+
+typedef struct tk_pair_u128_size {
+    tk_u128 first;
+    size_t second;
+} tk_pair_u128_size;
+
+TK_CONSTEXPR tk_pair_u128_size tk_new_pair_u128_size(tk_u128 first, size_t second)
+{
+    return TK_MAKE(tk_pair_u128_size, first, second);
+}
+
+typedef struct tk_option_pair_u128_size {
+    bool is_some;
+    tk_pair_u128_size value;
+} tk_option_pair_u128_size;
+
+TK_CONSTEXPR tk_option_pair_u128_size tk_some_pair_u128_size(tk_pair_u128_size value)
+{
+    return TK_MAKE(tk_option_pair_u128_size, true, value);
+}
+
+TK_CONSTEXPR tk_option_pair_u128_size tk_none_pair_u128_size(void)
+{
+    return TK_MAKE(tk_option_pair_u128_size, false, tk_new_pair_u128_size(tk_u128_of(0), 0));
 }
 
 typedef struct tk_pair_i8_size {
@@ -815,31 +1688,6 @@ TK_CONSTEXPR tk_option_pair_i128_size tk_none_pair_i128_size(void)
     return TK_MAKE(tk_option_pair_i128_size, false, tk_new_pair_i128_size(tk_i128_of(0), 0));
 }
 
-typedef struct tk_pair_u128_size {
-    tk_u128 first;
-    size_t second;
-} tk_pair_u128_size;
-
-TK_CONSTEXPR tk_pair_u128_size tk_new_pair_u128_size(tk_u128 first, size_t second)
-{
-    return TK_MAKE(tk_pair_u128_size, first, second);
-}
-
-typedef struct tk_option_pair_u128_size {
-    bool is_some;
-    tk_pair_u128_size value;
-} tk_option_pair_u128_size;
-
-TK_CONSTEXPR tk_option_pair_u128_size tk_some_pair_u128_size(tk_pair_u128_size value)
-{
-    return TK_MAKE(tk_option_pair_u128_size, true, value);
-}
-
-TK_CONSTEXPR tk_option_pair_u128_size tk_none_pair_u128_size(void)
-{
-    return TK_MAKE(tk_option_pair_u128_size, false, tk_new_pair_u128_size(tk_u128_of(0), 0));
-}
-
 typedef struct tk_option_i8 {
     bool is_some;
     int8_t value;
@@ -853,21 +1701,6 @@ TK_CONSTEXPR tk_option_i8 tk_some_i8(int8_t value)
 TK_CONSTEXPR tk_option_i8 tk_none_i8(void)
 {
     return TK_MAKE(tk_option_i8, false, 0);
-}
-
-typedef struct tk_option_u8 {
-    bool is_some;
-    uint8_t value;
-} tk_option_u8;
-
-TK_CONSTEXPR tk_option_u8 tk_some_u8(uint8_t value)
-{
-    return TK_MAKE(tk_option_u8, true, value);
-}
-
-TK_CONSTEXPR tk_option_u8 tk_none_u8(void)
-{
-    return TK_MAKE(tk_option_u8, false, 0);
 }
 
 typedef struct tk_option_i16 {
@@ -930,36 +1763,6 @@ TK_CONSTEXPR tk_option_u32 tk_none_u32(void)
     return TK_MAKE(tk_option_u32, false, 0);
 }
 
-typedef struct tk_option_i64 {
-    bool is_some;
-    int64_t value;
-} tk_option_i64;
-
-TK_CONSTEXPR tk_option_i64 tk_some_i64(int64_t value)
-{
-    return TK_MAKE(tk_option_i64, true, value);
-}
-
-TK_CONSTEXPR tk_option_i64 tk_none_i64(void)
-{
-    return TK_MAKE(tk_option_i64, false, 0);
-}
-
-typedef struct tk_option_u64 {
-    bool is_some;
-    uint64_t value;
-} tk_option_u64;
-
-TK_CONSTEXPR tk_option_u64 tk_some_u64(uint64_t value)
-{
-    return TK_MAKE(tk_option_u64, true, value);
-}
-
-TK_CONSTEXPR tk_option_u64 tk_none_u64(void)
-{
-    return TK_MAKE(tk_option_u64, false, 0);
-}
-
 typedef struct tk_option_i128 {
     bool is_some;
     tk_i128 value;
@@ -975,103 +1778,10 @@ TK_CONSTEXPR tk_option_i128 tk_none_i128(void)
     return TK_MAKE(tk_option_i128, false, tk_i128_of(0));
 }
 
-typedef struct tk_option_u128 {
-    bool is_some;
-    tk_u128 value;
-} tk_option_u128;
-
-TK_CONSTEXPR tk_option_u128 tk_some_u128(tk_u128 value)
-{
-    return TK_MAKE(tk_option_u128, true, value);
-}
-
-TK_CONSTEXPR tk_option_u128 tk_none_u128(void)
-{
-    return TK_MAKE(tk_option_u128, false, tk_u128_of(0));
-}
-
-typedef struct tk_pair_bool_bytes {
-    bool first;
-    tk_bytes second;
-} tk_pair_bool_bytes;
-
-TK_CONSTEXPR tk_pair_bool_bytes tk_new_pair_bool_bytes(bool first, tk_bytes second)
-{
-    return TK_MAKE(tk_pair_bool_bytes, first, second);
-}
-
-/* Indexed by how many digits there are: `sum_of`'s first factor, shifted by eight bytes less the digits. */
-static const uint64_t tk_factors[8] = {
-    0,
-    UINT64_C(2561) << 56,
-    UINT64_C(2561) << 48,
-    UINT64_C(2561) << 40,
-    UINT64_C(2561) << 32,
-    UINT64_C(2561) << 24,
-    UINT64_C(2561) << 16,
-    UINT64_C(2561) << 8,
-};
-
-#define TK_ZEROS UINT64_C(0x3030303030303030)
-
-#define TK_MOST_IN_WORD 1000000000
-
-TK_FAR tk_option_pair_i64_size tk_prefix_of_two_words_i64(bool minus, uint64_t high,
-                                                          tk_bytes s) TK_SYMBOL(tk_prefix_of_two_words_i64);
-
-TK_FAR tk_option_pair_u64_size tk_prefix_of_two_words_u64(bool minus, uint64_t high,
-                                                          tk_bytes s) TK_SYMBOL(tk_prefix_of_two_words_u64);
-
-TK_FAR tk_option_pair_i8_size tk_prefix_of_two_words_i8(bool minus, uint64_t high,
-                                                        tk_bytes s) TK_SYMBOL(tk_prefix_of_two_words_i8);
-
-TK_FAR tk_option_pair_u8_size tk_prefix_of_two_words_u8(bool minus, uint64_t high,
-                                                        tk_bytes s) TK_SYMBOL(tk_prefix_of_two_words_u8);
-
-TK_FAR tk_option_pair_i16_size tk_prefix_of_two_words_i16(bool minus, uint64_t high,
-                                                          tk_bytes s) TK_SYMBOL(tk_prefix_of_two_words_i16);
-
-TK_FAR tk_option_pair_u16_size tk_prefix_of_two_words_u16(bool minus, uint64_t high,
-                                                          tk_bytes s) TK_SYMBOL(tk_prefix_of_two_words_u16);
-
-TK_FAR tk_option_pair_i32_size tk_prefix_of_two_words_i32(bool minus, uint64_t high,
-                                                          tk_bytes s) TK_SYMBOL(tk_prefix_of_two_words_i32);
-
-TK_FAR tk_option_pair_u32_size tk_prefix_of_two_words_u32(bool minus, uint64_t high,
-                                                          tk_bytes s) TK_SYMBOL(tk_prefix_of_two_words_u32);
-
-TK_FAR tk_option_pair_i128_size tk_prefix_of_two_words_i128(bool minus, uint64_t high,
-                                                            tk_bytes s) TK_SYMBOL(tk_prefix_of_two_words_i128);
-
-TK_FAR tk_option_pair_u128_size tk_prefix_of_two_words_u128(bool minus, uint64_t high,
-                                                            tk_bytes s) TK_SYMBOL(tk_prefix_of_two_words_u128);
-
-/* atoi_core/src/number.rt:87 */
-TK_CONSTEXPR tk_i128 tk_with_sign_64(bool minus, uint64_t magnitude)
-{
-    tk_i128 number = tk_i128_of(magnitude);
-    if (minus) {
-        return tk_i128_negate(number);
-    }
-    return number;
-}
-
 /* atoi_core/src/number.rt:143 */
 TK_CONSTEXPR int8_t tk_from_parts_i8(bool minus, tk_u128 magnitude)
 {
     return TK_CAST(int8_t, tk_i128_low(tk_with_sign_64(minus, tk_u128_low(magnitude))));
-}
-
-/* Returns the number of a slice of one digit. */
-/* atoi_fast/src/quick.rt:14 */
-TK_INLINE tk_option_i8 tk_one_digit_i8(tk_bytes s)
-{
-    if (s.len == 1 && '0' <= s.at[0] && s.at[0] <= '9') {
-        uint8_t digit = s.at[0];
-        tk_u128 number = tk_u128_of(TK_CAST(uint8_t, digit - '0'));
-        return tk_some_i8(tk_from_parts_i8(false, number));
-    }
-    return tk_none_i8();
 }
 
 /* atoi_core/src/number.rt:115 */
@@ -1081,32 +1791,10 @@ TK_CONSTEXPR uint8_t tk_from_parts_u8(bool minus, tk_u128 magnitude)
     return TK_CAST(uint8_t, tk_u128_low(magnitude));
 }
 
-/* atoi_fast/src/quick.rt:14 */
-TK_INLINE tk_option_u8 tk_one_digit_u8(tk_bytes s)
-{
-    if (s.len == 1 && '0' <= s.at[0] && s.at[0] <= '9') {
-        uint8_t digit = s.at[0];
-        tk_u128 number = tk_u128_of(TK_CAST(uint8_t, digit - '0'));
-        return tk_some_u8(tk_from_parts_u8(false, number));
-    }
-    return tk_none_u8();
-}
-
 /* atoi_core/src/number.rt:207 */
 TK_CONSTEXPR int16_t tk_from_parts_i16(bool minus, tk_u128 magnitude)
 {
     return TK_CAST(int16_t, tk_i128_low(tk_with_sign_64(minus, tk_u128_low(magnitude))));
-}
-
-/* atoi_fast/src/quick.rt:14 */
-TK_INLINE tk_option_i16 tk_one_digit_i16(tk_bytes s)
-{
-    if (s.len == 1 && '0' <= s.at[0] && s.at[0] <= '9') {
-        uint8_t digit = s.at[0];
-        tk_u128 number = tk_u128_of(TK_CAST(uint8_t, digit - '0'));
-        return tk_some_i16(tk_from_parts_i16(false, number));
-    }
-    return tk_none_i16();
 }
 
 /* atoi_core/src/number.rt:179 */
@@ -1116,32 +1804,10 @@ TK_CONSTEXPR uint16_t tk_from_parts_u16(bool minus, tk_u128 magnitude)
     return TK_CAST(uint16_t, tk_u128_low(magnitude));
 }
 
-/* atoi_fast/src/quick.rt:14 */
-TK_INLINE tk_option_u16 tk_one_digit_u16(tk_bytes s)
-{
-    if (s.len == 1 && '0' <= s.at[0] && s.at[0] <= '9') {
-        uint8_t digit = s.at[0];
-        tk_u128 number = tk_u128_of(TK_CAST(uint8_t, digit - '0'));
-        return tk_some_u16(tk_from_parts_u16(false, number));
-    }
-    return tk_none_u16();
-}
-
 /* atoi_core/src/number.rt:271 */
 TK_CONSTEXPR int32_t tk_from_parts_i32(bool minus, tk_u128 magnitude)
 {
     return TK_CAST(int32_t, tk_i128_low(tk_with_sign_64(minus, tk_u128_low(magnitude))));
-}
-
-/* atoi_fast/src/quick.rt:14 */
-TK_INLINE tk_option_i32 tk_one_digit_i32(tk_bytes s)
-{
-    if (s.len == 1 && '0' <= s.at[0] && s.at[0] <= '9') {
-        uint8_t digit = s.at[0];
-        tk_u128 number = tk_u128_of(TK_CAST(uint8_t, digit - '0'));
-        return tk_some_i32(tk_from_parts_i32(false, number));
-    }
-    return tk_none_i32();
 }
 
 /* atoi_core/src/number.rt:243 */
@@ -1149,52 +1815,6 @@ TK_CONSTEXPR uint32_t tk_from_parts_u32(bool minus, tk_u128 magnitude)
 {
     (void)minus;
     return TK_CAST(uint32_t, tk_u128_low(magnitude));
-}
-
-/* atoi_fast/src/quick.rt:14 */
-TK_INLINE tk_option_u32 tk_one_digit_u32(tk_bytes s)
-{
-    if (s.len == 1 && '0' <= s.at[0] && s.at[0] <= '9') {
-        uint8_t digit = s.at[0];
-        tk_u128 number = tk_u128_of(TK_CAST(uint8_t, digit - '0'));
-        return tk_some_u32(tk_from_parts_u32(false, number));
-    }
-    return tk_none_u32();
-}
-
-/* atoi_core/src/number.rt:335 */
-TK_CONSTEXPR int64_t tk_from_parts_i64(bool minus, tk_u128 magnitude)
-{
-    return TK_CAST(int64_t, tk_i128_low(tk_with_sign_64(minus, tk_u128_low(magnitude))));
-}
-
-/* atoi_fast/src/quick.rt:14 */
-TK_INLINE tk_option_i64 tk_one_digit_i64(tk_bytes s)
-{
-    if (s.len == 1 && '0' <= s.at[0] && s.at[0] <= '9') {
-        uint8_t digit = s.at[0];
-        tk_u128 number = tk_u128_of(TK_CAST(uint8_t, digit - '0'));
-        return tk_some_i64(tk_from_parts_i64(false, number));
-    }
-    return tk_none_i64();
-}
-
-/* atoi_core/src/number.rt:307 */
-TK_CONSTEXPR uint64_t tk_from_parts_u64(bool minus, tk_u128 magnitude)
-{
-    (void)minus;
-    return tk_u128_low(magnitude);
-}
-
-/* atoi_fast/src/quick.rt:14 */
-TK_INLINE tk_option_u64 tk_one_digit_u64(tk_bytes s)
-{
-    if (s.len == 1 && '0' <= s.at[0] && s.at[0] <= '9') {
-        uint8_t digit = s.at[0];
-        tk_u128 number = tk_u128_of(TK_CAST(uint8_t, digit - '0'));
-        return tk_some_u64(tk_from_parts_u64(false, number));
-    }
-    return tk_none_u64();
 }
 
 /* atoi_core/src/number.rt:399 */
@@ -1209,1608 +1829,11 @@ TK_CONSTEXPR tk_i128 tk_from_parts_i128(bool minus, tk_u128 magnitude)
     return tk_i128_negate(tk_u128_as_i128(magnitude));
 }
 
-/* atoi_fast/src/quick.rt:14 */
-TK_INLINE tk_option_i128 tk_one_digit_i128(tk_bytes s)
-{
-    if (s.len == 1 && '0' <= s.at[0] && s.at[0] <= '9') {
-        uint8_t digit = s.at[0];
-        tk_u128 number = tk_u128_of(TK_CAST(uint8_t, digit - '0'));
-        return tk_some_i128(tk_from_parts_i128(false, number));
-    }
-    return tk_none_i128();
-}
-
 /* atoi_core/src/number.rt:371 */
 TK_CONSTEXPR tk_u128 tk_from_parts_u128(bool minus, tk_u128 magnitude)
 {
     (void)minus;
     return magnitude;
-}
-
-/* atoi_fast/src/quick.rt:14 */
-TK_INLINE tk_option_u128 tk_one_digit_u128(tk_bytes s)
-{
-    if (s.len == 1 && '0' <= s.at[0] && s.at[0] <= '9') {
-        uint8_t digit = s.at[0];
-        tk_u128 number = tk_u128_of(TK_CAST(uint8_t, digit - '0'));
-        return tk_some_u128(tk_from_parts_u128(false, number));
-    }
-    return tk_none_u128();
-}
-
-/* `sum_of` after its first product. A small product joins the two sums of four digits. */
-/* atoi_fast/src/digits.rt:123 */
-TK_HINTED uint64_t tk_sum_of_product(uint64_t product)
-{
-    uint64_t tens = (product >> 8) & UINT64_C(0x00FF00FF00FF00FF);
-    uint64_t hundreds = tk_u64_wrapping_mul(tens, 0x640001);
-    return ((hundreds >> 16) & 0xFFFF) * 10000 + (hundreds >> 48);
-}
-
-/* `process_8` for bytes below 16. */
-/* atoi_fast/src/digits.rt:113 */
-TK_HINTED uint64_t tk_sum_of(uint64_t digits)
-{
-    return tk_sum_of_product(tk_u64_wrapping_mul(digits, 0xA01));
-}
-
-/*
- * Returns the number of this sign and magnitude, if the type has it. The magnitude is at most `most`, a
- * constant: a type that has all numbers up to it needs no other test.
- */
-/* atoi_fast/src/in_range.rt:20 */
-TK_INLINE tk_option_i8 tk_number_in_range_i8(uint64_t most, bool minus, uint64_t magnitude)
-{
-    if (tk_u128_less(tk_u128_of(127), tk_u128_of(most)) && magnitude > tk_u128_low(tk_u128_of(127)) + tk_bit(minus)) {
-        return tk_none_i8();
-    }
-    return tk_some_i8(tk_from_parts_i8(minus, tk_u128_of(magnitude)));
-}
-
-/* Returns the word of the first 8 bytes. */
-/* atoi_fast/src/loads.rt:111 */
-TK_HINTED uint64_t tk_load_full(tk_bytes s)
-{
-    if (s.len >= 8) {
-        const uint8_t *first = s.at;
-        return tk_u64_load(first);
-    }
-    return 0;
-}
-
-/* atoi_fast/src/in_range.rt:20 */
-TK_INLINE tk_option_u8 tk_number_in_range_u8(uint64_t most, bool minus, uint64_t magnitude)
-{
-    if (tk_u128_less(tk_u128_of(255), tk_u128_of(most)) && magnitude > tk_u128_low(tk_u128_of(255)) + tk_bit(minus)) {
-        return tk_none_u8();
-    }
-    return tk_some_u8(tk_from_parts_u8(minus, tk_u128_of(magnitude)));
-}
-
-/* atoi_fast/src/in_range.rt:20 */
-TK_INLINE tk_option_i16 tk_number_in_range_i16(uint64_t most, bool minus, uint64_t magnitude)
-{
-    if (tk_u128_less(tk_u128_of(32767), tk_u128_of(most))
-        && magnitude > tk_u128_low(tk_u128_of(32767)) + tk_bit(minus)) {
-        return tk_none_i16();
-    }
-    return tk_some_i16(tk_from_parts_i16(minus, tk_u128_of(magnitude)));
-}
-
-/* atoi_fast/src/in_range.rt:20 */
-TK_INLINE tk_option_u16 tk_number_in_range_u16(uint64_t most, bool minus, uint64_t magnitude)
-{
-    if (tk_u128_less(tk_u128_of(65535), tk_u128_of(most))
-        && magnitude > tk_u128_low(tk_u128_of(65535)) + tk_bit(minus)) {
-        return tk_none_u16();
-    }
-    return tk_some_u16(tk_from_parts_u16(minus, tk_u128_of(magnitude)));
-}
-
-/* atoi_fast/src/in_range.rt:20 */
-TK_INLINE tk_option_i32 tk_number_in_range_i32(uint64_t most, bool minus, uint64_t magnitude)
-{
-    if (tk_u128_less(tk_u128_of(2147483647), tk_u128_of(most))
-        && magnitude > tk_u128_low(tk_u128_of(2147483647)) + tk_bit(minus)) {
-        return tk_none_i32();
-    }
-    return tk_some_i32(tk_from_parts_i32(minus, tk_u128_of(magnitude)));
-}
-
-/* atoi_fast/src/in_range.rt:20 */
-TK_INLINE tk_option_u32 tk_number_in_range_u32(uint64_t most, bool minus, uint64_t magnitude)
-{
-    if (tk_u128_less(tk_u128_of(UINT64_C(4294967295)), tk_u128_of(most))
-        && magnitude > tk_u128_low(tk_u128_of(UINT64_C(4294967295))) + tk_bit(minus)) {
-        return tk_none_u32();
-    }
-    return tk_some_u32(tk_from_parts_u32(minus, tk_u128_of(magnitude)));
-}
-
-/* atoi_fast/src/in_range.rt:20 */
-TK_INLINE tk_option_i64 tk_number_in_range_i64(uint64_t most, bool minus, uint64_t magnitude)
-{
-    if (tk_u128_less(tk_u128_of(UINT64_C(9223372036854775807)), tk_u128_of(most))
-        && magnitude > tk_u128_low(tk_u128_of(UINT64_C(9223372036854775807))) + tk_bit(minus)) {
-        return tk_none_i64();
-    }
-    return tk_some_i64(tk_from_parts_i64(minus, tk_u128_of(magnitude)));
-}
-
-/* atoi_fast/src/in_range.rt:20 */
-TK_INLINE tk_option_u64 tk_number_in_range_u64(uint64_t most, bool minus, uint64_t magnitude)
-{
-    if (tk_u128_less(tk_u128_of(UINT64_C(18446744073709551615)), tk_u128_of(most))
-        && magnitude > tk_u128_low(tk_u128_of(UINT64_C(18446744073709551615))) + tk_bit(minus)) {
-        return tk_none_u64();
-    }
-    return tk_some_u64(tk_from_parts_u64(minus, tk_u128_of(magnitude)));
-}
-
-/* atoi_fast/src/in_range.rt:20 */
-TK_INLINE tk_option_i128 tk_number_in_range_i128(uint64_t most, bool minus, uint64_t magnitude)
-{
-    if (tk_u128_less(tk_u128_make(UINT64_C(9223372036854775807), UINT64_C(18446744073709551615)), tk_u128_of(most))
-        && magnitude > tk_u128_low(tk_u128_make(UINT64_C(9223372036854775807),
-                                                UINT64_C(18446744073709551615))) + tk_bit(minus)) {
-        return tk_none_i128();
-    }
-    return tk_some_i128(tk_from_parts_i128(minus, tk_u128_of(magnitude)));
-}
-
-/* atoi_fast/src/in_range.rt:20 */
-TK_INLINE tk_option_u128 tk_number_in_range_u128(uint64_t most, bool minus, uint64_t magnitude)
-{
-    if (tk_u128_less(tk_u128_make(UINT64_C(18446744073709551615), UINT64_C(18446744073709551615)), tk_u128_of(most))
-        && magnitude > tk_u128_low(tk_u128_make(UINT64_C(18446744073709551615),
-                                                UINT64_C(18446744073709551615))) + tk_bit(minus)) {
-        return tk_none_u128();
-    }
-    return tk_some_u128(tk_from_parts_u128(minus, tk_u128_of(magnitude)));
-}
-
-/* atoi_fast/src/short_prefix.rt:80 */
-TK_HINTED uint8_t tk_lowest_byte(uint64_t word)
-{
-    return TK_CAST(uint8_t, word & 0xFF);
-}
-
-/* Returns the number of the lowest `len` bytes of `digits`, which are digits minus 48. */
-/* atoi_fast/src/digits.rt:145 */
-TK_HINTED uint64_t tk_value_by_product(uint64_t digits, uint32_t len)
-{
-    return tk_sum_of_product(tk_u64_wrapping_mul(digits, tk_factors[tk_index(TK_CAST(size_t, len), 8)]));
-}
-
-/*
- * Returns the number at the start of `s` and its length, if that is below 16 or, for `i64` and `u64`, at most 19
- * digits. Others may be `None`, too.
- */
-/* atoi_fast/src/short_prefix.rt:46 */
-TK_INLINE tk_option_pair_i64_size tk_prefix_of_words_i64(tk_bytes s)
-{
-    uint64_t word = tk_load_full(s);
-    /* A `-` borrows from the next byte, so that a `0` there looks like no digit. */
-    uint64_t above = tk_u64_wrapping_add(word, UINT64_C(0x4646464646464646));
-    uint64_t below = tk_u64_wrapping_sub(word, TK_ZEROS);
-    uint64_t marks = (above | below) & UINT64_C(0x8080808080808000);
-    if ((marks & 0x8000) != 0) {
-        /* Many texts have mostly one digit: the next load waits for nothing. */
-        uint8_t digit = tk_lowest_byte(below);
-        if (digit > 9) {
-            return tk_none_pair_i64_size();
-        }
-        return tk_some_pair_i64_size(tk_new_pair_i64_size(tk_from_parts_i64(false, tk_u128_of(digit)), 1));
-    }
-    bool minus = true & (tk_lowest_byte(word) == '-');
-    /* The digit of a `-` is 0, and takes the borrow back. */
-    uint64_t digits = tk_u64_wrapping_add(below, 3 * tk_bit(minus));
-    if (tk_lowest_byte(digits) > 9) {
-        return tk_none_pair_i64_size();
-    }
-    if (marks == 0) {
-        /* With `return` of the call, clang++ 19 returns all lengths in memory: 1.23 of the time. */
-        tk_option_pair_i64_size found = tk_prefix_of_two_words_i64(minus, tk_sum_of(digits), s);
-        if (!found.is_some) {
-            return tk_none_pair_i64_size();
-        }
-        tk_pair_i64_size found_2 = found.value;
-        return tk_some_pair_i64_size(found_2);
-    }
-    uint32_t len = tk_u64_trailing_zeros(marks) / 8;
-    tk_option_i64 found = tk_number_in_range_i64(TK_MOST_IN_WORD, minus, tk_value_by_product(digits, len));
-    if (!found.is_some) {
-        return tk_none_pair_i64_size();
-    }
-    int64_t number = found.value;
-    return tk_some_pair_i64_size(tk_new_pair_i64_size(number, TK_CAST(size_t, len)));
-}
-
-/* atoi_fast/src/short_prefix.rt:46 */
-TK_INLINE tk_option_pair_u64_size tk_prefix_of_words_u64(tk_bytes s)
-{
-    uint64_t word = tk_load_full(s);
-    /* A `-` borrows from the next byte, so that a `0` there looks like no digit. */
-    uint64_t above = tk_u64_wrapping_add(word, UINT64_C(0x4646464646464646));
-    uint64_t below = tk_u64_wrapping_sub(word, TK_ZEROS);
-    uint64_t marks = (above | below) & UINT64_C(0x8080808080808000);
-    if ((marks & 0x8000) != 0) {
-        /* Many texts have mostly one digit: the next load waits for nothing. */
-        uint8_t digit = tk_lowest_byte(below);
-        if (digit > 9) {
-            return tk_none_pair_u64_size();
-        }
-        return tk_some_pair_u64_size(tk_new_pair_u64_size(tk_from_parts_u64(false, tk_u128_of(digit)), 1));
-    }
-    bool minus = false & (tk_lowest_byte(word) == '-');
-    /* The digit of a `-` is 0, and takes the borrow back. */
-    uint64_t digits = tk_u64_wrapping_add(below, 3 * tk_bit(minus));
-    if (tk_lowest_byte(digits) > 9) {
-        return tk_none_pair_u64_size();
-    }
-    if (marks == 0) {
-        /* With `return` of the call, clang++ 19 returns all lengths in memory: 1.23 of the time. */
-        tk_option_pair_u64_size found = tk_prefix_of_two_words_u64(minus, tk_sum_of(digits), s);
-        if (!found.is_some) {
-            return tk_none_pair_u64_size();
-        }
-        tk_pair_u64_size found_2 = found.value;
-        return tk_some_pair_u64_size(found_2);
-    }
-    uint32_t len = tk_u64_trailing_zeros(marks) / 8;
-    tk_option_u64 found = tk_number_in_range_u64(TK_MOST_IN_WORD, minus, tk_value_by_product(digits, len));
-    if (!found.is_some) {
-        return tk_none_pair_u64_size();
-    }
-    uint64_t number = found.value;
-    return tk_some_pair_u64_size(tk_new_pair_u64_size(number, TK_CAST(size_t, len)));
-}
-
-/* atoi_fast/src/quick.rt:153 */
-TK_HINTED tk_option_u64 tk_digit_of(uint8_t byte)
-{
-    if ('0' <= byte && byte <= '9') {
-        return tk_some_u64(TK_CAST(uint64_t, TK_CAST(uint8_t, byte - '0')));
-    }
-    return tk_none_u64();
-}
-
-/* One to three digits before a separator: their value and length. */
-/* atoi_fast/src/quick.rt:131 */
-TK_INLINE tk_option_pair_u64_size tk_few_digits(tk_bytes s, uint8_t separator)
-{
-    if (s.len >= 2 && s.at[1] == separator) {
-        uint8_t first = s.at[0];
-        tk_option_u64 found = tk_digit_of(first);
-        if (!found.is_some) {
-            return tk_none_pair_u64_size();
-        }
-        return tk_some_pair_u64_size(tk_new_pair_u64_size(found.value, 1));
-    }
-    if (s.len >= 3 && s.at[2] == separator) {
-        uint8_t first = s.at[0];
-        uint8_t second = s.at[1];
-        tk_option_u64 found = tk_digit_of(first);
-        if (!found.is_some) {
-            return tk_none_pair_u64_size();
-        }
-        uint64_t tens = found.value;
-        tk_option_u64 found_2 = tk_digit_of(second);
-        if (!found_2.is_some) {
-            return tk_none_pair_u64_size();
-        }
-        return tk_some_pair_u64_size(tk_new_pair_u64_size(10 * tens + found_2.value, 2));
-    }
-    if (s.len >= 4 && s.at[3] == separator) {
-        uint8_t first = s.at[0];
-        uint8_t second = s.at[1];
-        uint8_t third = s.at[2];
-        tk_option_u64 found = tk_digit_of(first);
-        if (!found.is_some) {
-            return tk_none_pair_u64_size();
-        }
-        uint64_t hundreds = found.value;
-        tk_option_u64 found_2 = tk_digit_of(second);
-        if (!found_2.is_some) {
-            return tk_none_pair_u64_size();
-        }
-        uint64_t tens = found_2.value;
-        tk_option_u64 found_3 = tk_digit_of(third);
-        if (!found_3.is_some) {
-            return tk_none_pair_u64_size();
-        }
-        return tk_some_pair_u64_size(tk_new_pair_u64_size(100 * hundreds + 10 * tens + found_3.value, 3));
-    }
-    return tk_none_pair_u64_size();
-}
-
-/* atoi_fast/src/short_prefix.rt:46 */
-TK_INLINE tk_option_pair_i8_size tk_prefix_of_words_i8(tk_bytes s)
-{
-    uint64_t word = tk_load_full(s);
-    /* A `-` borrows from the next byte, so that a `0` there looks like no digit. */
-    uint64_t above = tk_u64_wrapping_add(word, UINT64_C(0x4646464646464646));
-    uint64_t below = tk_u64_wrapping_sub(word, TK_ZEROS);
-    uint64_t marks = (above | below) & UINT64_C(0x8080808080808000);
-    if ((marks & 0x8000) != 0) {
-        /* Many texts have mostly one digit: the next load waits for nothing. */
-        uint8_t digit = tk_lowest_byte(below);
-        if (digit > 9) {
-            return tk_none_pair_i8_size();
-        }
-        return tk_some_pair_i8_size(tk_new_pair_i8_size(tk_from_parts_i8(false, tk_u128_of(digit)), 1));
-    }
-    bool minus = true & (tk_lowest_byte(word) == '-');
-    /* The digit of a `-` is 0, and takes the borrow back. */
-    uint64_t digits = tk_u64_wrapping_add(below, 3 * tk_bit(minus));
-    if (tk_lowest_byte(digits) > 9) {
-        return tk_none_pair_i8_size();
-    }
-    if (marks == 0) {
-        /* With `return` of the call, clang++ 19 returns all lengths in memory: 1.23 of the time. */
-        tk_option_pair_i8_size found = tk_prefix_of_two_words_i8(minus, tk_sum_of(digits), s);
-        if (!found.is_some) {
-            return tk_none_pair_i8_size();
-        }
-        tk_pair_i8_size found_2 = found.value;
-        return tk_some_pair_i8_size(found_2);
-    }
-    uint32_t len = tk_u64_trailing_zeros(marks) / 8;
-    tk_option_i8 found = tk_number_in_range_i8(TK_MOST_IN_WORD, minus, tk_value_by_product(digits, len));
-    if (!found.is_some) {
-        return tk_none_pair_i8_size();
-    }
-    int8_t number = found.value;
-    return tk_some_pair_i8_size(tk_new_pair_i8_size(number, TK_CAST(size_t, len)));
-}
-
-/* Like `quick_prefix`, but finds only a number before this separator, also of three digits in a short slice. */
-/* atoi_fast/src/quick.rt:109 */
-TK_INLINE tk_option_pair_i8_size tk_quick_field_i8(tk_bytes s, uint8_t separator)
-{
-    tk_option_pair_u64_size found = tk_few_digits(s, separator);
-    if (found.is_some) {
-        uint64_t magnitude = found.value.first;
-        size_t len = found.value.second;
-        tk_option_i8 found_2 = tk_number_in_range_i8(999, false, magnitude);
-        if (!found_2.is_some) {
-            return tk_none_pair_i8_size();
-        }
-        int8_t number = found_2.value;
-        return tk_some_pair_i8_size(tk_new_pair_i8_size(number, len));
-    }
-    if (s.len < 16) {
-        return tk_none_pair_i8_size();
-    }
-    tk_option_pair_i8_size found_2 = tk_prefix_of_words_i8(s);
-    if (!found_2.is_some) {
-        return tk_none_pair_i8_size();
-    }
-    int8_t number = found_2.value.first;
-    size_t len = found_2.value.second;
-    if (len < s.len && s.at[tk_index(len, s.len)] == separator) {
-        return tk_some_pair_i8_size(tk_new_pair_i8_size(number, len));
-    }
-    return tk_none_pair_i8_size();
-}
-
-/* atoi_fast/src/short_prefix.rt:46 */
-TK_INLINE tk_option_pair_u8_size tk_prefix_of_words_u8(tk_bytes s)
-{
-    uint64_t word = tk_load_full(s);
-    /* A `-` borrows from the next byte, so that a `0` there looks like no digit. */
-    uint64_t above = tk_u64_wrapping_add(word, UINT64_C(0x4646464646464646));
-    uint64_t below = tk_u64_wrapping_sub(word, TK_ZEROS);
-    uint64_t marks = (above | below) & UINT64_C(0x8080808080808000);
-    if ((marks & 0x8000) != 0) {
-        /* Many texts have mostly one digit: the next load waits for nothing. */
-        uint8_t digit = tk_lowest_byte(below);
-        if (digit > 9) {
-            return tk_none_pair_u8_size();
-        }
-        return tk_some_pair_u8_size(tk_new_pair_u8_size(tk_from_parts_u8(false, tk_u128_of(digit)), 1));
-    }
-    bool minus = false & (tk_lowest_byte(word) == '-');
-    /* The digit of a `-` is 0, and takes the borrow back. */
-    uint64_t digits = tk_u64_wrapping_add(below, 3 * tk_bit(minus));
-    if (tk_lowest_byte(digits) > 9) {
-        return tk_none_pair_u8_size();
-    }
-    if (marks == 0) {
-        /* With `return` of the call, clang++ 19 returns all lengths in memory: 1.23 of the time. */
-        tk_option_pair_u8_size found = tk_prefix_of_two_words_u8(minus, tk_sum_of(digits), s);
-        if (!found.is_some) {
-            return tk_none_pair_u8_size();
-        }
-        tk_pair_u8_size found_2 = found.value;
-        return tk_some_pair_u8_size(found_2);
-    }
-    uint32_t len = tk_u64_trailing_zeros(marks) / 8;
-    tk_option_u8 found = tk_number_in_range_u8(TK_MOST_IN_WORD, minus, tk_value_by_product(digits, len));
-    if (!found.is_some) {
-        return tk_none_pair_u8_size();
-    }
-    uint8_t number = found.value;
-    return tk_some_pair_u8_size(tk_new_pair_u8_size(number, TK_CAST(size_t, len)));
-}
-
-/* atoi_fast/src/quick.rt:109 */
-TK_INLINE tk_option_pair_u8_size tk_quick_field_u8(tk_bytes s, uint8_t separator)
-{
-    tk_option_pair_u64_size found = tk_few_digits(s, separator);
-    if (found.is_some) {
-        uint64_t magnitude = found.value.first;
-        size_t len = found.value.second;
-        tk_option_u8 found_2 = tk_number_in_range_u8(999, false, magnitude);
-        if (!found_2.is_some) {
-            return tk_none_pair_u8_size();
-        }
-        uint8_t number = found_2.value;
-        return tk_some_pair_u8_size(tk_new_pair_u8_size(number, len));
-    }
-    if (s.len < 16) {
-        return tk_none_pair_u8_size();
-    }
-    tk_option_pair_u8_size found_2 = tk_prefix_of_words_u8(s);
-    if (!found_2.is_some) {
-        return tk_none_pair_u8_size();
-    }
-    uint8_t number = found_2.value.first;
-    size_t len = found_2.value.second;
-    if (len < s.len && s.at[tk_index(len, s.len)] == separator) {
-        return tk_some_pair_u8_size(tk_new_pair_u8_size(number, len));
-    }
-    return tk_none_pair_u8_size();
-}
-
-/* atoi_fast/src/short_prefix.rt:46 */
-TK_INLINE tk_option_pair_i16_size tk_prefix_of_words_i16(tk_bytes s)
-{
-    uint64_t word = tk_load_full(s);
-    /* A `-` borrows from the next byte, so that a `0` there looks like no digit. */
-    uint64_t above = tk_u64_wrapping_add(word, UINT64_C(0x4646464646464646));
-    uint64_t below = tk_u64_wrapping_sub(word, TK_ZEROS);
-    uint64_t marks = (above | below) & UINT64_C(0x8080808080808000);
-    if ((marks & 0x8000) != 0) {
-        /* Many texts have mostly one digit: the next load waits for nothing. */
-        uint8_t digit = tk_lowest_byte(below);
-        if (digit > 9) {
-            return tk_none_pair_i16_size();
-        }
-        return tk_some_pair_i16_size(tk_new_pair_i16_size(tk_from_parts_i16(false, tk_u128_of(digit)), 1));
-    }
-    bool minus = true & (tk_lowest_byte(word) == '-');
-    /* The digit of a `-` is 0, and takes the borrow back. */
-    uint64_t digits = tk_u64_wrapping_add(below, 3 * tk_bit(minus));
-    if (tk_lowest_byte(digits) > 9) {
-        return tk_none_pair_i16_size();
-    }
-    if (marks == 0) {
-        /* With `return` of the call, clang++ 19 returns all lengths in memory: 1.23 of the time. */
-        tk_option_pair_i16_size found = tk_prefix_of_two_words_i16(minus, tk_sum_of(digits), s);
-        if (!found.is_some) {
-            return tk_none_pair_i16_size();
-        }
-        tk_pair_i16_size found_2 = found.value;
-        return tk_some_pair_i16_size(found_2);
-    }
-    uint32_t len = tk_u64_trailing_zeros(marks) / 8;
-    tk_option_i16 found = tk_number_in_range_i16(TK_MOST_IN_WORD, minus, tk_value_by_product(digits, len));
-    if (!found.is_some) {
-        return tk_none_pair_i16_size();
-    }
-    int16_t number = found.value;
-    return tk_some_pair_i16_size(tk_new_pair_i16_size(number, TK_CAST(size_t, len)));
-}
-
-/* atoi_fast/src/quick.rt:109 */
-TK_INLINE tk_option_pair_i16_size tk_quick_field_i16(tk_bytes s, uint8_t separator)
-{
-    tk_option_pair_u64_size found = tk_few_digits(s, separator);
-    if (found.is_some) {
-        uint64_t magnitude = found.value.first;
-        size_t len = found.value.second;
-        tk_option_i16 found_2 = tk_number_in_range_i16(999, false, magnitude);
-        if (!found_2.is_some) {
-            return tk_none_pair_i16_size();
-        }
-        int16_t number = found_2.value;
-        return tk_some_pair_i16_size(tk_new_pair_i16_size(number, len));
-    }
-    if (s.len < 16) {
-        return tk_none_pair_i16_size();
-    }
-    tk_option_pair_i16_size found_2 = tk_prefix_of_words_i16(s);
-    if (!found_2.is_some) {
-        return tk_none_pair_i16_size();
-    }
-    int16_t number = found_2.value.first;
-    size_t len = found_2.value.second;
-    if (len < s.len && s.at[tk_index(len, s.len)] == separator) {
-        return tk_some_pair_i16_size(tk_new_pair_i16_size(number, len));
-    }
-    return tk_none_pair_i16_size();
-}
-
-/* atoi_fast/src/short_prefix.rt:46 */
-TK_INLINE tk_option_pair_u16_size tk_prefix_of_words_u16(tk_bytes s)
-{
-    uint64_t word = tk_load_full(s);
-    /* A `-` borrows from the next byte, so that a `0` there looks like no digit. */
-    uint64_t above = tk_u64_wrapping_add(word, UINT64_C(0x4646464646464646));
-    uint64_t below = tk_u64_wrapping_sub(word, TK_ZEROS);
-    uint64_t marks = (above | below) & UINT64_C(0x8080808080808000);
-    if ((marks & 0x8000) != 0) {
-        /* Many texts have mostly one digit: the next load waits for nothing. */
-        uint8_t digit = tk_lowest_byte(below);
-        if (digit > 9) {
-            return tk_none_pair_u16_size();
-        }
-        return tk_some_pair_u16_size(tk_new_pair_u16_size(tk_from_parts_u16(false, tk_u128_of(digit)), 1));
-    }
-    bool minus = false & (tk_lowest_byte(word) == '-');
-    /* The digit of a `-` is 0, and takes the borrow back. */
-    uint64_t digits = tk_u64_wrapping_add(below, 3 * tk_bit(minus));
-    if (tk_lowest_byte(digits) > 9) {
-        return tk_none_pair_u16_size();
-    }
-    if (marks == 0) {
-        /* With `return` of the call, clang++ 19 returns all lengths in memory: 1.23 of the time. */
-        tk_option_pair_u16_size found = tk_prefix_of_two_words_u16(minus, tk_sum_of(digits), s);
-        if (!found.is_some) {
-            return tk_none_pair_u16_size();
-        }
-        tk_pair_u16_size found_2 = found.value;
-        return tk_some_pair_u16_size(found_2);
-    }
-    uint32_t len = tk_u64_trailing_zeros(marks) / 8;
-    tk_option_u16 found = tk_number_in_range_u16(TK_MOST_IN_WORD, minus, tk_value_by_product(digits, len));
-    if (!found.is_some) {
-        return tk_none_pair_u16_size();
-    }
-    uint16_t number = found.value;
-    return tk_some_pair_u16_size(tk_new_pair_u16_size(number, TK_CAST(size_t, len)));
-}
-
-/* atoi_fast/src/quick.rt:109 */
-TK_INLINE tk_option_pair_u16_size tk_quick_field_u16(tk_bytes s, uint8_t separator)
-{
-    tk_option_pair_u64_size found = tk_few_digits(s, separator);
-    if (found.is_some) {
-        uint64_t magnitude = found.value.first;
-        size_t len = found.value.second;
-        tk_option_u16 found_2 = tk_number_in_range_u16(999, false, magnitude);
-        if (!found_2.is_some) {
-            return tk_none_pair_u16_size();
-        }
-        uint16_t number = found_2.value;
-        return tk_some_pair_u16_size(tk_new_pair_u16_size(number, len));
-    }
-    if (s.len < 16) {
-        return tk_none_pair_u16_size();
-    }
-    tk_option_pair_u16_size found_2 = tk_prefix_of_words_u16(s);
-    if (!found_2.is_some) {
-        return tk_none_pair_u16_size();
-    }
-    uint16_t number = found_2.value.first;
-    size_t len = found_2.value.second;
-    if (len < s.len && s.at[tk_index(len, s.len)] == separator) {
-        return tk_some_pair_u16_size(tk_new_pair_u16_size(number, len));
-    }
-    return tk_none_pair_u16_size();
-}
-
-/* atoi_fast/src/short_prefix.rt:46 */
-TK_INLINE tk_option_pair_i32_size tk_prefix_of_words_i32(tk_bytes s)
-{
-    uint64_t word = tk_load_full(s);
-    /* A `-` borrows from the next byte, so that a `0` there looks like no digit. */
-    uint64_t above = tk_u64_wrapping_add(word, UINT64_C(0x4646464646464646));
-    uint64_t below = tk_u64_wrapping_sub(word, TK_ZEROS);
-    uint64_t marks = (above | below) & UINT64_C(0x8080808080808000);
-    if ((marks & 0x8000) != 0) {
-        /* Many texts have mostly one digit: the next load waits for nothing. */
-        uint8_t digit = tk_lowest_byte(below);
-        if (digit > 9) {
-            return tk_none_pair_i32_size();
-        }
-        return tk_some_pair_i32_size(tk_new_pair_i32_size(tk_from_parts_i32(false, tk_u128_of(digit)), 1));
-    }
-    bool minus = true & (tk_lowest_byte(word) == '-');
-    /* The digit of a `-` is 0, and takes the borrow back. */
-    uint64_t digits = tk_u64_wrapping_add(below, 3 * tk_bit(minus));
-    if (tk_lowest_byte(digits) > 9) {
-        return tk_none_pair_i32_size();
-    }
-    if (marks == 0) {
-        /* With `return` of the call, clang++ 19 returns all lengths in memory: 1.23 of the time. */
-        tk_option_pair_i32_size found = tk_prefix_of_two_words_i32(minus, tk_sum_of(digits), s);
-        if (!found.is_some) {
-            return tk_none_pair_i32_size();
-        }
-        tk_pair_i32_size found_2 = found.value;
-        return tk_some_pair_i32_size(found_2);
-    }
-    uint32_t len = tk_u64_trailing_zeros(marks) / 8;
-    tk_option_i32 found = tk_number_in_range_i32(TK_MOST_IN_WORD, minus, tk_value_by_product(digits, len));
-    if (!found.is_some) {
-        return tk_none_pair_i32_size();
-    }
-    int32_t number = found.value;
-    return tk_some_pair_i32_size(tk_new_pair_i32_size(number, TK_CAST(size_t, len)));
-}
-
-/* atoi_fast/src/quick.rt:109 */
-TK_INLINE tk_option_pair_i32_size tk_quick_field_i32(tk_bytes s, uint8_t separator)
-{
-    tk_option_pair_u64_size found = tk_few_digits(s, separator);
-    if (found.is_some) {
-        uint64_t magnitude = found.value.first;
-        size_t len = found.value.second;
-        tk_option_i32 found_2 = tk_number_in_range_i32(999, false, magnitude);
-        if (!found_2.is_some) {
-            return tk_none_pair_i32_size();
-        }
-        int32_t number = found_2.value;
-        return tk_some_pair_i32_size(tk_new_pair_i32_size(number, len));
-    }
-    if (s.len < 16) {
-        return tk_none_pair_i32_size();
-    }
-    tk_option_pair_i32_size found_2 = tk_prefix_of_words_i32(s);
-    if (!found_2.is_some) {
-        return tk_none_pair_i32_size();
-    }
-    int32_t number = found_2.value.first;
-    size_t len = found_2.value.second;
-    if (len < s.len && s.at[tk_index(len, s.len)] == separator) {
-        return tk_some_pair_i32_size(tk_new_pair_i32_size(number, len));
-    }
-    return tk_none_pair_i32_size();
-}
-
-/* atoi_fast/src/short_prefix.rt:46 */
-TK_INLINE tk_option_pair_u32_size tk_prefix_of_words_u32(tk_bytes s)
-{
-    uint64_t word = tk_load_full(s);
-    /* A `-` borrows from the next byte, so that a `0` there looks like no digit. */
-    uint64_t above = tk_u64_wrapping_add(word, UINT64_C(0x4646464646464646));
-    uint64_t below = tk_u64_wrapping_sub(word, TK_ZEROS);
-    uint64_t marks = (above | below) & UINT64_C(0x8080808080808000);
-    if ((marks & 0x8000) != 0) {
-        /* Many texts have mostly one digit: the next load waits for nothing. */
-        uint8_t digit = tk_lowest_byte(below);
-        if (digit > 9) {
-            return tk_none_pair_u32_size();
-        }
-        return tk_some_pair_u32_size(tk_new_pair_u32_size(tk_from_parts_u32(false, tk_u128_of(digit)), 1));
-    }
-    bool minus = false & (tk_lowest_byte(word) == '-');
-    /* The digit of a `-` is 0, and takes the borrow back. */
-    uint64_t digits = tk_u64_wrapping_add(below, 3 * tk_bit(minus));
-    if (tk_lowest_byte(digits) > 9) {
-        return tk_none_pair_u32_size();
-    }
-    if (marks == 0) {
-        /* With `return` of the call, clang++ 19 returns all lengths in memory: 1.23 of the time. */
-        tk_option_pair_u32_size found = tk_prefix_of_two_words_u32(minus, tk_sum_of(digits), s);
-        if (!found.is_some) {
-            return tk_none_pair_u32_size();
-        }
-        tk_pair_u32_size found_2 = found.value;
-        return tk_some_pair_u32_size(found_2);
-    }
-    uint32_t len = tk_u64_trailing_zeros(marks) / 8;
-    tk_option_u32 found = tk_number_in_range_u32(TK_MOST_IN_WORD, minus, tk_value_by_product(digits, len));
-    if (!found.is_some) {
-        return tk_none_pair_u32_size();
-    }
-    uint32_t number = found.value;
-    return tk_some_pair_u32_size(tk_new_pair_u32_size(number, TK_CAST(size_t, len)));
-}
-
-/* atoi_fast/src/quick.rt:109 */
-TK_INLINE tk_option_pair_u32_size tk_quick_field_u32(tk_bytes s, uint8_t separator)
-{
-    tk_option_pair_u64_size found = tk_few_digits(s, separator);
-    if (found.is_some) {
-        uint64_t magnitude = found.value.first;
-        size_t len = found.value.second;
-        tk_option_u32 found_2 = tk_number_in_range_u32(999, false, magnitude);
-        if (!found_2.is_some) {
-            return tk_none_pair_u32_size();
-        }
-        uint32_t number = found_2.value;
-        return tk_some_pair_u32_size(tk_new_pair_u32_size(number, len));
-    }
-    if (s.len < 16) {
-        return tk_none_pair_u32_size();
-    }
-    tk_option_pair_u32_size found_2 = tk_prefix_of_words_u32(s);
-    if (!found_2.is_some) {
-        return tk_none_pair_u32_size();
-    }
-    uint32_t number = found_2.value.first;
-    size_t len = found_2.value.second;
-    if (len < s.len && s.at[tk_index(len, s.len)] == separator) {
-        return tk_some_pair_u32_size(tk_new_pair_u32_size(number, len));
-    }
-    return tk_none_pair_u32_size();
-}
-
-/* atoi_fast/src/quick.rt:109 */
-TK_INLINE tk_option_pair_i64_size tk_quick_field_i64(tk_bytes s, uint8_t separator)
-{
-    tk_option_pair_u64_size found = tk_few_digits(s, separator);
-    if (found.is_some) {
-        uint64_t magnitude = found.value.first;
-        size_t len = found.value.second;
-        tk_option_i64 found_2 = tk_number_in_range_i64(999, false, magnitude);
-        if (!found_2.is_some) {
-            return tk_none_pair_i64_size();
-        }
-        int64_t number = found_2.value;
-        return tk_some_pair_i64_size(tk_new_pair_i64_size(number, len));
-    }
-    if (s.len < 16) {
-        return tk_none_pair_i64_size();
-    }
-    tk_option_pair_i64_size found_2 = tk_prefix_of_words_i64(s);
-    if (!found_2.is_some) {
-        return tk_none_pair_i64_size();
-    }
-    int64_t number = found_2.value.first;
-    size_t len = found_2.value.second;
-    if (len < s.len && s.at[tk_index(len, s.len)] == separator) {
-        return tk_some_pair_i64_size(tk_new_pair_i64_size(number, len));
-    }
-    return tk_none_pair_i64_size();
-}
-
-/* atoi_fast/src/quick.rt:109 */
-TK_INLINE tk_option_pair_u64_size tk_quick_field_u64(tk_bytes s, uint8_t separator)
-{
-    tk_option_pair_u64_size found = tk_few_digits(s, separator);
-    if (found.is_some) {
-        uint64_t magnitude = found.value.first;
-        size_t len = found.value.second;
-        tk_option_u64 found_2 = tk_number_in_range_u64(999, false, magnitude);
-        if (!found_2.is_some) {
-            return tk_none_pair_u64_size();
-        }
-        uint64_t number = found_2.value;
-        return tk_some_pair_u64_size(tk_new_pair_u64_size(number, len));
-    }
-    if (s.len < 16) {
-        return tk_none_pair_u64_size();
-    }
-    tk_option_pair_u64_size found_2 = tk_prefix_of_words_u64(s);
-    if (!found_2.is_some) {
-        return tk_none_pair_u64_size();
-    }
-    uint64_t number = found_2.value.first;
-    size_t len = found_2.value.second;
-    if (len < s.len && s.at[tk_index(len, s.len)] == separator) {
-        return tk_some_pair_u64_size(tk_new_pair_u64_size(number, len));
-    }
-    return tk_none_pair_u64_size();
-}
-
-/* atoi_fast/src/short_prefix.rt:46 */
-TK_INLINE tk_option_pair_i128_size tk_prefix_of_words_i128(tk_bytes s)
-{
-    uint64_t word = tk_load_full(s);
-    /* A `-` borrows from the next byte, so that a `0` there looks like no digit. */
-    uint64_t above = tk_u64_wrapping_add(word, UINT64_C(0x4646464646464646));
-    uint64_t below = tk_u64_wrapping_sub(word, TK_ZEROS);
-    uint64_t marks = (above | below) & UINT64_C(0x8080808080808000);
-    if ((marks & 0x8000) != 0) {
-        /* Many texts have mostly one digit: the next load waits for nothing. */
-        uint8_t digit = tk_lowest_byte(below);
-        if (digit > 9) {
-            return tk_none_pair_i128_size();
-        }
-        return tk_some_pair_i128_size(tk_new_pair_i128_size(tk_from_parts_i128(false, tk_u128_of(digit)), 1));
-    }
-    bool minus = true & (tk_lowest_byte(word) == '-');
-    /* The digit of a `-` is 0, and takes the borrow back. */
-    uint64_t digits = tk_u64_wrapping_add(below, 3 * tk_bit(minus));
-    if (tk_lowest_byte(digits) > 9) {
-        return tk_none_pair_i128_size();
-    }
-    if (marks == 0) {
-        /* With `return` of the call, clang++ 19 returns all lengths in memory: 1.23 of the time. */
-        tk_option_pair_i128_size found = tk_prefix_of_two_words_i128(minus, tk_sum_of(digits), s);
-        if (!found.is_some) {
-            return tk_none_pair_i128_size();
-        }
-        tk_pair_i128_size found_2 = found.value;
-        return tk_some_pair_i128_size(found_2);
-    }
-    uint32_t len = tk_u64_trailing_zeros(marks) / 8;
-    tk_option_i128 found = tk_number_in_range_i128(TK_MOST_IN_WORD, minus, tk_value_by_product(digits, len));
-    if (!found.is_some) {
-        return tk_none_pair_i128_size();
-    }
-    tk_i128 number = found.value;
-    return tk_some_pair_i128_size(tk_new_pair_i128_size(number, TK_CAST(size_t, len)));
-}
-
-/* atoi_fast/src/quick.rt:109 */
-TK_INLINE tk_option_pair_i128_size tk_quick_field_i128(tk_bytes s, uint8_t separator)
-{
-    tk_option_pair_u64_size found = tk_few_digits(s, separator);
-    if (found.is_some) {
-        uint64_t magnitude = found.value.first;
-        size_t len = found.value.second;
-        tk_option_i128 found_2 = tk_number_in_range_i128(999, false, magnitude);
-        if (!found_2.is_some) {
-            return tk_none_pair_i128_size();
-        }
-        tk_i128 number = found_2.value;
-        return tk_some_pair_i128_size(tk_new_pair_i128_size(number, len));
-    }
-    if (s.len < 16) {
-        return tk_none_pair_i128_size();
-    }
-    tk_option_pair_i128_size found_2 = tk_prefix_of_words_i128(s);
-    if (!found_2.is_some) {
-        return tk_none_pair_i128_size();
-    }
-    tk_i128 number = found_2.value.first;
-    size_t len = found_2.value.second;
-    if (len < s.len && s.at[tk_index(len, s.len)] == separator) {
-        return tk_some_pair_i128_size(tk_new_pair_i128_size(number, len));
-    }
-    return tk_none_pair_i128_size();
-}
-
-/* atoi_fast/src/short_prefix.rt:46 */
-TK_INLINE tk_option_pair_u128_size tk_prefix_of_words_u128(tk_bytes s)
-{
-    uint64_t word = tk_load_full(s);
-    /* A `-` borrows from the next byte, so that a `0` there looks like no digit. */
-    uint64_t above = tk_u64_wrapping_add(word, UINT64_C(0x4646464646464646));
-    uint64_t below = tk_u64_wrapping_sub(word, TK_ZEROS);
-    uint64_t marks = (above | below) & UINT64_C(0x8080808080808000);
-    if ((marks & 0x8000) != 0) {
-        /* Many texts have mostly one digit: the next load waits for nothing. */
-        uint8_t digit = tk_lowest_byte(below);
-        if (digit > 9) {
-            return tk_none_pair_u128_size();
-        }
-        return tk_some_pair_u128_size(tk_new_pair_u128_size(tk_from_parts_u128(false, tk_u128_of(digit)), 1));
-    }
-    bool minus = false & (tk_lowest_byte(word) == '-');
-    /* The digit of a `-` is 0, and takes the borrow back. */
-    uint64_t digits = tk_u64_wrapping_add(below, 3 * tk_bit(minus));
-    if (tk_lowest_byte(digits) > 9) {
-        return tk_none_pair_u128_size();
-    }
-    if (marks == 0) {
-        /* With `return` of the call, clang++ 19 returns all lengths in memory: 1.23 of the time. */
-        tk_option_pair_u128_size found = tk_prefix_of_two_words_u128(minus, tk_sum_of(digits), s);
-        if (!found.is_some) {
-            return tk_none_pair_u128_size();
-        }
-        tk_pair_u128_size found_2 = found.value;
-        return tk_some_pair_u128_size(found_2);
-    }
-    uint32_t len = tk_u64_trailing_zeros(marks) / 8;
-    tk_option_u128 found = tk_number_in_range_u128(TK_MOST_IN_WORD, minus, tk_value_by_product(digits, len));
-    if (!found.is_some) {
-        return tk_none_pair_u128_size();
-    }
-    tk_u128 number = found.value;
-    return tk_some_pair_u128_size(tk_new_pair_u128_size(number, TK_CAST(size_t, len)));
-}
-
-/* atoi_fast/src/quick.rt:109 */
-TK_INLINE tk_option_pair_u128_size tk_quick_field_u128(tk_bytes s, uint8_t separator)
-{
-    tk_option_pair_u64_size found = tk_few_digits(s, separator);
-    if (found.is_some) {
-        uint64_t magnitude = found.value.first;
-        size_t len = found.value.second;
-        tk_option_u128 found_2 = tk_number_in_range_u128(999, false, magnitude);
-        if (!found_2.is_some) {
-            return tk_none_pair_u128_size();
-        }
-        tk_u128 number = found_2.value;
-        return tk_some_pair_u128_size(tk_new_pair_u128_size(number, len));
-    }
-    if (s.len < 16) {
-        return tk_none_pair_u128_size();
-    }
-    tk_option_pair_u128_size found_2 = tk_prefix_of_words_u128(s);
-    if (!found_2.is_some) {
-        return tk_none_pair_u128_size();
-    }
-    tk_u128 number = found_2.value.first;
-    size_t len = found_2.value.second;
-    if (len < s.len && s.at[tk_index(len, s.len)] == separator) {
-        return tk_some_pair_u128_size(tk_new_pair_u128_size(number, len));
-    }
-    return tk_none_pair_u128_size();
-}
-
-/* The second and the third byte are digits. */
-/* atoi_fast/src/quick.rt:76 */
-TK_INLINE tk_option_pair_i8_size tk_three_or_more_i8(tk_bytes s)
-{
-    if (s.len >= 4 && !tk_u8_is_digit(s.at[3]) && tk_u8_is_digit(s.at[0])) {
-        uint8_t first = s.at[0];
-        uint8_t second = s.at[1];
-        uint8_t third = s.at[2];
-        uint64_t tens = 10 * TK_CAST(uint64_t, TK_CAST(uint8_t, first - '0')) + TK_CAST(uint64_t,
-                                                                                        TK_CAST(uint8_t, second - '0'));
-        tk_option_i8 found = tk_number_in_range_i8(999, false,
-                                                   10 * tens + TK_CAST(uint64_t, TK_CAST(uint8_t, third - '0')));
-        if (!found.is_some) {
-            return tk_none_pair_i8_size();
-        }
-        int8_t number = found.value;
-        return tk_some_pair_i8_size(tk_new_pair_i8_size(number, 3));
-    }
-    return tk_prefix_of_words_i8(s);
-}
-
-/* A number of one digit. */
-/* atoi_fast/src/quick.rt:94 */
-TK_INLINE tk_option_pair_i8_size tk_digit_prefix_i8(tk_bytes s)
-{
-    if (s.len >= 2 && '0' <= s.at[1] && s.at[1] <= '9') {
-        return tk_none_pair_i8_size();
-    }
-    if (s.len >= 1 && '0' <= s.at[0] && s.at[0] <= '9') {
-        uint8_t digit = s.at[0];
-        tk_u128 number = tk_u128_of(TK_CAST(uint8_t, digit - '0'));
-        return tk_some_pair_i8_size(tk_new_pair_i8_size(tk_from_parts_i8(false, number), 1));
-    }
-    return tk_none_pair_i8_size();
-}
-
-/*
- * Returns the number at the start of a slice and its length, if that is one digit or two, or, in a slice of at least
- * 16 bytes, fewer than 16 bytes. Others may be `None`, too.
- */
-/* atoi_fast/src/quick.rt:53 */
-TK_INLINE tk_option_pair_i8_size tk_quick_prefix_i8(tk_bytes s)
-{
-    if (s.len >= 16) {
-        if (s.len >= 3 && '0' <= s.at[1] && s.at[1] <= '9' && '0' <= s.at[2] && s.at[2] <= '9') {
-            return tk_three_or_more_i8(s);
-        }
-    }
-    if (s.len >= 3 && '0' <= s.at[0] && s.at[0] <= '9' && '0' <= s.at[1] && s.at[1] <= '9'
-        && !tk_u8_is_digit(s.at[2])) {
-        uint8_t first = s.at[0];
-        uint8_t second = s.at[1];
-        uint32_t tens = TK_CAST(uint32_t, TK_CAST(uint8_t, first - '0'));
-        uint32_t number = 10 * tens + TK_CAST(uint32_t, TK_CAST(uint8_t, second - '0'));
-        return tk_some_pair_i8_size(tk_new_pair_i8_size(tk_from_parts_i8(false, tk_u128_of(number)), 2));
-    }
-    return tk_digit_prefix_i8(s);
-}
-
-/* The first word begins with `len` digits. */
-/* atoi_fast/src/short_prefix.rt:191 */
-TK_INLINE tk_option_pair_u8_size tk_prefix_in_word_u8(uint64_t word, uint32_t len, tk_bytes s)
-{
-    (void)s;
-    uint64_t magnitude = tk_value_by_product(tk_u64_wrapping_sub(word, TK_ZEROS), len);
-    tk_option_u8 found = tk_number_in_range_u8(TK_MOST_IN_WORD, false, magnitude);
-    if (!found.is_some) {
-        return tk_none_pair_u8_size();
-    }
-    uint8_t number = found.value;
-    return tk_some_pair_u8_size(tk_new_pair_u8_size(number, TK_CAST(size_t, len)));
-}
-
-/* `prefix_of_words` for an unsigned type. If the processor guesses the length, the next load waits for nothing. */
-/* atoi_fast/src/short_prefix.rt:145 */
-TK_INLINE tk_option_pair_u8_size tk_prefix_by_length_u8(tk_bytes s)
-{
-    uint64_t word = tk_load_full(s);
-    uint64_t digits = tk_u64_wrapping_sub(word, TK_ZEROS);
-    uint64_t marks = (tk_u64_wrapping_add(word, UINT64_C(0x4646464646464646)) | digits) & UINT64_C(0x8080808080808080);
-    if ((marks & 0xFF) != 0) {
-        return tk_none_pair_u8_size();
-    }
-    uint64_t first = TK_CAST(uint64_t, tk_lowest_byte(digits));
-    if ((marks & 0xFFFF) != 0) {
-        return tk_some_pair_u8_size(tk_new_pair_u8_size(tk_from_parts_u8(false, tk_u128_of(first)), 1));
-    }
-    uint64_t two = 10 * first + TK_CAST(uint64_t, tk_lowest_byte(digits >> 8));
-    if ((marks & 0xFFFFFF) != 0) {
-        return tk_some_pair_u8_size(tk_new_pair_u8_size(tk_from_parts_u8(false, tk_u128_of(two)), 2));
-    }
-    if ((marks & UINT64_C(0xFFFFFFFF)) != 0) {
-        uint64_t three = 10 * two + TK_CAST(uint64_t, tk_lowest_byte(digits >> 16));
-        tk_option_u8 found = tk_number_in_range_u8(TK_MOST_IN_WORD, false, three);
-        if (!found.is_some) {
-            return tk_none_pair_u8_size();
-        }
-        uint8_t number = found.value;
-        return tk_some_pair_u8_size(tk_new_pair_u8_size(number, 3));
-    }
-    if (marks == 0) {
-        tk_option_pair_u8_size found = tk_prefix_of_two_words_u8(false, tk_sum_of(digits), s);
-        if (!found.is_some) {
-            return tk_none_pair_u8_size();
-        }
-        tk_pair_u8_size found_2 = found.value;
-        return tk_some_pair_u8_size(found_2);
-    }
-    return tk_prefix_in_word_u8(word, tk_u64_trailing_zeros(marks) / 8, s);
-}
-
-/* atoi_fast/src/quick.rt:94 */
-TK_INLINE tk_option_pair_u8_size tk_digit_prefix_u8(tk_bytes s)
-{
-    if (s.len >= 2 && '0' <= s.at[1] && s.at[1] <= '9') {
-        return tk_none_pair_u8_size();
-    }
-    if (s.len >= 1 && '0' <= s.at[0] && s.at[0] <= '9') {
-        uint8_t digit = s.at[0];
-        tk_u128 number = tk_u128_of(TK_CAST(uint8_t, digit - '0'));
-        return tk_some_pair_u8_size(tk_new_pair_u8_size(tk_from_parts_u8(false, number), 1));
-    }
-    return tk_none_pair_u8_size();
-}
-
-/* atoi_fast/src/quick.rt:53 */
-TK_INLINE tk_option_pair_u8_size tk_quick_prefix_u8(tk_bytes s)
-{
-    if (s.len >= 16) {
-        return tk_prefix_by_length_u8(s);
-    }
-    if (s.len >= 3 && '0' <= s.at[0] && s.at[0] <= '9' && '0' <= s.at[1] && s.at[1] <= '9'
-        && !tk_u8_is_digit(s.at[2])) {
-        uint8_t first = s.at[0];
-        uint8_t second = s.at[1];
-        uint32_t tens = TK_CAST(uint32_t, TK_CAST(uint8_t, first - '0'));
-        uint32_t number = 10 * tens + TK_CAST(uint32_t, TK_CAST(uint8_t, second - '0'));
-        return tk_some_pair_u8_size(tk_new_pair_u8_size(tk_from_parts_u8(false, tk_u128_of(number)), 2));
-    }
-    return tk_digit_prefix_u8(s);
-}
-
-/* atoi_fast/src/quick.rt:76 */
-TK_INLINE tk_option_pair_i16_size tk_three_or_more_i16(tk_bytes s)
-{
-    if (s.len >= 4 && !tk_u8_is_digit(s.at[3]) && tk_u8_is_digit(s.at[0])) {
-        uint8_t first = s.at[0];
-        uint8_t second = s.at[1];
-        uint8_t third = s.at[2];
-        uint64_t tens = 10 * TK_CAST(uint64_t, TK_CAST(uint8_t, first - '0')) + TK_CAST(uint64_t,
-                                                                                        TK_CAST(uint8_t, second - '0'));
-        tk_option_i16 found = tk_number_in_range_i16(999, false,
-                                                     10 * tens + TK_CAST(uint64_t, TK_CAST(uint8_t, third - '0')));
-        if (!found.is_some) {
-            return tk_none_pair_i16_size();
-        }
-        int16_t number = found.value;
-        return tk_some_pair_i16_size(tk_new_pair_i16_size(number, 3));
-    }
-    return tk_prefix_of_words_i16(s);
-}
-
-/* atoi_fast/src/quick.rt:94 */
-TK_INLINE tk_option_pair_i16_size tk_digit_prefix_i16(tk_bytes s)
-{
-    if (s.len >= 2 && '0' <= s.at[1] && s.at[1] <= '9') {
-        return tk_none_pair_i16_size();
-    }
-    if (s.len >= 1 && '0' <= s.at[0] && s.at[0] <= '9') {
-        uint8_t digit = s.at[0];
-        tk_u128 number = tk_u128_of(TK_CAST(uint8_t, digit - '0'));
-        return tk_some_pair_i16_size(tk_new_pair_i16_size(tk_from_parts_i16(false, number), 1));
-    }
-    return tk_none_pair_i16_size();
-}
-
-/* atoi_fast/src/quick.rt:53 */
-TK_INLINE tk_option_pair_i16_size tk_quick_prefix_i16(tk_bytes s)
-{
-    if (s.len >= 16) {
-        if (s.len >= 3 && '0' <= s.at[1] && s.at[1] <= '9' && '0' <= s.at[2] && s.at[2] <= '9') {
-            return tk_three_or_more_i16(s);
-        }
-    }
-    if (s.len >= 3 && '0' <= s.at[0] && s.at[0] <= '9' && '0' <= s.at[1] && s.at[1] <= '9'
-        && !tk_u8_is_digit(s.at[2])) {
-        uint8_t first = s.at[0];
-        uint8_t second = s.at[1];
-        uint32_t tens = TK_CAST(uint32_t, TK_CAST(uint8_t, first - '0'));
-        uint32_t number = 10 * tens + TK_CAST(uint32_t, TK_CAST(uint8_t, second - '0'));
-        return tk_some_pair_i16_size(tk_new_pair_i16_size(tk_from_parts_i16(false, tk_u128_of(number)), 2));
-    }
-    return tk_digit_prefix_i16(s);
-}
-
-/* atoi_fast/src/short_prefix.rt:191 */
-TK_INLINE tk_option_pair_u16_size tk_prefix_in_word_u16(uint64_t word, uint32_t len, tk_bytes s)
-{
-    (void)s;
-    uint64_t magnitude = tk_value_by_product(tk_u64_wrapping_sub(word, TK_ZEROS), len);
-    tk_option_u16 found = tk_number_in_range_u16(TK_MOST_IN_WORD, false, magnitude);
-    if (!found.is_some) {
-        return tk_none_pair_u16_size();
-    }
-    uint16_t number = found.value;
-    return tk_some_pair_u16_size(tk_new_pair_u16_size(number, TK_CAST(size_t, len)));
-}
-
-/* atoi_fast/src/short_prefix.rt:145 */
-TK_INLINE tk_option_pair_u16_size tk_prefix_by_length_u16(tk_bytes s)
-{
-    uint64_t word = tk_load_full(s);
-    uint64_t digits = tk_u64_wrapping_sub(word, TK_ZEROS);
-    uint64_t marks = (tk_u64_wrapping_add(word, UINT64_C(0x4646464646464646)) | digits) & UINT64_C(0x8080808080808080);
-    if ((marks & 0xFF) != 0) {
-        return tk_none_pair_u16_size();
-    }
-    uint64_t first = TK_CAST(uint64_t, tk_lowest_byte(digits));
-    if ((marks & 0xFFFF) != 0) {
-        return tk_some_pair_u16_size(tk_new_pair_u16_size(tk_from_parts_u16(false, tk_u128_of(first)), 1));
-    }
-    uint64_t two = 10 * first + TK_CAST(uint64_t, tk_lowest_byte(digits >> 8));
-    if ((marks & 0xFFFFFF) != 0) {
-        return tk_some_pair_u16_size(tk_new_pair_u16_size(tk_from_parts_u16(false, tk_u128_of(two)), 2));
-    }
-    if ((marks & UINT64_C(0xFFFFFFFF)) != 0) {
-        uint64_t three = 10 * two + TK_CAST(uint64_t, tk_lowest_byte(digits >> 16));
-        tk_option_u16 found = tk_number_in_range_u16(TK_MOST_IN_WORD, false, three);
-        if (!found.is_some) {
-            return tk_none_pair_u16_size();
-        }
-        uint16_t number = found.value;
-        return tk_some_pair_u16_size(tk_new_pair_u16_size(number, 3));
-    }
-    if (marks == 0) {
-        tk_option_pair_u16_size found = tk_prefix_of_two_words_u16(false, tk_sum_of(digits), s);
-        if (!found.is_some) {
-            return tk_none_pair_u16_size();
-        }
-        tk_pair_u16_size found_2 = found.value;
-        return tk_some_pair_u16_size(found_2);
-    }
-    return tk_prefix_in_word_u16(word, tk_u64_trailing_zeros(marks) / 8, s);
-}
-
-/* atoi_fast/src/quick.rt:94 */
-TK_INLINE tk_option_pair_u16_size tk_digit_prefix_u16(tk_bytes s)
-{
-    if (s.len >= 2 && '0' <= s.at[1] && s.at[1] <= '9') {
-        return tk_none_pair_u16_size();
-    }
-    if (s.len >= 1 && '0' <= s.at[0] && s.at[0] <= '9') {
-        uint8_t digit = s.at[0];
-        tk_u128 number = tk_u128_of(TK_CAST(uint8_t, digit - '0'));
-        return tk_some_pair_u16_size(tk_new_pair_u16_size(tk_from_parts_u16(false, number), 1));
-    }
-    return tk_none_pair_u16_size();
-}
-
-/* atoi_fast/src/quick.rt:53 */
-TK_INLINE tk_option_pair_u16_size tk_quick_prefix_u16(tk_bytes s)
-{
-    if (s.len >= 16) {
-        return tk_prefix_by_length_u16(s);
-    }
-    if (s.len >= 3 && '0' <= s.at[0] && s.at[0] <= '9' && '0' <= s.at[1] && s.at[1] <= '9'
-        && !tk_u8_is_digit(s.at[2])) {
-        uint8_t first = s.at[0];
-        uint8_t second = s.at[1];
-        uint32_t tens = TK_CAST(uint32_t, TK_CAST(uint8_t, first - '0'));
-        uint32_t number = 10 * tens + TK_CAST(uint32_t, TK_CAST(uint8_t, second - '0'));
-        return tk_some_pair_u16_size(tk_new_pair_u16_size(tk_from_parts_u16(false, tk_u128_of(number)), 2));
-    }
-    return tk_digit_prefix_u16(s);
-}
-
-/* atoi_fast/src/quick.rt:76 */
-TK_INLINE tk_option_pair_i32_size tk_three_or_more_i32(tk_bytes s)
-{
-    if (s.len >= 4 && !tk_u8_is_digit(s.at[3]) && tk_u8_is_digit(s.at[0])) {
-        uint8_t first = s.at[0];
-        uint8_t second = s.at[1];
-        uint8_t third = s.at[2];
-        uint64_t tens = 10 * TK_CAST(uint64_t, TK_CAST(uint8_t, first - '0')) + TK_CAST(uint64_t,
-                                                                                        TK_CAST(uint8_t, second - '0'));
-        tk_option_i32 found = tk_number_in_range_i32(999, false,
-                                                     10 * tens + TK_CAST(uint64_t, TK_CAST(uint8_t, third - '0')));
-        if (!found.is_some) {
-            return tk_none_pair_i32_size();
-        }
-        int32_t number = found.value;
-        return tk_some_pair_i32_size(tk_new_pair_i32_size(number, 3));
-    }
-    return tk_prefix_of_words_i32(s);
-}
-
-/* atoi_fast/src/quick.rt:94 */
-TK_INLINE tk_option_pair_i32_size tk_digit_prefix_i32(tk_bytes s)
-{
-    if (s.len >= 2 && '0' <= s.at[1] && s.at[1] <= '9') {
-        return tk_none_pair_i32_size();
-    }
-    if (s.len >= 1 && '0' <= s.at[0] && s.at[0] <= '9') {
-        uint8_t digit = s.at[0];
-        tk_u128 number = tk_u128_of(TK_CAST(uint8_t, digit - '0'));
-        return tk_some_pair_i32_size(tk_new_pair_i32_size(tk_from_parts_i32(false, number), 1));
-    }
-    return tk_none_pair_i32_size();
-}
-
-/* atoi_fast/src/quick.rt:53 */
-TK_INLINE tk_option_pair_i32_size tk_quick_prefix_i32(tk_bytes s)
-{
-    if (s.len >= 16) {
-        if (s.len >= 3 && '0' <= s.at[1] && s.at[1] <= '9' && '0' <= s.at[2] && s.at[2] <= '9') {
-            return tk_three_or_more_i32(s);
-        }
-    }
-    if (s.len >= 3 && '0' <= s.at[0] && s.at[0] <= '9' && '0' <= s.at[1] && s.at[1] <= '9'
-        && !tk_u8_is_digit(s.at[2])) {
-        uint8_t first = s.at[0];
-        uint8_t second = s.at[1];
-        uint32_t tens = TK_CAST(uint32_t, TK_CAST(uint8_t, first - '0'));
-        uint32_t number = 10 * tens + TK_CAST(uint32_t, TK_CAST(uint8_t, second - '0'));
-        return tk_some_pair_i32_size(tk_new_pair_i32_size(tk_from_parts_i32(false, tk_u128_of(number)), 2));
-    }
-    return tk_digit_prefix_i32(s);
-}
-
-/* atoi_fast/src/short_prefix.rt:191 */
-TK_INLINE tk_option_pair_u32_size tk_prefix_in_word_u32(uint64_t word, uint32_t len, tk_bytes s)
-{
-    (void)s;
-    uint64_t magnitude = tk_value_by_product(tk_u64_wrapping_sub(word, TK_ZEROS), len);
-    tk_option_u32 found = tk_number_in_range_u32(TK_MOST_IN_WORD, false, magnitude);
-    if (!found.is_some) {
-        return tk_none_pair_u32_size();
-    }
-    uint32_t number = found.value;
-    return tk_some_pair_u32_size(tk_new_pair_u32_size(number, TK_CAST(size_t, len)));
-}
-
-/* atoi_fast/src/short_prefix.rt:145 */
-TK_INLINE tk_option_pair_u32_size tk_prefix_by_length_u32(tk_bytes s)
-{
-    uint64_t word = tk_load_full(s);
-    uint64_t digits = tk_u64_wrapping_sub(word, TK_ZEROS);
-    uint64_t marks = (tk_u64_wrapping_add(word, UINT64_C(0x4646464646464646)) | digits) & UINT64_C(0x8080808080808080);
-    if ((marks & 0xFF) != 0) {
-        return tk_none_pair_u32_size();
-    }
-    uint64_t first = TK_CAST(uint64_t, tk_lowest_byte(digits));
-    if ((marks & 0xFFFF) != 0) {
-        return tk_some_pair_u32_size(tk_new_pair_u32_size(tk_from_parts_u32(false, tk_u128_of(first)), 1));
-    }
-    uint64_t two = 10 * first + TK_CAST(uint64_t, tk_lowest_byte(digits >> 8));
-    if ((marks & 0xFFFFFF) != 0) {
-        return tk_some_pair_u32_size(tk_new_pair_u32_size(tk_from_parts_u32(false, tk_u128_of(two)), 2));
-    }
-    if ((marks & UINT64_C(0xFFFFFFFF)) != 0) {
-        uint64_t three = 10 * two + TK_CAST(uint64_t, tk_lowest_byte(digits >> 16));
-        tk_option_u32 found = tk_number_in_range_u32(TK_MOST_IN_WORD, false, three);
-        if (!found.is_some) {
-            return tk_none_pair_u32_size();
-        }
-        uint32_t number = found.value;
-        return tk_some_pair_u32_size(tk_new_pair_u32_size(number, 3));
-    }
-    if (marks == 0) {
-        tk_option_pair_u32_size found = tk_prefix_of_two_words_u32(false, tk_sum_of(digits), s);
-        if (!found.is_some) {
-            return tk_none_pair_u32_size();
-        }
-        tk_pair_u32_size found_2 = found.value;
-        return tk_some_pair_u32_size(found_2);
-    }
-    return tk_prefix_in_word_u32(word, tk_u64_trailing_zeros(marks) / 8, s);
-}
-
-/* atoi_fast/src/quick.rt:94 */
-TK_INLINE tk_option_pair_u32_size tk_digit_prefix_u32(tk_bytes s)
-{
-    if (s.len >= 2 && '0' <= s.at[1] && s.at[1] <= '9') {
-        return tk_none_pair_u32_size();
-    }
-    if (s.len >= 1 && '0' <= s.at[0] && s.at[0] <= '9') {
-        uint8_t digit = s.at[0];
-        tk_u128 number = tk_u128_of(TK_CAST(uint8_t, digit - '0'));
-        return tk_some_pair_u32_size(tk_new_pair_u32_size(tk_from_parts_u32(false, number), 1));
-    }
-    return tk_none_pair_u32_size();
-}
-
-/* atoi_fast/src/quick.rt:53 */
-TK_INLINE tk_option_pair_u32_size tk_quick_prefix_u32(tk_bytes s)
-{
-    if (s.len >= 16) {
-        return tk_prefix_by_length_u32(s);
-    }
-    if (s.len >= 3 && '0' <= s.at[0] && s.at[0] <= '9' && '0' <= s.at[1] && s.at[1] <= '9'
-        && !tk_u8_is_digit(s.at[2])) {
-        uint8_t first = s.at[0];
-        uint8_t second = s.at[1];
-        uint32_t tens = TK_CAST(uint32_t, TK_CAST(uint8_t, first - '0'));
-        uint32_t number = 10 * tens + TK_CAST(uint32_t, TK_CAST(uint8_t, second - '0'));
-        return tk_some_pair_u32_size(tk_new_pair_u32_size(tk_from_parts_u32(false, tk_u128_of(number)), 2));
-    }
-    return tk_digit_prefix_u32(s);
-}
-
-/* atoi_fast/src/quick.rt:76 */
-TK_INLINE tk_option_pair_i64_size tk_three_or_more_i64(tk_bytes s)
-{
-    if (s.len >= 4 && !tk_u8_is_digit(s.at[3]) && tk_u8_is_digit(s.at[0])) {
-        uint8_t first = s.at[0];
-        uint8_t second = s.at[1];
-        uint8_t third = s.at[2];
-        uint64_t tens = 10 * TK_CAST(uint64_t, TK_CAST(uint8_t, first - '0')) + TK_CAST(uint64_t,
-                                                                                        TK_CAST(uint8_t, second - '0'));
-        tk_option_i64 found = tk_number_in_range_i64(999, false,
-                                                     10 * tens + TK_CAST(uint64_t, TK_CAST(uint8_t, third - '0')));
-        if (!found.is_some) {
-            return tk_none_pair_i64_size();
-        }
-        int64_t number = found.value;
-        return tk_some_pair_i64_size(tk_new_pair_i64_size(number, 3));
-    }
-    return tk_prefix_of_words_i64(s);
-}
-
-/* atoi_fast/src/quick.rt:94 */
-TK_INLINE tk_option_pair_i64_size tk_digit_prefix_i64(tk_bytes s)
-{
-    if (s.len >= 2 && '0' <= s.at[1] && s.at[1] <= '9') {
-        return tk_none_pair_i64_size();
-    }
-    if (s.len >= 1 && '0' <= s.at[0] && s.at[0] <= '9') {
-        uint8_t digit = s.at[0];
-        tk_u128 number = tk_u128_of(TK_CAST(uint8_t, digit - '0'));
-        return tk_some_pair_i64_size(tk_new_pair_i64_size(tk_from_parts_i64(false, number), 1));
-    }
-    return tk_none_pair_i64_size();
-}
-
-/* atoi_fast/src/quick.rt:53 */
-TK_INLINE tk_option_pair_i64_size tk_quick_prefix_i64(tk_bytes s)
-{
-    if (s.len >= 16) {
-        if (s.len >= 3 && '0' <= s.at[1] && s.at[1] <= '9' && '0' <= s.at[2] && s.at[2] <= '9') {
-            return tk_three_or_more_i64(s);
-        }
-    }
-    if (s.len >= 3 && '0' <= s.at[0] && s.at[0] <= '9' && '0' <= s.at[1] && s.at[1] <= '9'
-        && !tk_u8_is_digit(s.at[2])) {
-        uint8_t first = s.at[0];
-        uint8_t second = s.at[1];
-        uint32_t tens = TK_CAST(uint32_t, TK_CAST(uint8_t, first - '0'));
-        uint32_t number = 10 * tens + TK_CAST(uint32_t, TK_CAST(uint8_t, second - '0'));
-        return tk_some_pair_i64_size(tk_new_pair_i64_size(tk_from_parts_i64(false, tk_u128_of(number)), 2));
-    }
-    return tk_digit_prefix_i64(s);
-}
-
-/* atoi_fast/src/short_prefix.rt:191 */
-TK_INLINE tk_option_pair_u64_size tk_prefix_in_word_u64(uint64_t word, uint32_t len, tk_bytes s)
-{
-    (void)s;
-    uint64_t magnitude = tk_value_by_product(tk_u64_wrapping_sub(word, TK_ZEROS), len);
-    tk_option_u64 found = tk_number_in_range_u64(TK_MOST_IN_WORD, false, magnitude);
-    if (!found.is_some) {
-        return tk_none_pair_u64_size();
-    }
-    uint64_t number = found.value;
-    return tk_some_pair_u64_size(tk_new_pair_u64_size(number, TK_CAST(size_t, len)));
-}
-
-/* atoi_fast/src/short_prefix.rt:145 */
-TK_INLINE tk_option_pair_u64_size tk_prefix_by_length_u64(tk_bytes s)
-{
-    uint64_t word = tk_load_full(s);
-    uint64_t digits = tk_u64_wrapping_sub(word, TK_ZEROS);
-    uint64_t marks = (tk_u64_wrapping_add(word, UINT64_C(0x4646464646464646)) | digits) & UINT64_C(0x8080808080808080);
-    if ((marks & 0xFF) != 0) {
-        return tk_none_pair_u64_size();
-    }
-    uint64_t first = TK_CAST(uint64_t, tk_lowest_byte(digits));
-    if ((marks & 0xFFFF) != 0) {
-        return tk_some_pair_u64_size(tk_new_pair_u64_size(tk_from_parts_u64(false, tk_u128_of(first)), 1));
-    }
-    uint64_t two = 10 * first + TK_CAST(uint64_t, tk_lowest_byte(digits >> 8));
-    if ((marks & 0xFFFFFF) != 0) {
-        return tk_some_pair_u64_size(tk_new_pair_u64_size(tk_from_parts_u64(false, tk_u128_of(two)), 2));
-    }
-    if ((marks & UINT64_C(0xFFFFFFFF)) != 0) {
-        uint64_t three = 10 * two + TK_CAST(uint64_t, tk_lowest_byte(digits >> 16));
-        tk_option_u64 found = tk_number_in_range_u64(TK_MOST_IN_WORD, false, three);
-        if (!found.is_some) {
-            return tk_none_pair_u64_size();
-        }
-        uint64_t number = found.value;
-        return tk_some_pair_u64_size(tk_new_pair_u64_size(number, 3));
-    }
-    if (marks == 0) {
-        tk_option_pair_u64_size found = tk_prefix_of_two_words_u64(false, tk_sum_of(digits), s);
-        if (!found.is_some) {
-            return tk_none_pair_u64_size();
-        }
-        tk_pair_u64_size found_2 = found.value;
-        return tk_some_pair_u64_size(found_2);
-    }
-    return tk_prefix_in_word_u64(word, tk_u64_trailing_zeros(marks) / 8, s);
-}
-
-/* atoi_fast/src/quick.rt:94 */
-TK_INLINE tk_option_pair_u64_size tk_digit_prefix_u64(tk_bytes s)
-{
-    if (s.len >= 2 && '0' <= s.at[1] && s.at[1] <= '9') {
-        return tk_none_pair_u64_size();
-    }
-    if (s.len >= 1 && '0' <= s.at[0] && s.at[0] <= '9') {
-        uint8_t digit = s.at[0];
-        tk_u128 number = tk_u128_of(TK_CAST(uint8_t, digit - '0'));
-        return tk_some_pair_u64_size(tk_new_pair_u64_size(tk_from_parts_u64(false, number), 1));
-    }
-    return tk_none_pair_u64_size();
-}
-
-/* atoi_fast/src/quick.rt:53 */
-TK_INLINE tk_option_pair_u64_size tk_quick_prefix_u64(tk_bytes s)
-{
-    if (s.len >= 16) {
-        return tk_prefix_by_length_u64(s);
-    }
-    if (s.len >= 3 && '0' <= s.at[0] && s.at[0] <= '9' && '0' <= s.at[1] && s.at[1] <= '9'
-        && !tk_u8_is_digit(s.at[2])) {
-        uint8_t first = s.at[0];
-        uint8_t second = s.at[1];
-        uint32_t tens = TK_CAST(uint32_t, TK_CAST(uint8_t, first - '0'));
-        uint32_t number = 10 * tens + TK_CAST(uint32_t, TK_CAST(uint8_t, second - '0'));
-        return tk_some_pair_u64_size(tk_new_pair_u64_size(tk_from_parts_u64(false, tk_u128_of(number)), 2));
-    }
-    return tk_digit_prefix_u64(s);
-}
-
-/* atoi_fast/src/quick.rt:76 */
-TK_INLINE tk_option_pair_i128_size tk_three_or_more_i128(tk_bytes s)
-{
-    if (s.len >= 4 && !tk_u8_is_digit(s.at[3]) && tk_u8_is_digit(s.at[0])) {
-        uint8_t first = s.at[0];
-        uint8_t second = s.at[1];
-        uint8_t third = s.at[2];
-        uint64_t tens = 10 * TK_CAST(uint64_t, TK_CAST(uint8_t, first - '0')) + TK_CAST(uint64_t,
-                                                                                        TK_CAST(uint8_t, second - '0'));
-        tk_option_i128 found = tk_number_in_range_i128(999, false,
-                                                       10 * tens + TK_CAST(uint64_t, TK_CAST(uint8_t, third - '0')));
-        if (!found.is_some) {
-            return tk_none_pair_i128_size();
-        }
-        tk_i128 number = found.value;
-        return tk_some_pair_i128_size(tk_new_pair_i128_size(number, 3));
-    }
-    return tk_prefix_of_words_i128(s);
-}
-
-/* atoi_fast/src/quick.rt:94 */
-TK_INLINE tk_option_pair_i128_size tk_digit_prefix_i128(tk_bytes s)
-{
-    if (s.len >= 2 && '0' <= s.at[1] && s.at[1] <= '9') {
-        return tk_none_pair_i128_size();
-    }
-    if (s.len >= 1 && '0' <= s.at[0] && s.at[0] <= '9') {
-        uint8_t digit = s.at[0];
-        tk_u128 number = tk_u128_of(TK_CAST(uint8_t, digit - '0'));
-        return tk_some_pair_i128_size(tk_new_pair_i128_size(tk_from_parts_i128(false, number), 1));
-    }
-    return tk_none_pair_i128_size();
-}
-
-/* atoi_fast/src/quick.rt:53 */
-TK_INLINE tk_option_pair_i128_size tk_quick_prefix_i128(tk_bytes s)
-{
-    if (s.len >= 16) {
-        if (s.len >= 3 && '0' <= s.at[1] && s.at[1] <= '9' && '0' <= s.at[2] && s.at[2] <= '9') {
-            return tk_three_or_more_i128(s);
-        }
-    }
-    if (s.len >= 3 && '0' <= s.at[0] && s.at[0] <= '9' && '0' <= s.at[1] && s.at[1] <= '9'
-        && !tk_u8_is_digit(s.at[2])) {
-        uint8_t first = s.at[0];
-        uint8_t second = s.at[1];
-        uint32_t tens = TK_CAST(uint32_t, TK_CAST(uint8_t, first - '0'));
-        uint32_t number = 10 * tens + TK_CAST(uint32_t, TK_CAST(uint8_t, second - '0'));
-        return tk_some_pair_i128_size(tk_new_pair_i128_size(tk_from_parts_i128(false, tk_u128_of(number)), 2));
-    }
-    return tk_digit_prefix_i128(s);
-}
-
-/* atoi_fast/src/short_prefix.rt:191 */
-TK_INLINE tk_option_pair_u128_size tk_prefix_in_word_u128(uint64_t word, uint32_t len, tk_bytes s)
-{
-    (void)s;
-    uint64_t magnitude = tk_value_by_product(tk_u64_wrapping_sub(word, TK_ZEROS), len);
-    tk_option_u128 found = tk_number_in_range_u128(TK_MOST_IN_WORD, false, magnitude);
-    if (!found.is_some) {
-        return tk_none_pair_u128_size();
-    }
-    tk_u128 number = found.value;
-    return tk_some_pair_u128_size(tk_new_pair_u128_size(number, TK_CAST(size_t, len)));
-}
-
-/* atoi_fast/src/short_prefix.rt:145 */
-TK_INLINE tk_option_pair_u128_size tk_prefix_by_length_u128(tk_bytes s)
-{
-    uint64_t word = tk_load_full(s);
-    uint64_t digits = tk_u64_wrapping_sub(word, TK_ZEROS);
-    uint64_t marks = (tk_u64_wrapping_add(word, UINT64_C(0x4646464646464646)) | digits) & UINT64_C(0x8080808080808080);
-    if ((marks & 0xFF) != 0) {
-        return tk_none_pair_u128_size();
-    }
-    uint64_t first = TK_CAST(uint64_t, tk_lowest_byte(digits));
-    if ((marks & 0xFFFF) != 0) {
-        return tk_some_pair_u128_size(tk_new_pair_u128_size(tk_from_parts_u128(false, tk_u128_of(first)), 1));
-    }
-    uint64_t two = 10 * first + TK_CAST(uint64_t, tk_lowest_byte(digits >> 8));
-    if ((marks & 0xFFFFFF) != 0) {
-        return tk_some_pair_u128_size(tk_new_pair_u128_size(tk_from_parts_u128(false, tk_u128_of(two)), 2));
-    }
-    if ((marks & UINT64_C(0xFFFFFFFF)) != 0) {
-        uint64_t three = 10 * two + TK_CAST(uint64_t, tk_lowest_byte(digits >> 16));
-        tk_option_u128 found = tk_number_in_range_u128(TK_MOST_IN_WORD, false, three);
-        if (!found.is_some) {
-            return tk_none_pair_u128_size();
-        }
-        tk_u128 number = found.value;
-        return tk_some_pair_u128_size(tk_new_pair_u128_size(number, 3));
-    }
-    if (marks == 0) {
-        tk_option_pair_u128_size found = tk_prefix_of_two_words_u128(false, tk_sum_of(digits), s);
-        if (!found.is_some) {
-            return tk_none_pair_u128_size();
-        }
-        tk_pair_u128_size found_2 = found.value;
-        return tk_some_pair_u128_size(found_2);
-    }
-    return tk_prefix_in_word_u128(word, tk_u64_trailing_zeros(marks) / 8, s);
-}
-
-/* atoi_fast/src/quick.rt:94 */
-TK_INLINE tk_option_pair_u128_size tk_digit_prefix_u128(tk_bytes s)
-{
-    if (s.len >= 2 && '0' <= s.at[1] && s.at[1] <= '9') {
-        return tk_none_pair_u128_size();
-    }
-    if (s.len >= 1 && '0' <= s.at[0] && s.at[0] <= '9') {
-        uint8_t digit = s.at[0];
-        tk_u128 number = tk_u128_of(TK_CAST(uint8_t, digit - '0'));
-        return tk_some_pair_u128_size(tk_new_pair_u128_size(tk_from_parts_u128(false, number), 1));
-    }
-    return tk_none_pair_u128_size();
-}
-
-/* atoi_fast/src/quick.rt:53 */
-TK_INLINE tk_option_pair_u128_size tk_quick_prefix_u128(tk_bytes s)
-{
-    if (s.len >= 16) {
-        return tk_prefix_by_length_u128(s);
-    }
-    if (s.len >= 3 && '0' <= s.at[0] && s.at[0] <= '9' && '0' <= s.at[1] && s.at[1] <= '9'
-        && !tk_u8_is_digit(s.at[2])) {
-        uint8_t first = s.at[0];
-        uint8_t second = s.at[1];
-        uint32_t tens = TK_CAST(uint32_t, TK_CAST(uint8_t, first - '0'));
-        uint32_t number = 10 * tens + TK_CAST(uint32_t, TK_CAST(uint8_t, second - '0'));
-        return tk_some_pair_u128_size(tk_new_pair_u128_size(tk_from_parts_u128(false, tk_u128_of(number)), 2));
-    }
-    return tk_digit_prefix_u128(s);
 }
 
 /*
@@ -3270,13 +2293,7 @@ TK_CONSTEXPR tk_option_u128 tk_whole_by_digits_u128(bool skip, bool skip_plus, t
     }
     return tk_some_u128(tk_from_parts_u128(minus, magnitude));
 }
-
-/* Returns whether `byte` may separate fields: any byte except a digit, `+` or `-`. */
-/* atoi_column/src/column.rt:27 */
-TK_HINTED bool tk_is_separator(uint8_t byte)
-{
-    return !(('0' <= byte && byte <= '9') || byte == '+' || byte == '-');
-}
+#endif
 /* ---- The interface, written by hand. */
 
 TK_INLINE tk_bytes tk_text(const char *text, size_t length) TORKETTLE_NOEXCEPT
@@ -3305,14 +2322,14 @@ static inline size_t torkettle_rest_length(size_t length, char separator) TORKET
 
 /* Reads the next field of a column or of fields. `called` does that, unless `tk_quick_field` finds a number. It gets a
    copy, so that compilers can keep the fields of a loop in registers. */
-#define TORKETTLE_NEXT_(kind, called, suffix)                                                                          \
+#define TORKETTLE_NEXT_(kind, called, suffix, type, word)                                                              \
     TK_INLINE torkettle_found##suffix torkettle_next_of_##kind##suffix(torkettle_##kind##suffix *fields)               \
         TORKETTLE_NOEXCEPT                                                                                             \
     {                                                                                                                  \
-        tk_option_pair##suffix##_size quick =                                                                          \
-            tk_quick_field##suffix(tk_text(fields->rest, fields->rest_length), TK_CAST(uint8_t, fields->separator));   \
-        size_t count = quick.value.second;                                                                             \
-        if (!quick.is_some) {                                                                                          \
+        tk_bytes rest = tk_text(fields->rest, fields->rest_length);                                                    \
+        tk_option_pair##word##_size number = tk_quick_field##suffix##word(rest, TK_CAST(uint8_t, fields->separator));  \
+        size_t count = number.value.second;                                                                            \
+        if (!number.is_some) {                                                                                         \
             torkettle_##kind##suffix copy = *fields;                                                                   \
             torkettle_found##suffix found = torkettle_##called##suffix(&copy);                                         \
             *fields = copy;                                                                                            \
@@ -3323,7 +2340,7 @@ static inline size_t torkettle_rest_length(size_t length, char separator) TORKET
         fields->next_offset += count + 1;                                                                              \
         fields->rest += count + 1;                                                                                     \
         fields->rest_length -= count + 1;                                                                              \
-        return TK_MAKE(torkettle_found##suffix, quick.value.first, 1);                                                 \
+        return TK_MAKE(torkettle_found##suffix, TK_CAST(type, number.value.first), 1);                                 \
     }
 
 /* The parses of a type by the functions of another, or its own, of the same size and sign. */
@@ -3366,7 +2383,7 @@ static inline size_t torkettle_rest_length(size_t length, char separator) TORKET
         return true;                                                                                                   \
     }
 
-#define TORKETTLE_FUNCTIONS_(name, type)                                                                               \
+#define TORKETTLE_FUNCTIONS_(name, type, word)                                                                         \
     typedef struct torkettle_found_##name {                                                                            \
         type value;                                                                                                    \
         size_t length;                                                                                                 \
@@ -3387,7 +2404,6 @@ static inline size_t torkettle_rest_length(size_t length, char separator) TORKET
         size_t rest_length;                                                                                            \
         char separator, is_lines;                                                                                      \
     } torkettle_fields_##name;                                                                                         \
-                                                                                                                       \
     TK_CALLED(torkettle_found_##name, whole_##name, const char *text, size_t length, unsigned flags);                  \
     TK_CALLED(torkettle_found_##name, prefix_##name, const char *text, size_t length, unsigned flags);                 \
     TK_CALLED(torkettle_found_##name, whole_canonical_##name, const char *text, size_t length);                        \
@@ -3406,38 +2422,33 @@ static inline size_t torkettle_rest_length(size_t length, char separator) TORKET
     TK_CALLED(torkettle_error, parse_prefix_error_##name, const char *text, size_t length, unsigned flags);            \
     TK_CALLED(size_t, column_##name##_read, torkettle_column_##name *column, type *values, size_t count);              \
     TK_CALLED(size_t, fields_##name##_read, torkettle_fields_##name *fields, type *values, size_t count);              \
-                                                                                                                       \
     TK_INLINE torkettle_found_##name torkettle_of_whole_##name(const char *text, size_t length, unsigned flags)        \
         TORKETTLE_NOEXCEPT                                                                                             \
     {                                                                                                                  \
-        tk_option_##name digit = tk_one_digit_##name(tk_text(text, length));                                           \
+        tk_option_u8 digit = tk_one_digit(tk_text(text, length));                                                      \
         if (digit.is_some)                                                                                             \
-            return TK_MAKE(torkettle_found_##name, digit.value, 1);                                                    \
+            return TK_MAKE(torkettle_found_##name, TK_CAST(type, digit.value), 1);                                     \
         return torkettle_whole_##name(text, length, flags);                                                            \
     }                                                                                                                  \
     TK_INLINE torkettle_found_##name torkettle_of_prefix_##name(const char *text, size_t length, unsigned flags)       \
         TORKETTLE_NOEXCEPT                                                                                             \
     {                                                                                                                  \
-        tk_option_pair_##name##_size quick = tk_quick_prefix_##name(tk_text(text, length));                            \
-        if (quick.is_some)                                                                                             \
-            return TK_MAKE(torkettle_found_##name, quick.value.first, quick.value.second);                             \
+        tk_option_pair_##word##_size number = tk_quick_prefix_##name##_##word(tk_text(text, length));                  \
+        if (number.is_some)                                                                                            \
+            return TK_MAKE(torkettle_found_##name, TK_CAST(type, number.value.first), number.value.second);            \
         return torkettle_prefix_##name(text, length, flags);                                                           \
     }                                                                                                                  \
-                                                                                                                       \
-    TORKETTLE_NEXT_(column, next, _##name)                                                                             \
-    TORKETTLE_NEXT_(fields, next_field, _##name)                                                                       \
+    TORKETTLE_NEXT_(column, next, _##name, type, _##word)                                                              \
+    TORKETTLE_NEXT_(fields, next_field, _##name, type, _##word)                                                        \
     TORKETTLE_PARSES_(_##name, type, _##name)                                                                          \
     static inline void torkettle_column_##name##_init(torkettle_column_##name *column, const char *text,               \
                                                       size_t length, char separator) TORKETTLE_NOEXCEPT                \
     {                                                                                                                  \
         bool is_separator = tk_is_separator(TK_CAST(uint8_t, separator));                                              \
-        column->status = is_separator ? TORKETTLE_OK : TORKETTLE_INVALID;                                              \
-        column->index = column->offset = is_separator ? 0 : SIZE_MAX;                                                  \
-        column->next_index = column->next_offset = 0;                                                                  \
-        column->rest = text;                                                                                           \
-        column->rest_length = is_separator ? length : 0;                                                               \
-        column->separator = separator;                                                                                 \
-        column->is_lines = 0;                                                                                          \
+        torkettle_status status = is_separator ? TORKETTLE_OK : TORKETTLE_INVALID;                                     \
+        size_t index = is_separator ? 0 : SIZE_MAX;                                                                    \
+        size_t rest_length = is_separator ? length : 0;                                                                \
+        *column = TK_MAKE(torkettle_column_##name, status, index, index, 0, 0, text, rest_length, separator, 0);       \
     }                                                                                                                  \
     static inline bool torkettle_column_##name##_next(torkettle_column_##name *column, type *value) TORKETTLE_NOEXCEPT \
     {                                                                                                                  \
@@ -3450,13 +2461,8 @@ static inline size_t torkettle_rest_length(size_t length, char separator) TORKET
     static inline void torkettle_fields_##name##_init(torkettle_fields_##name *fields, const char *text,               \
                                                       size_t length, char separator) TORKETTLE_NOEXCEPT                \
     {                                                                                                                  \
-        fields->status = TORKETTLE_OK;                                                                                 \
-        fields->index = fields->offset = fields->length = fields->next_index = fields->next_offset = 0;                \
-        fields->text = NULL;                                                                                           \
-        fields->rest = text;                                                                                           \
-        fields->rest_length = torkettle_rest_length(length, separator);                                                \
-        fields->separator = separator;                                                                                 \
-        fields->is_lines = 0;                                                                                          \
+        size_t rest_length = torkettle_rest_length(length, separator);                                                 \
+        *fields = TK_MAKE(torkettle_fields_##name, TORKETTLE_OK, 0, 0, NULL, 0, 0, 0, text, rest_length, separator, 0);\
     }                                                                                                                  \
     static inline void torkettle_fields_##name##_init_lines(torkettle_fields_##name *fields, const char *text,         \
                                                             size_t length) TORKETTLE_NOEXCEPT                          \
@@ -3481,17 +2487,17 @@ static inline size_t torkettle_rest_length(size_t length, char separator) TORKET
         return true;                                                                                                   \
     }
 
-/* The types, for a macro that takes a name and a type. */
+/* The types, for a macro that takes a name, a type and, by its name, the type of 64 bits with the same sign. */
 #if defined __SIZEOF_INT128__ && !defined TORKETTLE_NO_INT128
 typedef tk_i128 torkettle_i128;
 typedef tk_u128 torkettle_u128;
-#define TORKETTLE_LARGE_TYPES_(of) of(i128, torkettle_i128) of(u128, torkettle_u128)
+#define TORKETTLE_LARGE_TYPES_(of) of(i128, torkettle_i128, i64) of(u128, torkettle_u128, u64)
 #else
 #define TORKETTLE_LARGE_TYPES_(of)
 #endif
 #define TORKETTLE_TYPES_(of)                                                                                           \
-    of(i8, int8_t) of(u8, uint8_t) of(i16, int16_t) of(u16, uint16_t) of(i32, int32_t) of(u32, uint32_t)               \
-        of(i64, int64_t) of(u64, uint64_t) TORKETTLE_LARGE_TYPES_(of)
+    of(i8, int8_t, i64) of(u8, uint8_t, u64) of(i16, int16_t, i64) of(u16, uint16_t, u64) of(i32, int32_t, i64)        \
+        of(u32, uint32_t, u64) of(i64, int64_t, i64) of(u64, uint64_t, u64) TORKETTLE_LARGE_TYPES_(of)
 TORKETTLE_TYPES_(TORKETTLE_FUNCTIONS_)
 
 #if ULONG_MAX == UINT64_MAX
@@ -3526,6 +2532,7 @@ const char *torkettle_version(void) TORKETTLE_SYMBOL_(version);
 #undef TORKETTLE_NEXT_
 /* torkettle.c goes on with these. */
 #ifndef TORKETTLE_SOURCE_
+#undef TK_ALL
 #undef TK_BY_WORDS
 #undef TK_CAST
 #undef TK_COLD
@@ -3548,7 +2555,7 @@ const char *torkettle_version(void) TORKETTLE_SYMBOL_(version);
 #undef TORKETTLE_PREFIX_
 #undef TORKETTLE_TEXT_
 #undef TORKETTLE_NOEXCEPT
-#if defined __GNUC__ && !defined __cplusplus
+#ifdef __GNUC__
 #pragma GCC diagnostic pop
 #endif
 #endif

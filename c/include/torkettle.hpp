@@ -24,13 +24,26 @@
 #include <type_traits>
 #include <utility>
 
-// Whether `from_chars` and `parse` may be part of a constant expression, and are called in one.
+// Whether `from_chars` and `parse` may be part of a constant expression, and what they return in one.
 #if defined __GNUC__ && __cplusplus >= 202002L && defined __cpp_constexpr_dynamic_alloc
 #define TORKETTLE_CONSTEXPR_ constexpr
-#define TORKETTLE_IS_CONSTANT_() __builtin_is_constant_evaluated()
+#define TORKETTLE_IF_CONSTANT_(found) if (__builtin_is_constant_evaluated()) return found;
+#define TORKETTLE_CONSTANTS_(name)                                                                                     \
+    static constexpr found constant_whole(tk_bytes text, unsigned flags) noexcept                                      \
+    {                                                                                                                  \
+        const auto number = tk_whole_by_digits_##name((flags & TORKETTLE_SKIP_ZEROES) != 0,                            \
+                                                      (flags & TORKETTLE_SKIP_PLUS) != 0, text);                       \
+        return {number.value, number.is_some ? text.len : 0};                                                          \
+    }                                                                                                                  \
+    static constexpr found constant_prefix(tk_bytes text) noexcept                                                     \
+    {                                                                                                                  \
+        const auto number = tk_prefix_by_digits_##name(text);                                                          \
+        return {number.value.first, number.is_some ? number.value.second : 0};                                         \
+    }
 #else
 #define TORKETTLE_CONSTEXPR_
-#define TORKETTLE_IS_CONSTANT_() false
+#define TORKETTLE_IF_CONSTANT_(found)
+#define TORKETTLE_CONSTANTS_(name)
 #endif
 
 namespace torkettle {
@@ -63,30 +76,20 @@ template <class T> constexpr bool is_signed = T(-1) < T(0);
 
 template <class T> using functions_of = functions<sizeof(T), is_signed<T>>;
 
-#define TORKETTLE_FUNCTIONS_(name, type)                                                                               \
+#define TORKETTLE_FUNCTIONS_(name, type, word)                                                                         \
     template <> struct functions<sizeof(type), is_signed<type>> {                                                      \
         using found = torkettle_found_##name;                                                                          \
+        TORKETTLE_CONSTANTS_(name)                                                                                     \
         [[gnu::always_inline]] static TORKETTLE_CONSTEXPR_ found whole(const char *text, std::size_t length,           \
                                                                        unsigned flags) noexcept                        \
         {                                                                                                              \
-            return TORKETTLE_IS_CONSTANT_() ? constant_whole(copied(text, length), flags)                              \
-                                            : torkettle_of_whole_##name(text, length, flags);                          \
+            TORKETTLE_IF_CONSTANT_(constant_whole(copied(text, length), flags))                                        \
+            return torkettle_of_whole_##name(text, length, flags);                                                     \
         }                                                                                                              \
         [[gnu::always_inline]] static TORKETTLE_CONSTEXPR_ found prefix(const char *text, std::size_t length) noexcept \
         {                                                                                                              \
-            return TORKETTLE_IS_CONSTANT_() ? constant_prefix(copied(text, length))                                    \
-                                            : torkettle_of_prefix_##name(text, length, TORKETTLE_SKIP_ZEROES);         \
-        }                                                                                                              \
-        static TORKETTLE_CONSTEXPR_ found constant_whole(tk_bytes text, unsigned flags) noexcept                       \
-        {                                                                                                              \
-            const auto number = tk_whole_by_digits_##name((flags & TORKETTLE_SKIP_ZEROES) != 0,                        \
-                                                          (flags & TORKETTLE_SKIP_PLUS) != 0, text);                   \
-            return {number.value, number.is_some ? text.len : 0};                                                      \
-        }                                                                                                              \
-        static TORKETTLE_CONSTEXPR_ found constant_prefix(tk_bytes text) noexcept                                      \
-        {                                                                                                              \
-            const auto number = tk_prefix_by_digits_##name(text);                                                      \
-            return {number.value.first, number.is_some ? number.value.second : 0};                                     \
+            TORKETTLE_IF_CONSTANT_(constant_prefix(copied(text, length)))                                              \
+            return torkettle_of_prefix_##name(text, length, TORKETTLE_SKIP_ZEROES);                                    \
         }                                                                                                              \
         static constexpr auto canonical = torkettle_whole_canonical_##name;                                            \
         static constexpr auto json = torkettle_prefix_json_##name;                                                     \
@@ -366,7 +369,8 @@ template <class T, class Allocator> fields<T> lines(const detail::string<Allocat
 } // namespace torkettle
 
 #undef TORKETTLE_CONSTEXPR_
-#undef TORKETTLE_IS_CONSTANT_
+#undef TORKETTLE_CONSTANTS_
+#undef TORKETTLE_IF_CONSTANT_
 
 #endif
 #endif

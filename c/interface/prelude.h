@@ -38,8 +38,9 @@
 #define TK_HINTED TK_INLINE
 #endif
 
-/* What a compiler of C++20 can call in a constant expression. */
+/* What a compiler of C++20 can call in a constant expression. To include the header takes less time without TK_ALL. */
 #if defined __GNUC__ && defined __cplusplus && __cplusplus >= 202002L
+#define TK_ALL
 #define TK_CONSTEXPR constexpr TK_INLINE
 #else
 #define TK_CONSTEXPR TK_INLINE
@@ -109,21 +110,24 @@ TK_CONSTEXPR size_t tk_index(size_t index, size_t len)
     }
 
 TK_CONSTEXPR bool tk_u8_is_digit(uint8_t byte) { return '0' <= byte && byte <= '9'; }
-TK_CONSTEXPR uint32_t tk_u32_wrapping_add(uint32_t a, uint32_t b) { return a + b; }
-TK_CONSTEXPR uint32_t tk_u32_wrapping_sub(uint32_t a, uint32_t b) { return a - b; }
-TK_CONSTEXPR uint32_t tk_u32_wrapping_mul(uint32_t a, uint32_t b) { return a * b; }
 TK_CONSTEXPR uint64_t tk_u64_wrapping_add(uint64_t a, uint64_t b) { return a + b; }
 TK_CONSTEXPR uint64_t tk_u64_wrapping_sub(uint64_t a, uint64_t b) { return a - b; }
 TK_CONSTEXPR uint64_t tk_u64_wrapping_mul(uint64_t a, uint64_t b) { return a * b; }
+TK_CONSTEXPR uint64_t tk_i64_unsigned_abs(int64_t a) { return a < 0 ? 0 - TK_CAST(uint64_t, a) : TK_CAST(uint64_t, a); }
+
+#ifdef TK_ALL
+TK_CONSTEXPR uint32_t tk_u32_wrapping_add(uint32_t a, uint32_t b) { return a + b; }
+TK_CONSTEXPR uint32_t tk_u32_wrapping_sub(uint32_t a, uint32_t b) { return a - b; }
+TK_CONSTEXPR uint32_t tk_u32_wrapping_mul(uint32_t a, uint32_t b) { return a * b; }
 TK_CONSTEXPR uint32_t tk_u32_min(uint32_t a, uint32_t b) { return b < a ? b : a; }
 TK_CONSTEXPR size_t tk_size_min(size_t a, size_t b) { return b < a ? b : a; }
 TK_CONSTEXPR size_t tk_size_max(size_t a, size_t b) { return a < b ? b : a; }
 TK_CONSTEXPR size_t tk_size_saturating_add(size_t a, size_t b) { return a + b < a ? TK_CAST(size_t, -1) : a + b; }
 TK_CONSTEXPR size_t tk_size_saturating_sub(size_t a, size_t b) { return a < b ? 0 : a - b; }
-TK_CONSTEXPR uint64_t tk_i64_unsigned_abs(int64_t a) { return a < 0 ? 0 - TK_CAST(uint64_t, a) : TK_CAST(uint64_t, a); }
 TK_CONSTEXPR uint32_t tk_i32_unsigned_abs(int32_t a) { return TK_CAST(uint32_t, tk_i64_unsigned_abs(a)); }
 TK_CONSTEXPR uint16_t tk_i16_unsigned_abs(int16_t a) { return TK_CAST(uint16_t, tk_i64_unsigned_abs(a)); }
 TK_CONSTEXPR uint8_t tk_i8_unsigned_abs(int8_t a) { return TK_CAST(uint8_t, tk_i64_unsigned_abs(a)); }
+#endif
 
 /* How many low bits of a word are zero. */
 TK_INLINE uint32_t tk_u64_trailing_zeros(uint64_t word)
@@ -141,8 +145,6 @@ TK_INLINE uint32_t tk_u64_trailing_zeros(uint64_t word)
     return count;
 #endif
 }
-
-TK_INLINE uint32_t tk_u32_trailing_zeros(uint32_t word) { return tk_u64_trailing_zeros(word | UINT64_C(1) << 32); }
 
 /* Words of bytes, the first one lowest, on every processor. Compilers make one load of it. */
 TK_INLINE uint16_t tk_u16_load(const uint8_t *bytes) { return TK_CAST(uint16_t, bytes[0] | bytes[1] << 8); }
@@ -191,7 +193,6 @@ typedef struct tk_u128 {
     uint64_t low;
     uint64_t high;
 } tk_u128;
-
 typedef tk_u128 tk_i128;
 
 TK_CONSTEXPR tk_u128 tk_u128_make(uint64_t high, uint64_t low) { return TK_MAKE(tk_u128, low, high); }
@@ -253,6 +254,14 @@ TK_CONSTEXPR tk_i128 tk_u128_as_i128(tk_u128 value) { return value; }
 TK_CONSTEXPR tk_u128 tk_i128_as_u128(tk_i128 value) { return value; }
 #endif
 
+TK_CONSTEXPR tk_i128 tk_i128_of(uint64_t value) { return tk_u128_as_i128(tk_u128_of(value)); }
+TK_CONSTEXPR uint64_t tk_i128_low(tk_i128 value) { return tk_u128_low(tk_i128_as_u128(value)); }
+
+TK_CONSTEXPR tk_i128 tk_i128_negate(tk_i128 a)
+{
+    return tk_u128_as_i128(tk_u128_wrapping_sub(tk_u128_of(0), tk_i128_as_u128(a)));
+}
+
 TK_CONSTEXPR bool tk_u128_sum_fits(tk_u128 a, tk_u128 b) { return !tk_u128_less(tk_u128_wrapping_add(a, b), a); }
 
 TK_CONSTEXPR tk_u128 tk_u128_add(tk_u128 a, tk_u128 b)
@@ -260,6 +269,9 @@ TK_CONSTEXPR tk_u128 tk_u128_add(tk_u128 a, tk_u128 b)
     TORKETTLE_CHECK(tk_u128_sum_fits(a, b));
     return tk_u128_wrapping_add(a, b);
 }
+
+#ifdef TK_ALL
+TK_INLINE uint32_t tk_u32_trailing_zeros(uint32_t word) { return tk_u64_trailing_zeros(word | UINT64_C(1) << 32); }
 
 TK_CONSTEXPR tk_u128 tk_u128_mul(tk_u128 a, tk_u128 b)
 {
@@ -284,8 +296,6 @@ TK_BY_WORDS(tk_u128_or, |)
 TK_BY_WORDS(tk_u128_xor, ^)
 
 TK_CONSTEXPR tk_i128 tk_i128_make(uint64_t high, uint64_t low) { return tk_u128_as_i128(tk_u128_make(high, low)); }
-TK_CONSTEXPR tk_i128 tk_i128_of(uint64_t value) { return tk_u128_as_i128(tk_u128_of(value)); }
-TK_CONSTEXPR uint64_t tk_i128_low(tk_i128 value) { return tk_u128_low(tk_i128_as_u128(value)); }
 
 TK_CONSTEXPR bool tk_i128_less(tk_i128 a, tk_i128 b)
 {
@@ -293,12 +303,8 @@ TK_CONSTEXPR bool tk_i128_less(tk_i128 a, tk_i128 b)
     return tk_u128_less(tk_u128_xor(tk_i128_as_u128(a), sign), tk_u128_xor(tk_i128_as_u128(b), sign));
 }
 
-TK_CONSTEXPR tk_i128 tk_i128_negate(tk_i128 a)
-{
-    return tk_u128_as_i128(tk_u128_wrapping_sub(tk_u128_of(0), tk_i128_as_u128(a)));
-}
-
 TK_CONSTEXPR tk_u128 tk_i128_unsigned_abs(tk_i128 a)
 {
     return tk_i128_as_u128(tk_i128_less(a, tk_i128_of(0)) ? tk_i128_negate(a) : a);
 }
+#endif

@@ -1,6 +1,7 @@
 /* Torkettle for C99 and C++11: what torkettle.h declares. Compile this file with your program. */
 /* SPDX-License-Identifier: MIT */
 #define TORKETTLE_SOURCE_
+#define TK_ALL
 #include "torkettle.h"
 
 /* ---- Made by .ci/translate from the proved sources, up to the next such line. */
@@ -104,7 +105,7 @@ const char *torkettle_version(void) TORKETTLE_NOEXCEPT { return TORKETTLE_VERSIO
         (all)->rest_length -= position.second;                                                                         \
     } while (0)
 
-#define TK_FUNCTIONS(name, type)                                                                                       \
+#define TK_FUNCTIONS(name, type, word)                                                                                 \
     /* Without a number, the value is the status. */                                                                   \
     TK_INLINE torkettle_found_##name tk_refused_##name(tk_error error)                                                 \
     {                                                                                                                  \
@@ -190,10 +191,8 @@ const char *torkettle_version(void) TORKETTLE_NOEXCEPT { return TORKETTLE_VERSIO
         *count = found.length;                                                                                         \
         return TORKETTLE_OK;                                                                                           \
     }                                                                                                                  \
-                                                                                                                       \
     TK_ERROR_OF(torkettle_parse_error_##name, tk_result_##name, tk_atoi_simd_parse_##name)                             \
     TK_ERROR_OF(torkettle_parse_prefix_error_##name, tk_result_pair_##name##_size, tk_atoi_simd_parse_prefix_##name)   \
-                                                                                                                       \
     TK_COLD void tk_refuse_field_##name(torkettle_fields_##name *fields, tk_field_error bad)                           \
     {                                                                                                                  \
         fields->status = tk_status_of(bad.cause);                                                                      \
@@ -202,7 +201,6 @@ const char *torkettle_version(void) TORKETTLE_NOEXCEPT { return TORKETTLE_VERSIO
         fields->text = fields->rest + bad.place;                                                                       \
         fields->length = bad.text.len;                                                                                 \
     }                                                                                                                  \
-                                                                                                                       \
     /* Tells of the separator as of one bad field, after which the fields end. */                                      \
     TK_COLD void tk_refuse_separator_##name(torkettle_fields_##name *fields)                                           \
     {                                                                                                                  \
@@ -248,7 +246,6 @@ const char *torkettle_version(void) TORKETTLE_NOEXCEPT { return TORKETTLE_VERSIO
             torkettle_next_field_##name(fields);                                                                       \
         return read;                                                                                                   \
     }                                                                                                                  \
-                                                                                                                       \
     /* A column is read as its fields, up to a bad one. */                                                             \
     TK_INLINE torkettle_fields_##name tk_fields_of_##name(const torkettle_column_##name *column)                       \
     {                                                                                                                  \

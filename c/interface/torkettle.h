@@ -49,10 +49,14 @@
 #include <intrin.h>
 #endif
 
-/* Programs that declare variables only at the start of a block may ask compilers for this warning. */
-#if defined __GNUC__ && !defined __cplusplus
+/* Programs may ask compilers to warn of variables that are declared late, and of casts that change no type. */
+#ifdef __GNUC__
 #pragma GCC diagnostic push
+#ifndef __cplusplus
 #pragma GCC diagnostic ignored "-Wdeclaration-after-statement"
+#elif !defined __clang__
+#pragma GCC diagnostic ignored "-Wuseless-cast"
+#endif
 #endif
 
 #ifdef __cplusplus
@@ -301,14 +305,14 @@ static inline size_t torkettle_rest_length(size_t length, char separator) TORKET
 
 /* Reads the next field of a column or of fields. `called` does that, unless `tk_quick_field` finds a number. It gets a
    copy, so that compilers can keep the fields of a loop in registers. */
-#define TORKETTLE_NEXT_(kind, called, suffix)                                                                          \
+#define TORKETTLE_NEXT_(kind, called, suffix, type, word)                                                              \
     TK_INLINE torkettle_found##suffix torkettle_next_of_##kind##suffix(torkettle_##kind##suffix *fields)               \
         TORKETTLE_NOEXCEPT                                                                                             \
     {                                                                                                                  \
-        tk_option_pair##suffix##_size quick =                                                                          \
-            tk_quick_field##suffix(tk_text(fields->rest, fields->rest_length), TK_CAST(uint8_t, fields->separator));   \
-        size_t count = quick.value.second;                                                                             \
-        if (!quick.is_some) {                                                                                          \
+        tk_bytes rest = tk_text(fields->rest, fields->rest_length);                                                    \
+        tk_option_pair##word##_size number = tk_quick_field##suffix##word(rest, TK_CAST(uint8_t, fields->separator));  \
+        size_t count = number.value.second;                                                                            \
+        if (!number.is_some) {                                                                                         \
             torkettle_##kind##suffix copy = *fields;                                                                   \
             torkettle_found##suffix found = torkettle_##called##suffix(&copy);                                         \
             *fields = copy;                                                                                            \
@@ -319,7 +323,7 @@ static inline size_t torkettle_rest_length(size_t length, char separator) TORKET
         fields->next_offset += count + 1;                                                                              \
         fields->rest += count + 1;                                                                                     \
         fields->rest_length -= count + 1;                                                                              \
-        return TK_MAKE(torkettle_found##suffix, quick.value.first, 1);                                                 \
+        return TK_MAKE(torkettle_found##suffix, TK_CAST(type, number.value.first), 1);                                 \
     }
 
 /* The parses of a type by the functions of another, or its own, of the same size and sign. */
@@ -362,7 +366,7 @@ static inline size_t torkettle_rest_length(size_t length, char separator) TORKET
         return true;                                                                                                   \
     }
 
-#define TORKETTLE_FUNCTIONS_(name, type)                                                                               \
+#define TORKETTLE_FUNCTIONS_(name, type, word)                                                                         \
     typedef struct torkettle_found_##name {                                                                            \
         type value;                                                                                                    \
         size_t length;                                                                                                 \
@@ -383,7 +387,6 @@ static inline size_t torkettle_rest_length(size_t length, char separator) TORKET
         size_t rest_length;                                                                                            \
         char separator, is_lines;                                                                                      \
     } torkettle_fields_##name;                                                                                         \
-                                                                                                                       \
     TK_CALLED(torkettle_found_##name, whole_##name, const char *text, size_t length, unsigned flags);                  \
     TK_CALLED(torkettle_found_##name, prefix_##name, const char *text, size_t length, unsigned flags);                 \
     TK_CALLED(torkettle_found_##name, whole_canonical_##name, const char *text, size_t length);                        \
@@ -402,38 +405,33 @@ static inline size_t torkettle_rest_length(size_t length, char separator) TORKET
     TK_CALLED(torkettle_error, parse_prefix_error_##name, const char *text, size_t length, unsigned flags);            \
     TK_CALLED(size_t, column_##name##_read, torkettle_column_##name *column, type *values, size_t count);              \
     TK_CALLED(size_t, fields_##name##_read, torkettle_fields_##name *fields, type *values, size_t count);              \
-                                                                                                                       \
     TK_INLINE torkettle_found_##name torkettle_of_whole_##name(const char *text, size_t length, unsigned flags)        \
         TORKETTLE_NOEXCEPT                                                                                             \
     {                                                                                                                  \
-        tk_option_##name digit = tk_one_digit_##name(tk_text(text, length));                                           \
+        tk_option_u8 digit = tk_one_digit(tk_text(text, length));                                                      \
         if (digit.is_some)                                                                                             \
-            return TK_MAKE(torkettle_found_##name, digit.value, 1);                                                    \
+            return TK_MAKE(torkettle_found_##name, TK_CAST(type, digit.value), 1);                                     \
         return torkettle_whole_##name(text, length, flags);                                                            \
     }                                                                                                                  \
     TK_INLINE torkettle_found_##name torkettle_of_prefix_##name(const char *text, size_t length, unsigned flags)       \
         TORKETTLE_NOEXCEPT                                                                                             \
     {                                                                                                                  \
-        tk_option_pair_##name##_size quick = tk_quick_prefix_##name(tk_text(text, length));                            \
-        if (quick.is_some)                                                                                             \
-            return TK_MAKE(torkettle_found_##name, quick.value.first, quick.value.second);                             \
+        tk_option_pair_##word##_size number = tk_quick_prefix_##name##_##word(tk_text(text, length));                  \
+        if (number.is_some)                                                                                            \
+            return TK_MAKE(torkettle_found_##name, TK_CAST(type, number.value.first), number.value.second);            \
         return torkettle_prefix_##name(text, length, flags);                                                           \
     }                                                                                                                  \
-                                                                                                                       \
-    TORKETTLE_NEXT_(column, next, _##name)                                                                             \
-    TORKETTLE_NEXT_(fields, next_field, _##name)                                                                       \
+    TORKETTLE_NEXT_(column, next, _##name, type, _##word)                                                              \
+    TORKETTLE_NEXT_(fields, next_field, _##name, type, _##word)                                                        \
     TORKETTLE_PARSES_(_##name, type, _##name)                                                                          \
     static inline void torkettle_column_##name##_init(torkettle_column_##name *column, const char *text,               \
                                                       size_t length, char separator) TORKETTLE_NOEXCEPT                \
     {                                                                                                                  \
         bool is_separator = tk_is_separator(TK_CAST(uint8_t, separator));                                              \
-        column->status = is_separator ? TORKETTLE_OK : TORKETTLE_INVALID;                                              \
-        column->index = column->offset = is_separator ? 0 : SIZE_MAX;                                                  \
-        column->next_index = column->next_offset = 0;                                                                  \
-        column->rest = text;                                                                                           \
-        column->rest_length = is_separator ? length : 0;                                                               \
-        column->separator = separator;                                                                                 \
-        column->is_lines = 0;                                                                                          \
+        torkettle_status status = is_separator ? TORKETTLE_OK : TORKETTLE_INVALID;                                     \
+        size_t index = is_separator ? 0 : SIZE_MAX;                                                                    \
+        size_t rest_length = is_separator ? length : 0;                                                                \
+        *column = TK_MAKE(torkettle_column_##name, status, index, index, 0, 0, text, rest_length, separator, 0);       \
     }                                                                                                                  \
     static inline bool torkettle_column_##name##_next(torkettle_column_##name *column, type *value) TORKETTLE_NOEXCEPT \
     {                                                                                                                  \
@@ -446,13 +444,8 @@ static inline size_t torkettle_rest_length(size_t length, char separator) TORKET
     static inline void torkettle_fields_##name##_init(torkettle_fields_##name *fields, const char *text,               \
                                                       size_t length, char separator) TORKETTLE_NOEXCEPT                \
     {                                                                                                                  \
-        fields->status = TORKETTLE_OK;                                                                                 \
-        fields->index = fields->offset = fields->length = fields->next_index = fields->next_offset = 0;                \
-        fields->text = NULL;                                                                                           \
-        fields->rest = text;                                                                                           \
-        fields->rest_length = torkettle_rest_length(length, separator);                                                \
-        fields->separator = separator;                                                                                 \
-        fields->is_lines = 0;                                                                                          \
+        size_t rest_length = torkettle_rest_length(length, separator);                                                 \
+        *fields = TK_MAKE(torkettle_fields_##name, TORKETTLE_OK, 0, 0, NULL, 0, 0, 0, text, rest_length, separator, 0);\
     }                                                                                                                  \
     static inline void torkettle_fields_##name##_init_lines(torkettle_fields_##name *fields, const char *text,         \
                                                             size_t length) TORKETTLE_NOEXCEPT                          \
@@ -477,17 +470,17 @@ static inline size_t torkettle_rest_length(size_t length, char separator) TORKET
         return true;                                                                                                   \
     }
 
-/* The types, for a macro that takes a name and a type. */
+/* The types, for a macro that takes a name, a type and, by its name, the type of 64 bits with the same sign. */
 #if defined __SIZEOF_INT128__ && !defined TORKETTLE_NO_INT128
 typedef tk_i128 torkettle_i128;
 typedef tk_u128 torkettle_u128;
-#define TORKETTLE_LARGE_TYPES_(of) of(i128, torkettle_i128) of(u128, torkettle_u128)
+#define TORKETTLE_LARGE_TYPES_(of) of(i128, torkettle_i128, i64) of(u128, torkettle_u128, u64)
 #else
 #define TORKETTLE_LARGE_TYPES_(of)
 #endif
 #define TORKETTLE_TYPES_(of)                                                                                           \
-    of(i8, int8_t) of(u8, uint8_t) of(i16, int16_t) of(u16, uint16_t) of(i32, int32_t) of(u32, uint32_t)               \
-        of(i64, int64_t) of(u64, uint64_t) TORKETTLE_LARGE_TYPES_(of)
+    of(i8, int8_t, i64) of(u8, uint8_t, u64) of(i16, int16_t, i64) of(u16, uint16_t, u64) of(i32, int32_t, i64)        \
+        of(u32, uint32_t, u64) of(i64, int64_t, i64) of(u64, uint64_t, u64) TORKETTLE_LARGE_TYPES_(of)
 TORKETTLE_TYPES_(TORKETTLE_FUNCTIONS_)
 
 #if ULONG_MAX == UINT64_MAX
@@ -530,7 +523,7 @@ const char *torkettle_version(void) TORKETTLE_SYMBOL_(version);
 #undef TORKETTLE_PREFIX_
 #undef TORKETTLE_TEXT_
 #undef TORKETTLE_NOEXCEPT
-#if defined __GNUC__ && !defined __cplusplus
+#ifdef __GNUC__
 #pragma GCC diagnostic pop
 #endif
 #endif

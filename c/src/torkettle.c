@@ -2,6 +2,7 @@
 /* Torkettle for C99 and C++11: what torkettle.h declares. Compile this file with your program. */
 /* SPDX-License-Identifier: MIT */
 #define TORKETTLE_SOURCE_
+#define TK_ALL
 #include "torkettle.h"
 
 /* ---- Made by .ci/translate from the proved sources, up to the next such line. */
@@ -1182,16 +1183,6 @@ TK_CONSTEXPR tk_room_i8 tk_room_i8_of(int8_t *at, size_t len)
 
 TK_PARTS(tk_room_i8)
 
-typedef struct tk_pair_bool_u128 {
-    bool first;
-    tk_u128 second;
-} tk_pair_bool_u128;
-
-TK_CONSTEXPR tk_pair_bool_u128 tk_new_pair_bool_u128(bool first, tk_u128 second)
-{
-    return TK_MAKE(tk_pair_bool_u128, first, second);
-}
-
 typedef struct tk_slice_i8 {
     const int8_t *at;
     size_t len;
@@ -1521,6 +1512,15 @@ TK_INLINE uint32_t tk_leading_digits_flipped(uint64_t flipped)
     return tk_u64_trailing_zeros(marks) / 8;
 }
 
+/* atoi_fast/src/in_range.rt:20 */
+TK_INLINE tk_option_i8 tk_number_in_range_i8(tk_u128 greatest, uint64_t most, bool minus, uint64_t magnitude)
+{
+    if (tk_is_in_range(greatest, most, minus, magnitude) && tk_is_in_range(tk_u128_of(127), most, minus, magnitude)) {
+        return tk_some_i8(tk_from_parts_i8(minus, tk_u128_of(magnitude)));
+    }
+    return tk_none_i8();
+}
+
 /* Returns the number of a slice of 2 to 8 bytes, if all are digits after at most a minus. */
 /* atoi_fast/src/short_slice.rt:38 */
 TK_HINTED tk_option_i8 tk_short_slice_i8(tk_bytes s)
@@ -1531,7 +1531,7 @@ TK_HINTED tk_option_i8 tk_short_slice_i8(tk_bytes s)
     if (tk_leading_digits_flipped(flipped) != 8) {
         return tk_none_i8();
     }
-    return tk_number_in_range_i8(TK_MOST_IN_WORD, minus, tk_sum_of(flipped));
+    return tk_number_in_range_i8(tk_u128_of(127), TK_MOST_IN_WORD, minus, tk_sum_of(flipped));
 }
 
 /* atoi_fast/src/loads.rt:122 */
@@ -1588,11 +1588,11 @@ TK_HINTED tk_option_i8 tk_slice_of_two_words_i8(tk_bytes s)
     }
     uint64_t high = tk_value_of(first, TK_CAST(uint32_t, s.len) - 8);
     uint64_t magnitude = high * tk_power_of_ten(8) + tk_value_of(last, 8);
-    return tk_number_in_range_i8(TK_MOST_IN_TWO_WORDS, minus, magnitude);
+    return tk_number_in_range_i8(tk_u128_of(127), TK_MOST_IN_TWO_WORDS, minus, magnitude);
 }
 
 /* Returns the number of a slice of 2 to 15 bytes, if all are digits after at most a minus. */
-/* atoi_fast/src/quick.rt:28 */
+/* atoi_fast/src/quick.rt:26 */
 TK_HINTED tk_option_i8 tk_quick_slice_i8(tk_bytes s)
 {
     if (2 <= s.len && s.len <= 8) {
@@ -1604,6 +1604,15 @@ TK_HINTED tk_option_i8 tk_quick_slice_i8(tk_bytes s)
     return tk_none_i8();
 }
 
+/* atoi_fast/src/in_range.rt:20 */
+TK_INLINE tk_option_u8 tk_number_in_range_u8(tk_u128 greatest, uint64_t most, bool minus, uint64_t magnitude)
+{
+    if (tk_is_in_range(greatest, most, minus, magnitude) && tk_is_in_range(tk_u128_of(255), most, minus, magnitude)) {
+        return tk_some_u8(tk_from_parts_u8(minus, tk_u128_of(magnitude)));
+    }
+    return tk_none_u8();
+}
+
 /* atoi_fast/src/short_slice.rt:38 */
 TK_HINTED tk_option_u8 tk_short_slice_u8(tk_bytes s)
 {
@@ -1613,7 +1622,7 @@ TK_HINTED tk_option_u8 tk_short_slice_u8(tk_bytes s)
     if (tk_leading_digits_flipped(flipped) != 8) {
         return tk_none_u8();
     }
-    return tk_number_in_range_u8(TK_MOST_IN_WORD, minus, tk_sum_of(flipped));
+    return tk_number_in_range_u8(tk_u128_of(255), TK_MOST_IN_WORD, minus, tk_sum_of(flipped));
 }
 
 /* atoi_fast/src/short_slice.rt:71 */
@@ -1629,10 +1638,10 @@ TK_HINTED tk_option_u8 tk_slice_of_two_words_u8(tk_bytes s)
     }
     uint64_t high = tk_value_of(first, TK_CAST(uint32_t, s.len) - 8);
     uint64_t magnitude = high * tk_power_of_ten(8) + tk_value_of(last, 8);
-    return tk_number_in_range_u8(TK_MOST_IN_TWO_WORDS, minus, magnitude);
+    return tk_number_in_range_u8(tk_u128_of(255), TK_MOST_IN_TWO_WORDS, minus, magnitude);
 }
 
-/* atoi_fast/src/quick.rt:28 */
+/* atoi_fast/src/quick.rt:26 */
 TK_HINTED tk_option_u8 tk_quick_slice_u8(tk_bytes s)
 {
     if (2 <= s.len && s.len <= 8) {
@@ -1644,6 +1653,15 @@ TK_HINTED tk_option_u8 tk_quick_slice_u8(tk_bytes s)
     return tk_none_u8();
 }
 
+/* atoi_fast/src/in_range.rt:20 */
+TK_INLINE tk_option_i16 tk_number_in_range_i16(tk_u128 greatest, uint64_t most, bool minus, uint64_t magnitude)
+{
+    if (tk_is_in_range(greatest, most, minus, magnitude) && tk_is_in_range(tk_u128_of(32767), most, minus, magnitude)) {
+        return tk_some_i16(tk_from_parts_i16(minus, tk_u128_of(magnitude)));
+    }
+    return tk_none_i16();
+}
+
 /* atoi_fast/src/short_slice.rt:38 */
 TK_HINTED tk_option_i16 tk_short_slice_i16(tk_bytes s)
 {
@@ -1653,7 +1671,7 @@ TK_HINTED tk_option_i16 tk_short_slice_i16(tk_bytes s)
     if (tk_leading_digits_flipped(flipped) != 8) {
         return tk_none_i16();
     }
-    return tk_number_in_range_i16(TK_MOST_IN_WORD, minus, tk_sum_of(flipped));
+    return tk_number_in_range_i16(tk_u128_of(32767), TK_MOST_IN_WORD, minus, tk_sum_of(flipped));
 }
 
 /* atoi_fast/src/short_slice.rt:71 */
@@ -1669,10 +1687,10 @@ TK_HINTED tk_option_i16 tk_slice_of_two_words_i16(tk_bytes s)
     }
     uint64_t high = tk_value_of(first, TK_CAST(uint32_t, s.len) - 8);
     uint64_t magnitude = high * tk_power_of_ten(8) + tk_value_of(last, 8);
-    return tk_number_in_range_i16(TK_MOST_IN_TWO_WORDS, minus, magnitude);
+    return tk_number_in_range_i16(tk_u128_of(32767), TK_MOST_IN_TWO_WORDS, minus, magnitude);
 }
 
-/* atoi_fast/src/quick.rt:28 */
+/* atoi_fast/src/quick.rt:26 */
 TK_HINTED tk_option_i16 tk_quick_slice_i16(tk_bytes s)
 {
     if (2 <= s.len && s.len <= 8) {
@@ -1684,6 +1702,15 @@ TK_HINTED tk_option_i16 tk_quick_slice_i16(tk_bytes s)
     return tk_none_i16();
 }
 
+/* atoi_fast/src/in_range.rt:20 */
+TK_INLINE tk_option_u16 tk_number_in_range_u16(tk_u128 greatest, uint64_t most, bool minus, uint64_t magnitude)
+{
+    if (tk_is_in_range(greatest, most, minus, magnitude) && tk_is_in_range(tk_u128_of(65535), most, minus, magnitude)) {
+        return tk_some_u16(tk_from_parts_u16(minus, tk_u128_of(magnitude)));
+    }
+    return tk_none_u16();
+}
+
 /* atoi_fast/src/short_slice.rt:38 */
 TK_HINTED tk_option_u16 tk_short_slice_u16(tk_bytes s)
 {
@@ -1693,7 +1720,7 @@ TK_HINTED tk_option_u16 tk_short_slice_u16(tk_bytes s)
     if (tk_leading_digits_flipped(flipped) != 8) {
         return tk_none_u16();
     }
-    return tk_number_in_range_u16(TK_MOST_IN_WORD, minus, tk_sum_of(flipped));
+    return tk_number_in_range_u16(tk_u128_of(65535), TK_MOST_IN_WORD, minus, tk_sum_of(flipped));
 }
 
 /* atoi_fast/src/short_slice.rt:71 */
@@ -1709,10 +1736,10 @@ TK_HINTED tk_option_u16 tk_slice_of_two_words_u16(tk_bytes s)
     }
     uint64_t high = tk_value_of(first, TK_CAST(uint32_t, s.len) - 8);
     uint64_t magnitude = high * tk_power_of_ten(8) + tk_value_of(last, 8);
-    return tk_number_in_range_u16(TK_MOST_IN_TWO_WORDS, minus, magnitude);
+    return tk_number_in_range_u16(tk_u128_of(65535), TK_MOST_IN_TWO_WORDS, minus, magnitude);
 }
 
-/* atoi_fast/src/quick.rt:28 */
+/* atoi_fast/src/quick.rt:26 */
 TK_HINTED tk_option_u16 tk_quick_slice_u16(tk_bytes s)
 {
     if (2 <= s.len && s.len <= 8) {
@@ -1724,6 +1751,16 @@ TK_HINTED tk_option_u16 tk_quick_slice_u16(tk_bytes s)
     return tk_none_u16();
 }
 
+/* atoi_fast/src/in_range.rt:20 */
+TK_INLINE tk_option_i32 tk_number_in_range_i32(tk_u128 greatest, uint64_t most, bool minus, uint64_t magnitude)
+{
+    if (tk_is_in_range(greatest, most, minus, magnitude)
+        && tk_is_in_range(tk_u128_of(2147483647), most, minus, magnitude)) {
+        return tk_some_i32(tk_from_parts_i32(minus, tk_u128_of(magnitude)));
+    }
+    return tk_none_i32();
+}
+
 /* atoi_fast/src/short_slice.rt:38 */
 TK_INLINE tk_option_i32 tk_short_slice_i32(tk_bytes s)
 {
@@ -1733,7 +1770,7 @@ TK_INLINE tk_option_i32 tk_short_slice_i32(tk_bytes s)
     if (tk_leading_digits_flipped(flipped) != 8) {
         return tk_none_i32();
     }
-    return tk_number_in_range_i32(TK_MOST_IN_WORD, minus, tk_sum_of(flipped));
+    return tk_number_in_range_i32(tk_u128_of(2147483647), TK_MOST_IN_WORD, minus, tk_sum_of(flipped));
 }
 
 /* atoi_fast/src/short_slice.rt:71 */
@@ -1749,10 +1786,10 @@ TK_INLINE tk_option_i32 tk_slice_of_two_words_i32(tk_bytes s)
     }
     uint64_t high = tk_value_of(first, TK_CAST(uint32_t, s.len) - 8);
     uint64_t magnitude = high * tk_power_of_ten(8) + tk_value_of(last, 8);
-    return tk_number_in_range_i32(TK_MOST_IN_TWO_WORDS, minus, magnitude);
+    return tk_number_in_range_i32(tk_u128_of(2147483647), TK_MOST_IN_TWO_WORDS, minus, magnitude);
 }
 
-/* atoi_fast/src/quick.rt:28 */
+/* atoi_fast/src/quick.rt:26 */
 TK_INLINE tk_option_i32 tk_quick_slice_i32(tk_bytes s)
 {
     if (2 <= s.len && s.len <= 8) {
@@ -1764,6 +1801,16 @@ TK_INLINE tk_option_i32 tk_quick_slice_i32(tk_bytes s)
     return tk_none_i32();
 }
 
+/* atoi_fast/src/in_range.rt:20 */
+TK_INLINE tk_option_u32 tk_number_in_range_u32(tk_u128 greatest, uint64_t most, bool minus, uint64_t magnitude)
+{
+    if (tk_is_in_range(greatest, most, minus, magnitude)
+        && tk_is_in_range(tk_u128_of(UINT64_C(4294967295)), most, minus, magnitude)) {
+        return tk_some_u32(tk_from_parts_u32(minus, tk_u128_of(magnitude)));
+    }
+    return tk_none_u32();
+}
+
 /* atoi_fast/src/short_slice.rt:38 */
 TK_INLINE tk_option_u32 tk_short_slice_u32(tk_bytes s)
 {
@@ -1773,7 +1820,7 @@ TK_INLINE tk_option_u32 tk_short_slice_u32(tk_bytes s)
     if (tk_leading_digits_flipped(flipped) != 8) {
         return tk_none_u32();
     }
-    return tk_number_in_range_u32(TK_MOST_IN_WORD, minus, tk_sum_of(flipped));
+    return tk_number_in_range_u32(tk_u128_of(UINT64_C(4294967295)), TK_MOST_IN_WORD, minus, tk_sum_of(flipped));
 }
 
 /* atoi_fast/src/short_slice.rt:71 */
@@ -1789,10 +1836,10 @@ TK_INLINE tk_option_u32 tk_slice_of_two_words_u32(tk_bytes s)
     }
     uint64_t high = tk_value_of(first, TK_CAST(uint32_t, s.len) - 8);
     uint64_t magnitude = high * tk_power_of_ten(8) + tk_value_of(last, 8);
-    return tk_number_in_range_u32(TK_MOST_IN_TWO_WORDS, minus, magnitude);
+    return tk_number_in_range_u32(tk_u128_of(UINT64_C(4294967295)), TK_MOST_IN_TWO_WORDS, minus, magnitude);
 }
 
-/* atoi_fast/src/quick.rt:28 */
+/* atoi_fast/src/quick.rt:26 */
 TK_INLINE tk_option_u32 tk_quick_slice_u32(tk_bytes s)
 {
     if (2 <= s.len && s.len <= 8) {
@@ -1813,7 +1860,8 @@ TK_INLINE tk_option_i64 tk_short_slice_i64(tk_bytes s)
     if (tk_leading_digits_flipped(flipped) != 8) {
         return tk_none_i64();
     }
-    return tk_number_in_range_i64(TK_MOST_IN_WORD, minus, tk_sum_of(flipped));
+    return tk_number_in_range_i64(tk_u128_of(UINT64_C(9223372036854775807)), TK_MOST_IN_WORD, minus,
+                                  tk_sum_of(flipped));
 }
 
 /* atoi_fast/src/short_slice.rt:71 */
@@ -1829,10 +1877,10 @@ TK_INLINE tk_option_i64 tk_slice_of_two_words_i64(tk_bytes s)
     }
     uint64_t high = tk_value_of(first, TK_CAST(uint32_t, s.len) - 8);
     uint64_t magnitude = high * tk_power_of_ten(8) + tk_value_of(last, 8);
-    return tk_number_in_range_i64(TK_MOST_IN_TWO_WORDS, minus, magnitude);
+    return tk_number_in_range_i64(tk_u128_of(UINT64_C(9223372036854775807)), TK_MOST_IN_TWO_WORDS, minus, magnitude);
 }
 
-/* atoi_fast/src/quick.rt:28 */
+/* atoi_fast/src/quick.rt:26 */
 TK_INLINE tk_option_i64 tk_quick_slice_i64(tk_bytes s)
 {
     if (2 <= s.len && s.len <= 8) {
@@ -1853,7 +1901,8 @@ TK_INLINE tk_option_u64 tk_short_slice_u64(tk_bytes s)
     if (tk_leading_digits_flipped(flipped) != 8) {
         return tk_none_u64();
     }
-    return tk_number_in_range_u64(TK_MOST_IN_WORD, minus, tk_sum_of(flipped));
+    return tk_number_in_range_u64(tk_u128_of(UINT64_C(18446744073709551615)), TK_MOST_IN_WORD, minus,
+                                  tk_sum_of(flipped));
 }
 
 /* atoi_fast/src/short_slice.rt:71 */
@@ -1869,10 +1918,10 @@ TK_INLINE tk_option_u64 tk_slice_of_two_words_u64(tk_bytes s)
     }
     uint64_t high = tk_value_of(first, TK_CAST(uint32_t, s.len) - 8);
     uint64_t magnitude = high * tk_power_of_ten(8) + tk_value_of(last, 8);
-    return tk_number_in_range_u64(TK_MOST_IN_TWO_WORDS, minus, magnitude);
+    return tk_number_in_range_u64(tk_u128_of(UINT64_C(18446744073709551615)), TK_MOST_IN_TWO_WORDS, minus, magnitude);
 }
 
-/* atoi_fast/src/quick.rt:28 */
+/* atoi_fast/src/quick.rt:26 */
 TK_INLINE tk_option_u64 tk_quick_slice_u64(tk_bytes s)
 {
     if (2 <= s.len && s.len <= 8) {
@@ -1884,6 +1933,17 @@ TK_INLINE tk_option_u64 tk_quick_slice_u64(tk_bytes s)
     return tk_none_u64();
 }
 
+/* atoi_fast/src/in_range.rt:20 */
+TK_INLINE tk_option_i128 tk_number_in_range_i128(tk_u128 greatest, uint64_t most, bool minus, uint64_t magnitude)
+{
+    if (tk_is_in_range(greatest, most, minus, magnitude)
+        && tk_is_in_range(tk_u128_make(UINT64_C(9223372036854775807), UINT64_C(18446744073709551615)), most, minus,
+                          magnitude)) {
+        return tk_some_i128(tk_from_parts_i128(minus, tk_u128_of(magnitude)));
+    }
+    return tk_none_i128();
+}
+
 /* atoi_fast/src/short_slice.rt:38 */
 TK_HINTED tk_option_i128 tk_short_slice_i128(tk_bytes s)
 {
@@ -1893,7 +1953,8 @@ TK_HINTED tk_option_i128 tk_short_slice_i128(tk_bytes s)
     if (tk_leading_digits_flipped(flipped) != 8) {
         return tk_none_i128();
     }
-    return tk_number_in_range_i128(TK_MOST_IN_WORD, minus, tk_sum_of(flipped));
+    return tk_number_in_range_i128(tk_u128_make(UINT64_C(9223372036854775807), UINT64_C(18446744073709551615)),
+                                   TK_MOST_IN_WORD, minus, tk_sum_of(flipped));
 }
 
 /* atoi_fast/src/short_slice.rt:71 */
@@ -1909,10 +1970,11 @@ TK_HINTED tk_option_i128 tk_slice_of_two_words_i128(tk_bytes s)
     }
     uint64_t high = tk_value_of(first, TK_CAST(uint32_t, s.len) - 8);
     uint64_t magnitude = high * tk_power_of_ten(8) + tk_value_of(last, 8);
-    return tk_number_in_range_i128(TK_MOST_IN_TWO_WORDS, minus, magnitude);
+    return tk_number_in_range_i128(tk_u128_make(UINT64_C(9223372036854775807), UINT64_C(18446744073709551615)),
+                                   TK_MOST_IN_TWO_WORDS, minus, magnitude);
 }
 
-/* atoi_fast/src/quick.rt:28 */
+/* atoi_fast/src/quick.rt:26 */
 TK_HINTED tk_option_i128 tk_quick_slice_i128(tk_bytes s)
 {
     if (2 <= s.len && s.len <= 8) {
@@ -1924,6 +1986,17 @@ TK_HINTED tk_option_i128 tk_quick_slice_i128(tk_bytes s)
     return tk_none_i128();
 }
 
+/* atoi_fast/src/in_range.rt:20 */
+TK_INLINE tk_option_u128 tk_number_in_range_u128(tk_u128 greatest, uint64_t most, bool minus, uint64_t magnitude)
+{
+    if (tk_is_in_range(greatest, most, minus, magnitude)
+        && tk_is_in_range(tk_u128_make(UINT64_C(18446744073709551615), UINT64_C(18446744073709551615)), most, minus,
+                          magnitude)) {
+        return tk_some_u128(tk_from_parts_u128(minus, tk_u128_of(magnitude)));
+    }
+    return tk_none_u128();
+}
+
 /* atoi_fast/src/short_slice.rt:38 */
 TK_HINTED tk_option_u128 tk_short_slice_u128(tk_bytes s)
 {
@@ -1933,7 +2006,8 @@ TK_HINTED tk_option_u128 tk_short_slice_u128(tk_bytes s)
     if (tk_leading_digits_flipped(flipped) != 8) {
         return tk_none_u128();
     }
-    return tk_number_in_range_u128(TK_MOST_IN_WORD, minus, tk_sum_of(flipped));
+    return tk_number_in_range_u128(tk_u128_make(UINT64_C(18446744073709551615), UINT64_C(18446744073709551615)),
+                                   TK_MOST_IN_WORD, minus, tk_sum_of(flipped));
 }
 
 /* atoi_fast/src/short_slice.rt:71 */
@@ -1949,10 +2023,11 @@ TK_HINTED tk_option_u128 tk_slice_of_two_words_u128(tk_bytes s)
     }
     uint64_t high = tk_value_of(first, TK_CAST(uint32_t, s.len) - 8);
     uint64_t magnitude = high * tk_power_of_ten(8) + tk_value_of(last, 8);
-    return tk_number_in_range_u128(TK_MOST_IN_TWO_WORDS, minus, magnitude);
+    return tk_number_in_range_u128(tk_u128_make(UINT64_C(18446744073709551615), UINT64_C(18446744073709551615)),
+                                   TK_MOST_IN_TWO_WORDS, minus, magnitude);
 }
 
-/* atoi_fast/src/quick.rt:28 */
+/* atoi_fast/src/quick.rt:26 */
 TK_HINTED tk_option_u128 tk_quick_slice_u128(tk_bytes s)
 {
     if (2 <= s.len && s.len <= 8) {
@@ -1965,42 +2040,42 @@ TK_HINTED tk_option_u128 tk_quick_slice_u128(tk_bytes s)
 }
 
 /* Returns the number of a slice of at least 16 bytes, if the type has 64 bits and no limit refuses so many digits. */
-/* atoi_fast/src/quick.rt:40 */
+/* atoi_fast/src/quick.rt:38 */
 TK_HINTED tk_option_i8 tk_long_slice_i8(tk_bytes s)
 {
     (void)s;
     return tk_none_i8();
 }
 
-/* atoi_fast/src/quick.rt:40 */
+/* atoi_fast/src/quick.rt:38 */
 TK_HINTED tk_option_u8 tk_long_slice_u8(tk_bytes s)
 {
     (void)s;
     return tk_none_u8();
 }
 
-/* atoi_fast/src/quick.rt:40 */
+/* atoi_fast/src/quick.rt:38 */
 TK_HINTED tk_option_i16 tk_long_slice_i16(tk_bytes s)
 {
     (void)s;
     return tk_none_i16();
 }
 
-/* atoi_fast/src/quick.rt:40 */
+/* atoi_fast/src/quick.rt:38 */
 TK_HINTED tk_option_u16 tk_long_slice_u16(tk_bytes s)
 {
     (void)s;
     return tk_none_u16();
 }
 
-/* atoi_fast/src/quick.rt:40 */
+/* atoi_fast/src/quick.rt:38 */
 TK_INLINE tk_option_i32 tk_long_slice_i32(tk_bytes s)
 {
     (void)s;
     return tk_none_i32();
 }
 
-/* atoi_fast/src/quick.rt:40 */
+/* atoi_fast/src/quick.rt:38 */
 TK_INLINE tk_option_u32 tk_long_slice_u32(tk_bytes s)
 {
     (void)s;
@@ -2037,7 +2112,7 @@ TK_INLINE uint64_t tk_four_by_product(uint64_t digits, uint32_t len)
 }
 
 /* `prefix_of_two_words` for 16 to 20 bytes, of which the second eight are `second`. */
-/* atoi_fast/src/short_prefix.rt:114 */
+/* atoi_fast/src/short_prefix.rt:191 */
 TK_INLINE tk_option_pair_i64_size tk_prefix_of_three_words_i64(bool minus, uint64_t high, uint64_t second, tk_bytes s)
 {
     uint64_t high_2 = high * tk_power_of_ten(8) + tk_sum_of(tk_u64_wrapping_sub(second, TK_ZEROS));
@@ -2049,7 +2124,8 @@ TK_INLINE tk_option_pair_i64_size tk_prefix_of_three_words_i64(bool minus, uint6
     }
     uint64_t low = tk_four_by_product(tk_u64_wrapping_sub(third, TK_ZEROS), more);
     uint64_t magnitude = high_2 * tk_power_of_ten(more) + low;
-    tk_option_i64 found = tk_number_in_range_i64(TK_MOST_IN_THREE_WORDS, minus, magnitude);
+    tk_option_i64 found = tk_number_in_range_i64(tk_u128_of(UINT64_C(9223372036854775807)), TK_MOST_IN_THREE_WORDS,
+                                                 minus, magnitude);
     if (!found.is_some) {
         return tk_none_pair_i64_size();
     }
@@ -2058,8 +2134,8 @@ TK_INLINE tk_option_pair_i64_size tk_prefix_of_three_words_i64(bool minus, uint6
 }
 
 /* The number of 8 to 15 bytes, of which the first eight spell `high`, with a zero for a minus. */
-/* atoi_fast/src/short_prefix.rt:88 */
-TK_FAR tk_option_pair_i64_size tk_prefix_of_two_words_i64(bool minus, uint64_t high, tk_bytes s)
+/* atoi_fast/src/short_prefix.rt:165 */
+TK_INLINE tk_option_pair_i64_size tk_prefix_of_two_words_i64(bool minus, uint64_t high, tk_bytes s)
 {
     uint64_t next = tk_load_full(tk_bytes_from(s, 8));
     uint32_t more = tk_leading_digits(next);
@@ -2073,7 +2149,8 @@ TK_FAR tk_option_pair_i64_size tk_prefix_of_two_words_i64(bool minus, uint64_t h
     }
     uint64_t low = tk_value_by_product(tk_u64_wrapping_sub(next, TK_ZEROS), more);
     uint64_t magnitude = high * tk_power_of_ten(more) + low;
-    tk_option_i64 found = tk_number_in_range_i64(TK_MOST_IN_TWO_WORDS, minus, magnitude);
+    tk_option_i64 found = tk_number_in_range_i64(tk_u128_of(UINT64_C(9223372036854775807)), TK_MOST_IN_TWO_WORDS, minus,
+                                                 magnitude);
     if (!found.is_some) {
         return tk_none_pair_i64_size();
     }
@@ -2081,7 +2158,49 @@ TK_FAR tk_option_pair_i64_size tk_prefix_of_two_words_i64(bool minus, uint64_t h
     return tk_some_pair_i64_size(tk_new_pair_i64_size(number, 8 + TK_CAST(size_t, more)));
 }
 
-/* atoi_fast/src/quick.rt:40 */
+/* Like `short_prefix` for a signed type. `u64` has up to 19 digits, too. */
+/* atoi_fast/src/short_prefix.rt:46 */
+TK_INLINE tk_option_pair_i64_size tk_prefix_of_words_i64(tk_bytes s)
+{
+    uint64_t word = tk_load_full(s);
+    /* A `-` borrows from the next byte, so that a `0` there looks like no digit. */
+    uint64_t above = tk_u64_wrapping_add(word, UINT64_C(0x4646464646464646));
+    uint64_t below = tk_u64_wrapping_sub(word, TK_ZEROS);
+    uint64_t marks = (above | below) & UINT64_C(0x8080808080808000);
+    if ((marks & 0x8000) != 0) {
+        /* The next load waits for nothing. */
+        uint8_t digit = tk_lowest_byte(below);
+        if (digit > 9) {
+            return tk_none_pair_i64_size();
+        }
+        return tk_some_pair_i64_size(tk_new_pair_i64_size(tk_from_parts_i64(false, tk_u128_of(digit)), 1));
+    }
+    bool minus = true & (tk_lowest_byte(word) == '-');
+    /* The digit of a `-` is 0, and takes the borrow back. */
+    uint64_t digits = tk_u64_wrapping_add(below, 3 * tk_bit(minus));
+    if (tk_lowest_byte(digits) > 9) {
+        return tk_none_pair_i64_size();
+    }
+    if (marks == 0) {
+        /* With `return` of the call, clang 19 returns all lengths in memory. */
+        tk_option_pair_i64_size found = tk_prefix_of_two_words_i64(minus, tk_sum_of(digits), s);
+        if (!found.is_some) {
+            return tk_none_pair_i64_size();
+        }
+        tk_pair_i64_size found_2 = found.value;
+        return tk_some_pair_i64_size(found_2);
+    }
+    uint32_t len = tk_u64_trailing_zeros(marks) / 8;
+    tk_option_i64 found = tk_number_in_range_i64(tk_u128_of(UINT64_C(9223372036854775807)), TK_MOST_IN_WORD, minus,
+                                                 tk_value_by_product(digits, len));
+    if (!found.is_some) {
+        return tk_none_pair_i64_size();
+    }
+    int64_t number = found.value;
+    return tk_some_pair_i64_size(tk_new_pair_i64_size(number, TK_CAST(size_t, len)));
+}
+
+/* atoi_fast/src/quick.rt:38 */
 TK_INLINE tk_option_i64 tk_long_slice_i64(tk_bytes s)
 {
     if (s.len < 16) {
@@ -2099,7 +2218,7 @@ TK_INLINE tk_option_i64 tk_long_slice_i64(tk_bytes s)
     return tk_none_i64();
 }
 
-/* atoi_fast/src/short_prefix.rt:114 */
+/* atoi_fast/src/short_prefix.rt:191 */
 TK_INLINE tk_option_pair_u64_size tk_prefix_of_three_words_u64(bool minus, uint64_t high, uint64_t second, tk_bytes s)
 {
     uint64_t high_2 = high * tk_power_of_ten(8) + tk_sum_of(tk_u64_wrapping_sub(second, TK_ZEROS));
@@ -2111,7 +2230,8 @@ TK_INLINE tk_option_pair_u64_size tk_prefix_of_three_words_u64(bool minus, uint6
     }
     uint64_t low = tk_four_by_product(tk_u64_wrapping_sub(third, TK_ZEROS), more);
     uint64_t magnitude = high_2 * tk_power_of_ten(more) + low;
-    tk_option_u64 found = tk_number_in_range_u64(TK_MOST_IN_THREE_WORDS, minus, magnitude);
+    tk_option_u64 found = tk_number_in_range_u64(tk_u128_of(UINT64_C(18446744073709551615)), TK_MOST_IN_THREE_WORDS,
+                                                 minus, magnitude);
     if (!found.is_some) {
         return tk_none_pair_u64_size();
     }
@@ -2119,8 +2239,8 @@ TK_INLINE tk_option_pair_u64_size tk_prefix_of_three_words_u64(bool minus, uint6
     return tk_some_pair_u64_size(tk_new_pair_u64_size(number, 16 + TK_CAST(size_t, more)));
 }
 
-/* atoi_fast/src/short_prefix.rt:88 */
-TK_FAR tk_option_pair_u64_size tk_prefix_of_two_words_u64(bool minus, uint64_t high, tk_bytes s)
+/* atoi_fast/src/short_prefix.rt:165 */
+TK_INLINE tk_option_pair_u64_size tk_prefix_of_two_words_u64(bool minus, uint64_t high, tk_bytes s)
 {
     uint64_t next = tk_load_full(tk_bytes_from(s, 8));
     uint32_t more = tk_leading_digits(next);
@@ -2134,7 +2254,8 @@ TK_FAR tk_option_pair_u64_size tk_prefix_of_two_words_u64(bool minus, uint64_t h
     }
     uint64_t low = tk_value_by_product(tk_u64_wrapping_sub(next, TK_ZEROS), more);
     uint64_t magnitude = high * tk_power_of_ten(more) + low;
-    tk_option_u64 found = tk_number_in_range_u64(TK_MOST_IN_TWO_WORDS, minus, magnitude);
+    tk_option_u64 found = tk_number_in_range_u64(tk_u128_of(UINT64_C(18446744073709551615)), TK_MOST_IN_TWO_WORDS,
+                                                 minus, magnitude);
     if (!found.is_some) {
         return tk_none_pair_u64_size();
     }
@@ -2142,7 +2263,48 @@ TK_FAR tk_option_pair_u64_size tk_prefix_of_two_words_u64(bool minus, uint64_t h
     return tk_some_pair_u64_size(tk_new_pair_u64_size(number, 8 + TK_CAST(size_t, more)));
 }
 
-/* atoi_fast/src/quick.rt:40 */
+/* atoi_fast/src/short_prefix.rt:46 */
+TK_INLINE tk_option_pair_u64_size tk_prefix_of_words_u64(tk_bytes s)
+{
+    uint64_t word = tk_load_full(s);
+    /* A `-` borrows from the next byte, so that a `0` there looks like no digit. */
+    uint64_t above = tk_u64_wrapping_add(word, UINT64_C(0x4646464646464646));
+    uint64_t below = tk_u64_wrapping_sub(word, TK_ZEROS);
+    uint64_t marks = (above | below) & UINT64_C(0x8080808080808000);
+    if ((marks & 0x8000) != 0) {
+        /* The next load waits for nothing. */
+        uint8_t digit = tk_lowest_byte(below);
+        if (digit > 9) {
+            return tk_none_pair_u64_size();
+        }
+        return tk_some_pair_u64_size(tk_new_pair_u64_size(tk_from_parts_u64(false, tk_u128_of(digit)), 1));
+    }
+    bool minus = false & (tk_lowest_byte(word) == '-');
+    /* The digit of a `-` is 0, and takes the borrow back. */
+    uint64_t digits = tk_u64_wrapping_add(below, 3 * tk_bit(minus));
+    if (tk_lowest_byte(digits) > 9) {
+        return tk_none_pair_u64_size();
+    }
+    if (marks == 0) {
+        /* With `return` of the call, clang 19 returns all lengths in memory. */
+        tk_option_pair_u64_size found = tk_prefix_of_two_words_u64(minus, tk_sum_of(digits), s);
+        if (!found.is_some) {
+            return tk_none_pair_u64_size();
+        }
+        tk_pair_u64_size found_2 = found.value;
+        return tk_some_pair_u64_size(found_2);
+    }
+    uint32_t len = tk_u64_trailing_zeros(marks) / 8;
+    tk_option_u64 found = tk_number_in_range_u64(tk_u128_of(UINT64_C(18446744073709551615)), TK_MOST_IN_WORD, minus,
+                                                 tk_value_by_product(digits, len));
+    if (!found.is_some) {
+        return tk_none_pair_u64_size();
+    }
+    uint64_t number = found.value;
+    return tk_some_pair_u64_size(tk_new_pair_u64_size(number, TK_CAST(size_t, len)));
+}
+
+/* atoi_fast/src/quick.rt:38 */
 TK_INLINE tk_option_u64 tk_long_slice_u64(tk_bytes s)
 {
     if (s.len < 16) {
@@ -2160,162 +2322,48 @@ TK_INLINE tk_option_u64 tk_long_slice_u64(tk_bytes s)
     return tk_none_u64();
 }
 
-/* atoi_fast/src/quick.rt:40 */
+/* atoi_fast/src/quick.rt:38 */
 TK_HINTED tk_option_i128 tk_long_slice_i128(tk_bytes s)
 {
     (void)s;
     return tk_none_i128();
 }
 
-/* atoi_fast/src/quick.rt:40 */
+/* atoi_fast/src/quick.rt:38 */
 TK_HINTED tk_option_u128 tk_long_slice_u128(tk_bytes s)
 {
     (void)s;
     return tk_none_u128();
 }
 
-/* atoi_fast/src/short_prefix.rt:88 */
-TK_FAR tk_option_pair_i8_size tk_prefix_of_two_words_i8(bool minus, uint64_t high, tk_bytes s)
+/* The length is 0 for `None`. */
+/* atoi_fast/src/short_prefix.rt:149 */
+TK_NOINLINE tk_pair_i64_size tk_long_prefix_i64(bool minus, uint64_t high, tk_bytes s)
 {
-    uint64_t next = tk_load_full(tk_bytes_from(s, 8));
-    uint32_t more = tk_leading_digits(next);
-    if (more == 8) {
-        return tk_none_pair_i8_size();
+    tk_option_pair_i64_size found = tk_prefix_of_two_words_i64(minus, high, s);
+    if (found.is_some) {
+        tk_pair_i64_size found_2 = found.value;
+        return found_2;
     }
-    uint64_t low = tk_value_by_product(tk_u64_wrapping_sub(next, TK_ZEROS), more);
-    uint64_t magnitude = high * tk_power_of_ten(more) + low;
-    tk_option_i8 found = tk_number_in_range_i8(TK_MOST_IN_TWO_WORDS, minus, magnitude);
-    if (!found.is_some) {
-        return tk_none_pair_i8_size();
-    }
-    int8_t number = found.value;
-    return tk_some_pair_i8_size(tk_new_pair_i8_size(number, 8 + TK_CAST(size_t, more)));
+    return tk_new_pair_i64_size(tk_from_parts_i64(false, tk_u128_of(0)), 0);
 }
 
-/* atoi_fast/src/short_prefix.rt:88 */
-TK_FAR tk_option_pair_u8_size tk_prefix_of_two_words_u8(bool minus, uint64_t high, tk_bytes s)
+/* C calls this for smaller callers. */
+/* atoi_fast/src/short_prefix.rt:136 */
+TK_FAR tk_pair_i64_size tk_long_signed_prefix_i64(bool minus, uint64_t digits, tk_bytes s)
 {
-    uint64_t next = tk_load_full(tk_bytes_from(s, 8));
-    uint32_t more = tk_leading_digits(next);
-    if (more == 8) {
-        return tk_none_pair_u8_size();
-    }
-    uint64_t low = tk_value_by_product(tk_u64_wrapping_sub(next, TK_ZEROS), more);
-    uint64_t magnitude = high * tk_power_of_ten(more) + low;
-    tk_option_u8 found = tk_number_in_range_u8(TK_MOST_IN_TWO_WORDS, minus, magnitude);
-    if (!found.is_some) {
-        return tk_none_pair_u8_size();
-    }
-    uint8_t number = found.value;
-    return tk_some_pair_u8_size(tk_new_pair_u8_size(number, 8 + TK_CAST(size_t, more)));
+    return tk_long_prefix_i64(minus, tk_sum_of(digits), s);
 }
 
-/* atoi_fast/src/short_prefix.rt:88 */
-TK_FAR tk_option_pair_i16_size tk_prefix_of_two_words_i16(bool minus, uint64_t high, tk_bytes s)
+/* atoi_fast/src/short_prefix.rt:149 */
+TK_FAR tk_pair_u64_size tk_long_prefix_u64(bool minus, uint64_t high, tk_bytes s)
 {
-    uint64_t next = tk_load_full(tk_bytes_from(s, 8));
-    uint32_t more = tk_leading_digits(next);
-    if (more == 8) {
-        return tk_none_pair_i16_size();
+    tk_option_pair_u64_size found = tk_prefix_of_two_words_u64(minus, high, s);
+    if (found.is_some) {
+        tk_pair_u64_size found_2 = found.value;
+        return found_2;
     }
-    uint64_t low = tk_value_by_product(tk_u64_wrapping_sub(next, TK_ZEROS), more);
-    uint64_t magnitude = high * tk_power_of_ten(more) + low;
-    tk_option_i16 found = tk_number_in_range_i16(TK_MOST_IN_TWO_WORDS, minus, magnitude);
-    if (!found.is_some) {
-        return tk_none_pair_i16_size();
-    }
-    int16_t number = found.value;
-    return tk_some_pair_i16_size(tk_new_pair_i16_size(number, 8 + TK_CAST(size_t, more)));
-}
-
-/* atoi_fast/src/short_prefix.rt:88 */
-TK_FAR tk_option_pair_u16_size tk_prefix_of_two_words_u16(bool minus, uint64_t high, tk_bytes s)
-{
-    uint64_t next = tk_load_full(tk_bytes_from(s, 8));
-    uint32_t more = tk_leading_digits(next);
-    if (more == 8) {
-        return tk_none_pair_u16_size();
-    }
-    uint64_t low = tk_value_by_product(tk_u64_wrapping_sub(next, TK_ZEROS), more);
-    uint64_t magnitude = high * tk_power_of_ten(more) + low;
-    tk_option_u16 found = tk_number_in_range_u16(TK_MOST_IN_TWO_WORDS, minus, magnitude);
-    if (!found.is_some) {
-        return tk_none_pair_u16_size();
-    }
-    uint16_t number = found.value;
-    return tk_some_pair_u16_size(tk_new_pair_u16_size(number, 8 + TK_CAST(size_t, more)));
-}
-
-/* atoi_fast/src/short_prefix.rt:88 */
-TK_FAR tk_option_pair_i32_size tk_prefix_of_two_words_i32(bool minus, uint64_t high, tk_bytes s)
-{
-    uint64_t next = tk_load_full(tk_bytes_from(s, 8));
-    uint32_t more = tk_leading_digits(next);
-    if (more == 8) {
-        return tk_none_pair_i32_size();
-    }
-    uint64_t low = tk_value_by_product(tk_u64_wrapping_sub(next, TK_ZEROS), more);
-    uint64_t magnitude = high * tk_power_of_ten(more) + low;
-    tk_option_i32 found = tk_number_in_range_i32(TK_MOST_IN_TWO_WORDS, minus, magnitude);
-    if (!found.is_some) {
-        return tk_none_pair_i32_size();
-    }
-    int32_t number = found.value;
-    return tk_some_pair_i32_size(tk_new_pair_i32_size(number, 8 + TK_CAST(size_t, more)));
-}
-
-/* atoi_fast/src/short_prefix.rt:88 */
-TK_FAR tk_option_pair_u32_size tk_prefix_of_two_words_u32(bool minus, uint64_t high, tk_bytes s)
-{
-    uint64_t next = tk_load_full(tk_bytes_from(s, 8));
-    uint32_t more = tk_leading_digits(next);
-    if (more == 8) {
-        return tk_none_pair_u32_size();
-    }
-    uint64_t low = tk_value_by_product(tk_u64_wrapping_sub(next, TK_ZEROS), more);
-    uint64_t magnitude = high * tk_power_of_ten(more) + low;
-    tk_option_u32 found = tk_number_in_range_u32(TK_MOST_IN_TWO_WORDS, minus, magnitude);
-    if (!found.is_some) {
-        return tk_none_pair_u32_size();
-    }
-    uint32_t number = found.value;
-    return tk_some_pair_u32_size(tk_new_pair_u32_size(number, 8 + TK_CAST(size_t, more)));
-}
-
-/* atoi_fast/src/short_prefix.rt:88 */
-TK_FAR tk_option_pair_i128_size tk_prefix_of_two_words_i128(bool minus, uint64_t high, tk_bytes s)
-{
-    uint64_t next = tk_load_full(tk_bytes_from(s, 8));
-    uint32_t more = tk_leading_digits(next);
-    if (more == 8) {
-        return tk_none_pair_i128_size();
-    }
-    uint64_t low = tk_value_by_product(tk_u64_wrapping_sub(next, TK_ZEROS), more);
-    uint64_t magnitude = high * tk_power_of_ten(more) + low;
-    tk_option_i128 found = tk_number_in_range_i128(TK_MOST_IN_TWO_WORDS, minus, magnitude);
-    if (!found.is_some) {
-        return tk_none_pair_i128_size();
-    }
-    tk_i128 number = found.value;
-    return tk_some_pair_i128_size(tk_new_pair_i128_size(number, 8 + TK_CAST(size_t, more)));
-}
-
-/* atoi_fast/src/short_prefix.rt:88 */
-TK_FAR tk_option_pair_u128_size tk_prefix_of_two_words_u128(bool minus, uint64_t high, tk_bytes s)
-{
-    uint64_t next = tk_load_full(tk_bytes_from(s, 8));
-    uint32_t more = tk_leading_digits(next);
-    if (more == 8) {
-        return tk_none_pair_u128_size();
-    }
-    uint64_t low = tk_value_by_product(tk_u64_wrapping_sub(next, TK_ZEROS), more);
-    uint64_t magnitude = high * tk_power_of_ten(more) + low;
-    tk_option_u128 found = tk_number_in_range_u128(TK_MOST_IN_TWO_WORDS, minus, magnitude);
-    if (!found.is_some) {
-        return tk_none_pair_u128_size();
-    }
-    tk_u128 number = found.value;
-    return tk_some_pair_u128_size(tk_new_pair_u128_size(number, 8 + TK_CAST(size_t, more)));
+    return tk_new_pair_u64_size(tk_from_parts_u64(false, tk_u128_of(0)), 0);
 }
 
 /* Returns the number of one digit. */
@@ -3511,11 +3559,70 @@ TK_HINTED tk_result_u128 tk_atoi_simd_parse_u128(tk_bytes s, bool skip, bool ski
     return tk_called_parse_text_u128(skip, skip_plus, s);
 }
 
+/* atoi_fast/src/short_prefix.rt:165 */
+TK_HINTED tk_option_pair_i8_size tk_prefix_of_two_words_i8(bool minus, uint64_t high, tk_bytes s)
+{
+    uint64_t next = tk_load_full(tk_bytes_from(s, 8));
+    uint32_t more = tk_leading_digits(next);
+    if (more == 8) {
+        return tk_none_pair_i8_size();
+    }
+    uint64_t low = tk_value_by_product(tk_u64_wrapping_sub(next, TK_ZEROS), more);
+    uint64_t magnitude = high * tk_power_of_ten(more) + low;
+    tk_option_i8 found = tk_number_in_range_i8(tk_u128_of(127), TK_MOST_IN_TWO_WORDS, minus, magnitude);
+    if (!found.is_some) {
+        return tk_none_pair_i8_size();
+    }
+    int8_t number = found.value;
+    return tk_some_pair_i8_size(tk_new_pair_i8_size(number, 8 + TK_CAST(size_t, more)));
+}
+
+/* atoi_fast/src/short_prefix.rt:46 */
+TK_HINTED tk_option_pair_i8_size tk_prefix_of_words_i8(tk_bytes s)
+{
+    uint64_t word = tk_load_full(s);
+    /* A `-` borrows from the next byte, so that a `0` there looks like no digit. */
+    uint64_t above = tk_u64_wrapping_add(word, UINT64_C(0x4646464646464646));
+    uint64_t below = tk_u64_wrapping_sub(word, TK_ZEROS);
+    uint64_t marks = (above | below) & UINT64_C(0x8080808080808000);
+    if ((marks & 0x8000) != 0) {
+        /* The next load waits for nothing. */
+        uint8_t digit = tk_lowest_byte(below);
+        if (digit > 9) {
+            return tk_none_pair_i8_size();
+        }
+        return tk_some_pair_i8_size(tk_new_pair_i8_size(tk_from_parts_i8(false, tk_u128_of(digit)), 1));
+    }
+    bool minus = true & (tk_lowest_byte(word) == '-');
+    /* The digit of a `-` is 0, and takes the borrow back. */
+    uint64_t digits = tk_u64_wrapping_add(below, 3 * tk_bit(minus));
+    if (tk_lowest_byte(digits) > 9) {
+        return tk_none_pair_i8_size();
+    }
+    if (marks == 0) {
+        /* With `return` of the call, clang 19 returns all lengths in memory. */
+        tk_option_pair_i8_size found = tk_prefix_of_two_words_i8(minus, tk_sum_of(digits), s);
+        if (!found.is_some) {
+            return tk_none_pair_i8_size();
+        }
+        tk_pair_i8_size found_2 = found.value;
+        return tk_some_pair_i8_size(found_2);
+    }
+    uint32_t len = tk_u64_trailing_zeros(marks) / 8;
+    tk_option_i8 found = tk_number_in_range_i8(tk_u128_of(127), TK_MOST_IN_WORD, minus,
+                                               tk_value_by_product(digits, len));
+    if (!found.is_some) {
+        return tk_none_pair_i8_size();
+    }
+    int8_t number = found.value;
+    return tk_some_pair_i8_size(tk_new_pair_i8_size(number, TK_CAST(size_t, len)));
+}
+
 /*
  * Returns the number at the start of `s` and its length, if that is below 8, or for signed types below 16.
  * For `i64`, also a number of up to 19 digits. Others may be `None`, too.
  */
-/* atoi_fast/src/short_prefix.rt:17 */
+/* atoi_fast/src/short_prefix.rt:18 */
 TK_HINTED tk_option_pair_i8_size tk_short_prefix_i8(tk_bytes s)
 {
     return tk_prefix_of_words_i8(s);
@@ -3656,7 +3763,20 @@ TK_NOINLINE tk_result_pair_i8_size tk_atoi_simd_parse_prefix_i8(tk_bytes s, bool
     return tk_called_parse_prefix_text_i8(skip, skip_plus, s);
 }
 
-/* atoi_fast/src/short_prefix.rt:176 */
+/* atoi_fast/src/short_prefix.rt:290 */
+TK_INLINE tk_option_pair_u8_size tk_prefix_in_word_u8(tk_u128 greatest, uint64_t word, uint32_t len, tk_bytes s)
+{
+    (void)s;
+    uint64_t magnitude = tk_value_by_product(tk_u64_wrapping_sub(word, TK_ZEROS), len);
+    tk_option_u8 found = tk_number_in_range_u8(greatest, TK_MOST_IN_WORD, false, magnitude);
+    if (!found.is_some) {
+        return tk_none_pair_u8_size();
+    }
+    uint8_t number = found.value;
+    return tk_some_pair_u8_size(tk_new_pair_u8_size(number, TK_CAST(size_t, len)));
+}
+
+/* atoi_fast/src/short_prefix.rt:276 */
 TK_HINTED tk_option_pair_u8_size tk_unsigned_prefix_u8(tk_bytes s)
 {
     uint64_t word = tk_load_full(s);
@@ -3664,10 +3784,10 @@ TK_HINTED tk_option_pair_u8_size tk_unsigned_prefix_u8(tk_bytes s)
     if (len == 0 || len == 8) {
         return tk_none_pair_u8_size();
     }
-    return tk_prefix_in_word_u8(word, len, s);
+    return tk_prefix_in_word_u8(tk_u128_of(255), word, len, s);
 }
 
-/* atoi_fast/src/short_prefix.rt:17 */
+/* atoi_fast/src/short_prefix.rt:18 */
 TK_HINTED tk_option_pair_u8_size tk_short_prefix_u8(tk_bytes s)
 {
     return tk_unsigned_prefix_u8(s);
@@ -3728,7 +3848,66 @@ TK_NOINLINE tk_result_pair_u8_size tk_atoi_simd_parse_prefix_u8(tk_bytes s, bool
     return tk_called_parse_prefix_text_u8(skip, skip_plus, s);
 }
 
-/* atoi_fast/src/short_prefix.rt:17 */
+/* atoi_fast/src/short_prefix.rt:165 */
+TK_HINTED tk_option_pair_i16_size tk_prefix_of_two_words_i16(bool minus, uint64_t high, tk_bytes s)
+{
+    uint64_t next = tk_load_full(tk_bytes_from(s, 8));
+    uint32_t more = tk_leading_digits(next);
+    if (more == 8) {
+        return tk_none_pair_i16_size();
+    }
+    uint64_t low = tk_value_by_product(tk_u64_wrapping_sub(next, TK_ZEROS), more);
+    uint64_t magnitude = high * tk_power_of_ten(more) + low;
+    tk_option_i16 found = tk_number_in_range_i16(tk_u128_of(32767), TK_MOST_IN_TWO_WORDS, minus, magnitude);
+    if (!found.is_some) {
+        return tk_none_pair_i16_size();
+    }
+    int16_t number = found.value;
+    return tk_some_pair_i16_size(tk_new_pair_i16_size(number, 8 + TK_CAST(size_t, more)));
+}
+
+/* atoi_fast/src/short_prefix.rt:46 */
+TK_HINTED tk_option_pair_i16_size tk_prefix_of_words_i16(tk_bytes s)
+{
+    uint64_t word = tk_load_full(s);
+    /* A `-` borrows from the next byte, so that a `0` there looks like no digit. */
+    uint64_t above = tk_u64_wrapping_add(word, UINT64_C(0x4646464646464646));
+    uint64_t below = tk_u64_wrapping_sub(word, TK_ZEROS);
+    uint64_t marks = (above | below) & UINT64_C(0x8080808080808000);
+    if ((marks & 0x8000) != 0) {
+        /* The next load waits for nothing. */
+        uint8_t digit = tk_lowest_byte(below);
+        if (digit > 9) {
+            return tk_none_pair_i16_size();
+        }
+        return tk_some_pair_i16_size(tk_new_pair_i16_size(tk_from_parts_i16(false, tk_u128_of(digit)), 1));
+    }
+    bool minus = true & (tk_lowest_byte(word) == '-');
+    /* The digit of a `-` is 0, and takes the borrow back. */
+    uint64_t digits = tk_u64_wrapping_add(below, 3 * tk_bit(minus));
+    if (tk_lowest_byte(digits) > 9) {
+        return tk_none_pair_i16_size();
+    }
+    if (marks == 0) {
+        /* With `return` of the call, clang 19 returns all lengths in memory. */
+        tk_option_pair_i16_size found = tk_prefix_of_two_words_i16(minus, tk_sum_of(digits), s);
+        if (!found.is_some) {
+            return tk_none_pair_i16_size();
+        }
+        tk_pair_i16_size found_2 = found.value;
+        return tk_some_pair_i16_size(found_2);
+    }
+    uint32_t len = tk_u64_trailing_zeros(marks) / 8;
+    tk_option_i16 found = tk_number_in_range_i16(tk_u128_of(32767), TK_MOST_IN_WORD, minus,
+                                                 tk_value_by_product(digits, len));
+    if (!found.is_some) {
+        return tk_none_pair_i16_size();
+    }
+    int16_t number = found.value;
+    return tk_some_pair_i16_size(tk_new_pair_i16_size(number, TK_CAST(size_t, len)));
+}
+
+/* atoi_fast/src/short_prefix.rt:18 */
 TK_HINTED tk_option_pair_i16_size tk_short_prefix_i16(tk_bytes s)
 {
     return tk_prefix_of_words_i16(s);
@@ -3789,7 +3968,20 @@ TK_NOINLINE tk_result_pair_i16_size tk_atoi_simd_parse_prefix_i16(tk_bytes s, bo
     return tk_called_parse_prefix_text_i16(skip, skip_plus, s);
 }
 
-/* atoi_fast/src/short_prefix.rt:176 */
+/* atoi_fast/src/short_prefix.rt:290 */
+TK_INLINE tk_option_pair_u16_size tk_prefix_in_word_u16(tk_u128 greatest, uint64_t word, uint32_t len, tk_bytes s)
+{
+    (void)s;
+    uint64_t magnitude = tk_value_by_product(tk_u64_wrapping_sub(word, TK_ZEROS), len);
+    tk_option_u16 found = tk_number_in_range_u16(greatest, TK_MOST_IN_WORD, false, magnitude);
+    if (!found.is_some) {
+        return tk_none_pair_u16_size();
+    }
+    uint16_t number = found.value;
+    return tk_some_pair_u16_size(tk_new_pair_u16_size(number, TK_CAST(size_t, len)));
+}
+
+/* atoi_fast/src/short_prefix.rt:276 */
 TK_HINTED tk_option_pair_u16_size tk_unsigned_prefix_u16(tk_bytes s)
 {
     uint64_t word = tk_load_full(s);
@@ -3797,10 +3989,10 @@ TK_HINTED tk_option_pair_u16_size tk_unsigned_prefix_u16(tk_bytes s)
     if (len == 0 || len == 8) {
         return tk_none_pair_u16_size();
     }
-    return tk_prefix_in_word_u16(word, len, s);
+    return tk_prefix_in_word_u16(tk_u128_of(65535), word, len, s);
 }
 
-/* atoi_fast/src/short_prefix.rt:17 */
+/* atoi_fast/src/short_prefix.rt:18 */
 TK_HINTED tk_option_pair_u16_size tk_short_prefix_u16(tk_bytes s)
 {
     return tk_unsigned_prefix_u16(s);
@@ -3861,7 +4053,66 @@ TK_NOINLINE tk_result_pair_u16_size tk_atoi_simd_parse_prefix_u16(tk_bytes s, bo
     return tk_called_parse_prefix_text_u16(skip, skip_plus, s);
 }
 
-/* atoi_fast/src/short_prefix.rt:17 */
+/* atoi_fast/src/short_prefix.rt:165 */
+TK_INLINE tk_option_pair_i32_size tk_prefix_of_two_words_i32(bool minus, uint64_t high, tk_bytes s)
+{
+    uint64_t next = tk_load_full(tk_bytes_from(s, 8));
+    uint32_t more = tk_leading_digits(next);
+    if (more == 8) {
+        return tk_none_pair_i32_size();
+    }
+    uint64_t low = tk_value_by_product(tk_u64_wrapping_sub(next, TK_ZEROS), more);
+    uint64_t magnitude = high * tk_power_of_ten(more) + low;
+    tk_option_i32 found = tk_number_in_range_i32(tk_u128_of(2147483647), TK_MOST_IN_TWO_WORDS, minus, magnitude);
+    if (!found.is_some) {
+        return tk_none_pair_i32_size();
+    }
+    int32_t number = found.value;
+    return tk_some_pair_i32_size(tk_new_pair_i32_size(number, 8 + TK_CAST(size_t, more)));
+}
+
+/* atoi_fast/src/short_prefix.rt:46 */
+TK_INLINE tk_option_pair_i32_size tk_prefix_of_words_i32(tk_bytes s)
+{
+    uint64_t word = tk_load_full(s);
+    /* A `-` borrows from the next byte, so that a `0` there looks like no digit. */
+    uint64_t above = tk_u64_wrapping_add(word, UINT64_C(0x4646464646464646));
+    uint64_t below = tk_u64_wrapping_sub(word, TK_ZEROS);
+    uint64_t marks = (above | below) & UINT64_C(0x8080808080808000);
+    if ((marks & 0x8000) != 0) {
+        /* The next load waits for nothing. */
+        uint8_t digit = tk_lowest_byte(below);
+        if (digit > 9) {
+            return tk_none_pair_i32_size();
+        }
+        return tk_some_pair_i32_size(tk_new_pair_i32_size(tk_from_parts_i32(false, tk_u128_of(digit)), 1));
+    }
+    bool minus = true & (tk_lowest_byte(word) == '-');
+    /* The digit of a `-` is 0, and takes the borrow back. */
+    uint64_t digits = tk_u64_wrapping_add(below, 3 * tk_bit(minus));
+    if (tk_lowest_byte(digits) > 9) {
+        return tk_none_pair_i32_size();
+    }
+    if (marks == 0) {
+        /* With `return` of the call, clang 19 returns all lengths in memory. */
+        tk_option_pair_i32_size found = tk_prefix_of_two_words_i32(minus, tk_sum_of(digits), s);
+        if (!found.is_some) {
+            return tk_none_pair_i32_size();
+        }
+        tk_pair_i32_size found_2 = found.value;
+        return tk_some_pair_i32_size(found_2);
+    }
+    uint32_t len = tk_u64_trailing_zeros(marks) / 8;
+    tk_option_i32 found = tk_number_in_range_i32(tk_u128_of(2147483647), TK_MOST_IN_WORD, minus,
+                                                 tk_value_by_product(digits, len));
+    if (!found.is_some) {
+        return tk_none_pair_i32_size();
+    }
+    int32_t number = found.value;
+    return tk_some_pair_i32_size(tk_new_pair_i32_size(number, TK_CAST(size_t, len)));
+}
+
+/* atoi_fast/src/short_prefix.rt:18 */
 TK_INLINE tk_option_pair_i32_size tk_short_prefix_i32(tk_bytes s)
 {
     return tk_prefix_of_words_i32(s);
@@ -3922,7 +4173,20 @@ TK_NOINLINE tk_result_pair_i32_size tk_atoi_simd_parse_prefix_i32(tk_bytes s, bo
     return tk_called_parse_prefix_text_i32(skip, skip_plus, s);
 }
 
-/* atoi_fast/src/short_prefix.rt:176 */
+/* atoi_fast/src/short_prefix.rt:290 */
+TK_INLINE tk_option_pair_u32_size tk_prefix_in_word_u32(tk_u128 greatest, uint64_t word, uint32_t len, tk_bytes s)
+{
+    (void)s;
+    uint64_t magnitude = tk_value_by_product(tk_u64_wrapping_sub(word, TK_ZEROS), len);
+    tk_option_u32 found = tk_number_in_range_u32(greatest, TK_MOST_IN_WORD, false, magnitude);
+    if (!found.is_some) {
+        return tk_none_pair_u32_size();
+    }
+    uint32_t number = found.value;
+    return tk_some_pair_u32_size(tk_new_pair_u32_size(number, TK_CAST(size_t, len)));
+}
+
+/* atoi_fast/src/short_prefix.rt:276 */
 TK_INLINE tk_option_pair_u32_size tk_unsigned_prefix_u32(tk_bytes s)
 {
     uint64_t word = tk_load_full(s);
@@ -3930,10 +4194,10 @@ TK_INLINE tk_option_pair_u32_size tk_unsigned_prefix_u32(tk_bytes s)
     if (len == 0 || len == 8) {
         return tk_none_pair_u32_size();
     }
-    return tk_prefix_in_word_u32(word, len, s);
+    return tk_prefix_in_word_u32(tk_u128_of(UINT64_C(4294967295)), word, len, s);
 }
 
-/* atoi_fast/src/short_prefix.rt:17 */
+/* atoi_fast/src/short_prefix.rt:18 */
 TK_INLINE tk_option_pair_u32_size tk_short_prefix_u32(tk_bytes s)
 {
     return tk_unsigned_prefix_u32(s);
@@ -3994,7 +4258,7 @@ TK_NOINLINE tk_result_pair_u32_size tk_atoi_simd_parse_prefix_u32(tk_bytes s, bo
     return tk_called_parse_prefix_text_u32(skip, skip_plus, s);
 }
 
-/* atoi_fast/src/short_prefix.rt:17 */
+/* atoi_fast/src/short_prefix.rt:18 */
 TK_INLINE tk_option_pair_i64_size tk_short_prefix_i64(tk_bytes s)
 {
     return tk_prefix_of_words_i64(s);
@@ -4056,7 +4320,7 @@ TK_NOINLINE tk_result_pair_i64_size tk_atoi_simd_parse_prefix_i64(tk_bytes s, bo
     return tk_called_parse_prefix_text_i64(skip, skip_plus, s);
 }
 
-/* atoi_fast/src/short_prefix.rt:176 */
+/* atoi_fast/src/short_prefix.rt:276 */
 TK_INLINE tk_option_pair_u64_size tk_unsigned_prefix_u64(tk_bytes s)
 {
     uint64_t word = tk_load_full(s);
@@ -4064,10 +4328,10 @@ TK_INLINE tk_option_pair_u64_size tk_unsigned_prefix_u64(tk_bytes s)
     if (len == 0 || len == 8) {
         return tk_none_pair_u64_size();
     }
-    return tk_prefix_in_word_u64(word, len, s);
+    return tk_prefix_in_word_u64(tk_u128_of(UINT64_C(18446744073709551615)), word, len, s);
 }
 
-/* atoi_fast/src/short_prefix.rt:17 */
+/* atoi_fast/src/short_prefix.rt:18 */
 TK_INLINE tk_option_pair_u64_size tk_short_prefix_u64(tk_bytes s)
 {
     return tk_unsigned_prefix_u64(s);
@@ -4129,7 +4393,69 @@ TK_NOINLINE tk_result_pair_u64_size tk_atoi_simd_parse_prefix_u64(tk_bytes s, bo
     return tk_called_parse_prefix_text_u64(skip, skip_plus, s);
 }
 
-/* atoi_fast/src/short_prefix.rt:17 */
+/* atoi_fast/src/short_prefix.rt:165 */
+TK_HINTED tk_option_pair_i128_size tk_prefix_of_two_words_i128(bool minus, uint64_t high, tk_bytes s)
+{
+    uint64_t next = tk_load_full(tk_bytes_from(s, 8));
+    uint32_t more = tk_leading_digits(next);
+    if (more == 8) {
+        return tk_none_pair_i128_size();
+    }
+    uint64_t low = tk_value_by_product(tk_u64_wrapping_sub(next, TK_ZEROS), more);
+    uint64_t magnitude = high * tk_power_of_ten(more) + low;
+    tk_option_i128 found = tk_number_in_range_i128(tk_u128_make(UINT64_C(9223372036854775807),
+                                                                UINT64_C(18446744073709551615)), TK_MOST_IN_TWO_WORDS,
+                                                                    minus, magnitude);
+    if (!found.is_some) {
+        return tk_none_pair_i128_size();
+    }
+    tk_i128 number = found.value;
+    return tk_some_pair_i128_size(tk_new_pair_i128_size(number, 8 + TK_CAST(size_t, more)));
+}
+
+/* atoi_fast/src/short_prefix.rt:46 */
+TK_HINTED tk_option_pair_i128_size tk_prefix_of_words_i128(tk_bytes s)
+{
+    uint64_t word = tk_load_full(s);
+    /* A `-` borrows from the next byte, so that a `0` there looks like no digit. */
+    uint64_t above = tk_u64_wrapping_add(word, UINT64_C(0x4646464646464646));
+    uint64_t below = tk_u64_wrapping_sub(word, TK_ZEROS);
+    uint64_t marks = (above | below) & UINT64_C(0x8080808080808000);
+    if ((marks & 0x8000) != 0) {
+        /* The next load waits for nothing. */
+        uint8_t digit = tk_lowest_byte(below);
+        if (digit > 9) {
+            return tk_none_pair_i128_size();
+        }
+        return tk_some_pair_i128_size(tk_new_pair_i128_size(tk_from_parts_i128(false, tk_u128_of(digit)), 1));
+    }
+    bool minus = true & (tk_lowest_byte(word) == '-');
+    /* The digit of a `-` is 0, and takes the borrow back. */
+    uint64_t digits = tk_u64_wrapping_add(below, 3 * tk_bit(minus));
+    if (tk_lowest_byte(digits) > 9) {
+        return tk_none_pair_i128_size();
+    }
+    if (marks == 0) {
+        /* With `return` of the call, clang 19 returns all lengths in memory. */
+        tk_option_pair_i128_size found = tk_prefix_of_two_words_i128(minus, tk_sum_of(digits), s);
+        if (!found.is_some) {
+            return tk_none_pair_i128_size();
+        }
+        tk_pair_i128_size found_2 = found.value;
+        return tk_some_pair_i128_size(found_2);
+    }
+    uint32_t len = tk_u64_trailing_zeros(marks) / 8;
+    tk_option_i128 found = tk_number_in_range_i128(tk_u128_make(UINT64_C(9223372036854775807),
+                                                                UINT64_C(18446744073709551615)), TK_MOST_IN_WORD, minus,
+                                                                    tk_value_by_product(digits, len));
+    if (!found.is_some) {
+        return tk_none_pair_i128_size();
+    }
+    tk_i128 number = found.value;
+    return tk_some_pair_i128_size(tk_new_pair_i128_size(number, TK_CAST(size_t, len)));
+}
+
+/* atoi_fast/src/short_prefix.rt:18 */
 TK_HINTED tk_option_pair_i128_size tk_short_prefix_i128(tk_bytes s)
 {
     return tk_prefix_of_words_i128(s);
@@ -4192,7 +4518,20 @@ TK_NOINLINE tk_result_pair_i128_size tk_atoi_simd_parse_prefix_i128(tk_bytes s, 
     return tk_called_parse_prefix_text_i128(skip, skip_plus, s);
 }
 
-/* atoi_fast/src/short_prefix.rt:176 */
+/* atoi_fast/src/short_prefix.rt:290 */
+TK_INLINE tk_option_pair_u128_size tk_prefix_in_word_u128(tk_u128 greatest, uint64_t word, uint32_t len, tk_bytes s)
+{
+    (void)s;
+    uint64_t magnitude = tk_value_by_product(tk_u64_wrapping_sub(word, TK_ZEROS), len);
+    tk_option_u128 found = tk_number_in_range_u128(greatest, TK_MOST_IN_WORD, false, magnitude);
+    if (!found.is_some) {
+        return tk_none_pair_u128_size();
+    }
+    tk_u128 number = found.value;
+    return tk_some_pair_u128_size(tk_new_pair_u128_size(number, TK_CAST(size_t, len)));
+}
+
+/* atoi_fast/src/short_prefix.rt:276 */
 TK_HINTED tk_option_pair_u128_size tk_unsigned_prefix_u128(tk_bytes s)
 {
     uint64_t word = tk_load_full(s);
@@ -4200,10 +4539,11 @@ TK_HINTED tk_option_pair_u128_size tk_unsigned_prefix_u128(tk_bytes s)
     if (len == 0 || len == 8) {
         return tk_none_pair_u128_size();
     }
-    return tk_prefix_in_word_u128(word, len, s);
+    return tk_prefix_in_word_u128(tk_u128_make(UINT64_C(18446744073709551615), UINT64_C(18446744073709551615)), word,
+                                  len, s);
 }
 
-/* atoi_fast/src/short_prefix.rt:17 */
+/* atoi_fast/src/short_prefix.rt:18 */
 TK_HINTED tk_option_pair_u128_size tk_short_prefix_u128(tk_bytes s)
 {
     return tk_unsigned_prefix_u128(s);
@@ -4521,12 +4861,12 @@ TK_HINTED tk_result_u128 tk_atoi_simd_parse_pos_u128(tk_bytes s, bool skip)
     return tk_called_whole_pos_u128(skip, s);
 }
 
-/* atoi_fast/src/short_prefix.rt:191 */
-TK_HINTED tk_option_pair_i8_size tk_prefix_in_word_i8(uint64_t word, uint32_t len, tk_bytes s)
+/* atoi_fast/src/short_prefix.rt:290 */
+TK_INLINE tk_option_pair_i8_size tk_prefix_in_word_i8(tk_u128 greatest, uint64_t word, uint32_t len, tk_bytes s)
 {
     (void)s;
     uint64_t magnitude = tk_value_by_product(tk_u64_wrapping_sub(word, TK_ZEROS), len);
-    tk_option_i8 found = tk_number_in_range_i8(TK_MOST_IN_WORD, false, magnitude);
+    tk_option_i8 found = tk_number_in_range_i8(greatest, TK_MOST_IN_WORD, false, magnitude);
     if (!found.is_some) {
         return tk_none_pair_i8_size();
     }
@@ -4534,7 +4874,7 @@ TK_HINTED tk_option_pair_i8_size tk_prefix_in_word_i8(uint64_t word, uint32_t le
     return tk_some_pair_i8_size(tk_new_pair_i8_size(number, TK_CAST(size_t, len)));
 }
 
-/* atoi_fast/src/short_prefix.rt:176 */
+/* atoi_fast/src/short_prefix.rt:276 */
 TK_HINTED tk_option_pair_i8_size tk_unsigned_prefix_i8(tk_bytes s)
 {
     uint64_t word = tk_load_full(s);
@@ -4542,11 +4882,11 @@ TK_HINTED tk_option_pair_i8_size tk_unsigned_prefix_i8(tk_bytes s)
     if (len == 0 || len == 8) {
         return tk_none_pair_i8_size();
     }
-    return tk_prefix_in_word_i8(word, len, s);
+    return tk_prefix_in_word_i8(tk_u128_of(127), word, len, s);
 }
 
 /* `unsigned_prefix`, which counts its load. */
-/* atoi_fast/src/short_prefix.rt:33 */
+/* atoi_fast/src/short_prefix.rt:34 */
 TK_HINTED tk_option_pair_i8_size tk_loaded_prefix_i8(tk_bytes s)
 {
     return tk_unsigned_prefix_i8(s);
@@ -4582,7 +4922,7 @@ TK_HINTED tk_result_pair_i8_size tk_atoi_simd_parse_prefix_pos_i8(tk_bytes s, bo
     return tk_called_prefix_pos_i8(skip, s);
 }
 
-/* atoi_fast/src/short_prefix.rt:33 */
+/* atoi_fast/src/short_prefix.rt:34 */
 TK_HINTED tk_option_pair_u8_size tk_loaded_prefix_u8(tk_bytes s)
 {
     return tk_unsigned_prefix_u8(s);
@@ -4613,12 +4953,12 @@ TK_HINTED tk_result_pair_u8_size tk_atoi_simd_parse_prefix_pos_u8(tk_bytes s, bo
     return tk_called_prefix_pos_u8(skip, s);
 }
 
-/* atoi_fast/src/short_prefix.rt:191 */
-TK_HINTED tk_option_pair_i16_size tk_prefix_in_word_i16(uint64_t word, uint32_t len, tk_bytes s)
+/* atoi_fast/src/short_prefix.rt:290 */
+TK_INLINE tk_option_pair_i16_size tk_prefix_in_word_i16(tk_u128 greatest, uint64_t word, uint32_t len, tk_bytes s)
 {
     (void)s;
     uint64_t magnitude = tk_value_by_product(tk_u64_wrapping_sub(word, TK_ZEROS), len);
-    tk_option_i16 found = tk_number_in_range_i16(TK_MOST_IN_WORD, false, magnitude);
+    tk_option_i16 found = tk_number_in_range_i16(greatest, TK_MOST_IN_WORD, false, magnitude);
     if (!found.is_some) {
         return tk_none_pair_i16_size();
     }
@@ -4626,7 +4966,7 @@ TK_HINTED tk_option_pair_i16_size tk_prefix_in_word_i16(uint64_t word, uint32_t 
     return tk_some_pair_i16_size(tk_new_pair_i16_size(number, TK_CAST(size_t, len)));
 }
 
-/* atoi_fast/src/short_prefix.rt:176 */
+/* atoi_fast/src/short_prefix.rt:276 */
 TK_HINTED tk_option_pair_i16_size tk_unsigned_prefix_i16(tk_bytes s)
 {
     uint64_t word = tk_load_full(s);
@@ -4634,10 +4974,10 @@ TK_HINTED tk_option_pair_i16_size tk_unsigned_prefix_i16(tk_bytes s)
     if (len == 0 || len == 8) {
         return tk_none_pair_i16_size();
     }
-    return tk_prefix_in_word_i16(word, len, s);
+    return tk_prefix_in_word_i16(tk_u128_of(32767), word, len, s);
 }
 
-/* atoi_fast/src/short_prefix.rt:33 */
+/* atoi_fast/src/short_prefix.rt:34 */
 TK_HINTED tk_option_pair_i16_size tk_loaded_prefix_i16(tk_bytes s)
 {
     return tk_unsigned_prefix_i16(s);
@@ -4668,7 +5008,7 @@ TK_HINTED tk_result_pair_i16_size tk_atoi_simd_parse_prefix_pos_i16(tk_bytes s, 
     return tk_called_prefix_pos_i16(skip, s);
 }
 
-/* atoi_fast/src/short_prefix.rt:33 */
+/* atoi_fast/src/short_prefix.rt:34 */
 TK_HINTED tk_option_pair_u16_size tk_loaded_prefix_u16(tk_bytes s)
 {
     return tk_unsigned_prefix_u16(s);
@@ -4699,12 +5039,12 @@ TK_HINTED tk_result_pair_u16_size tk_atoi_simd_parse_prefix_pos_u16(tk_bytes s, 
     return tk_called_prefix_pos_u16(skip, s);
 }
 
-/* atoi_fast/src/short_prefix.rt:191 */
-TK_INLINE tk_option_pair_i32_size tk_prefix_in_word_i32(uint64_t word, uint32_t len, tk_bytes s)
+/* atoi_fast/src/short_prefix.rt:290 */
+TK_INLINE tk_option_pair_i32_size tk_prefix_in_word_i32(tk_u128 greatest, uint64_t word, uint32_t len, tk_bytes s)
 {
     (void)s;
     uint64_t magnitude = tk_value_by_product(tk_u64_wrapping_sub(word, TK_ZEROS), len);
-    tk_option_i32 found = tk_number_in_range_i32(TK_MOST_IN_WORD, false, magnitude);
+    tk_option_i32 found = tk_number_in_range_i32(greatest, TK_MOST_IN_WORD, false, magnitude);
     if (!found.is_some) {
         return tk_none_pair_i32_size();
     }
@@ -4712,7 +5052,7 @@ TK_INLINE tk_option_pair_i32_size tk_prefix_in_word_i32(uint64_t word, uint32_t 
     return tk_some_pair_i32_size(tk_new_pair_i32_size(number, TK_CAST(size_t, len)));
 }
 
-/* atoi_fast/src/short_prefix.rt:176 */
+/* atoi_fast/src/short_prefix.rt:276 */
 TK_INLINE tk_option_pair_i32_size tk_unsigned_prefix_i32(tk_bytes s)
 {
     uint64_t word = tk_load_full(s);
@@ -4720,10 +5060,10 @@ TK_INLINE tk_option_pair_i32_size tk_unsigned_prefix_i32(tk_bytes s)
     if (len == 0 || len == 8) {
         return tk_none_pair_i32_size();
     }
-    return tk_prefix_in_word_i32(word, len, s);
+    return tk_prefix_in_word_i32(tk_u128_of(2147483647), word, len, s);
 }
 
-/* atoi_fast/src/short_prefix.rt:33 */
+/* atoi_fast/src/short_prefix.rt:34 */
 TK_INLINE tk_option_pair_i32_size tk_loaded_prefix_i32(tk_bytes s)
 {
     return tk_unsigned_prefix_i32(s);
@@ -4754,7 +5094,7 @@ TK_HINTED tk_result_pair_i32_size tk_atoi_simd_parse_prefix_pos_i32(tk_bytes s, 
     return tk_called_prefix_pos_i32(skip, s);
 }
 
-/* atoi_fast/src/short_prefix.rt:33 */
+/* atoi_fast/src/short_prefix.rt:34 */
 TK_INLINE tk_option_pair_u32_size tk_loaded_prefix_u32(tk_bytes s)
 {
     return tk_unsigned_prefix_u32(s);
@@ -4785,12 +5125,12 @@ TK_HINTED tk_result_pair_u32_size tk_atoi_simd_parse_prefix_pos_u32(tk_bytes s, 
     return tk_called_prefix_pos_u32(skip, s);
 }
 
-/* atoi_fast/src/short_prefix.rt:191 */
-TK_INLINE tk_option_pair_i64_size tk_prefix_in_word_i64(uint64_t word, uint32_t len, tk_bytes s)
+/* atoi_fast/src/short_prefix.rt:290 */
+TK_INLINE tk_option_pair_i64_size tk_prefix_in_word_i64(tk_u128 greatest, uint64_t word, uint32_t len, tk_bytes s)
 {
     (void)s;
     uint64_t magnitude = tk_value_by_product(tk_u64_wrapping_sub(word, TK_ZEROS), len);
-    tk_option_i64 found = tk_number_in_range_i64(TK_MOST_IN_WORD, false, magnitude);
+    tk_option_i64 found = tk_number_in_range_i64(greatest, TK_MOST_IN_WORD, false, magnitude);
     if (!found.is_some) {
         return tk_none_pair_i64_size();
     }
@@ -4798,7 +5138,7 @@ TK_INLINE tk_option_pair_i64_size tk_prefix_in_word_i64(uint64_t word, uint32_t 
     return tk_some_pair_i64_size(tk_new_pair_i64_size(number, TK_CAST(size_t, len)));
 }
 
-/* atoi_fast/src/short_prefix.rt:176 */
+/* atoi_fast/src/short_prefix.rt:276 */
 TK_INLINE tk_option_pair_i64_size tk_unsigned_prefix_i64(tk_bytes s)
 {
     uint64_t word = tk_load_full(s);
@@ -4806,10 +5146,10 @@ TK_INLINE tk_option_pair_i64_size tk_unsigned_prefix_i64(tk_bytes s)
     if (len == 0 || len == 8) {
         return tk_none_pair_i64_size();
     }
-    return tk_prefix_in_word_i64(word, len, s);
+    return tk_prefix_in_word_i64(tk_u128_of(UINT64_C(9223372036854775807)), word, len, s);
 }
 
-/* atoi_fast/src/short_prefix.rt:33 */
+/* atoi_fast/src/short_prefix.rt:34 */
 TK_INLINE tk_option_pair_i64_size tk_loaded_prefix_i64(tk_bytes s)
 {
     return tk_unsigned_prefix_i64(s);
@@ -4840,7 +5180,7 @@ TK_HINTED tk_result_pair_i64_size tk_atoi_simd_parse_prefix_pos_i64(tk_bytes s, 
     return tk_called_prefix_pos_i64(skip, s);
 }
 
-/* atoi_fast/src/short_prefix.rt:33 */
+/* atoi_fast/src/short_prefix.rt:34 */
 TK_INLINE tk_option_pair_u64_size tk_loaded_prefix_u64(tk_bytes s)
 {
     return tk_unsigned_prefix_u64(s);
@@ -4871,12 +5211,12 @@ TK_HINTED tk_result_pair_u64_size tk_atoi_simd_parse_prefix_pos_u64(tk_bytes s, 
     return tk_called_prefix_pos_u64(skip, s);
 }
 
-/* atoi_fast/src/short_prefix.rt:191 */
-TK_HINTED tk_option_pair_i128_size tk_prefix_in_word_i128(uint64_t word, uint32_t len, tk_bytes s)
+/* atoi_fast/src/short_prefix.rt:290 */
+TK_INLINE tk_option_pair_i128_size tk_prefix_in_word_i128(tk_u128 greatest, uint64_t word, uint32_t len, tk_bytes s)
 {
     (void)s;
     uint64_t magnitude = tk_value_by_product(tk_u64_wrapping_sub(word, TK_ZEROS), len);
-    tk_option_i128 found = tk_number_in_range_i128(TK_MOST_IN_WORD, false, magnitude);
+    tk_option_i128 found = tk_number_in_range_i128(greatest, TK_MOST_IN_WORD, false, magnitude);
     if (!found.is_some) {
         return tk_none_pair_i128_size();
     }
@@ -4884,7 +5224,7 @@ TK_HINTED tk_option_pair_i128_size tk_prefix_in_word_i128(uint64_t word, uint32_
     return tk_some_pair_i128_size(tk_new_pair_i128_size(number, TK_CAST(size_t, len)));
 }
 
-/* atoi_fast/src/short_prefix.rt:176 */
+/* atoi_fast/src/short_prefix.rt:276 */
 TK_HINTED tk_option_pair_i128_size tk_unsigned_prefix_i128(tk_bytes s)
 {
     uint64_t word = tk_load_full(s);
@@ -4892,10 +5232,11 @@ TK_HINTED tk_option_pair_i128_size tk_unsigned_prefix_i128(tk_bytes s)
     if (len == 0 || len == 8) {
         return tk_none_pair_i128_size();
     }
-    return tk_prefix_in_word_i128(word, len, s);
+    return tk_prefix_in_word_i128(tk_u128_make(UINT64_C(9223372036854775807), UINT64_C(18446744073709551615)), word,
+                                  len, s);
 }
 
-/* atoi_fast/src/short_prefix.rt:33 */
+/* atoi_fast/src/short_prefix.rt:34 */
 TK_HINTED tk_option_pair_i128_size tk_loaded_prefix_i128(tk_bytes s)
 {
     return tk_unsigned_prefix_i128(s);
@@ -4926,7 +5267,7 @@ TK_HINTED tk_result_pair_i128_size tk_atoi_simd_parse_prefix_pos_i128(tk_bytes s
     return tk_called_prefix_pos_i128(skip, s);
 }
 
-/* atoi_fast/src/short_prefix.rt:33 */
+/* atoi_fast/src/short_prefix.rt:34 */
 TK_HINTED tk_option_pair_u128_size tk_loaded_prefix_u128(tk_bytes s)
 {
     return tk_unsigned_prefix_u128(s);
@@ -8707,12 +9048,6 @@ TK_INLINE size_t tk_fields_read_plain_i64(tk_fields *self, tk_room_i64 values, s
     return tk_fields_read_part_i64(false, self, values, from, most, tk_long);
 }
 
-/* atoi_core/src/number.rt:331 */
-TK_HINTED tk_pair_bool_u128 tk_parts_i64(int64_t self)
-{
-    return tk_new_pair_bool_u128(self < 0, tk_u128_of(tk_i64_unsigned_abs(self)));
-}
-
 /* atoi_column/src/guesses.rt:36 */
 TK_NOINLINE tk_guess tk_guess_after_i64(tk_slice_i64 numbers, size_t used, tk_bytes rest, bool is_lines)
 {
@@ -8958,12 +9293,6 @@ TK_INLINE size_t tk_fields_read_plain_u64(tk_fields *self, tk_room_u64 values, s
         return tk_fields_read_part_u64(false, self, values, from, most, tk_no_guess);
     }
     return tk_fields_read_part_u64(false, self, values, from, most, tk_long);
-}
-
-/* atoi_core/src/number.rt:303 */
-TK_HINTED tk_pair_bool_u128 tk_parts_u64(uint64_t self)
-{
-    return tk_new_pair_bool_u128(false, tk_u128_of(self));
 }
 
 /* atoi_column/src/guesses.rt:36 */
@@ -9655,7 +9984,7 @@ const char *torkettle_version(void) TORKETTLE_NOEXCEPT { return TORKETTLE_VERSIO
         (all)->rest_length -= position.second;                                                                         \
     } while (0)
 
-#define TK_FUNCTIONS(name, type)                                                                                       \
+#define TK_FUNCTIONS(name, type, word)                                                                                 \
     /* Without a number, the value is the status. */                                                                   \
     TK_INLINE torkettle_found_##name tk_refused_##name(tk_error error)                                                 \
     {                                                                                                                  \
@@ -9741,10 +10070,8 @@ const char *torkettle_version(void) TORKETTLE_NOEXCEPT { return TORKETTLE_VERSIO
         *count = found.length;                                                                                         \
         return TORKETTLE_OK;                                                                                           \
     }                                                                                                                  \
-                                                                                                                       \
     TK_ERROR_OF(torkettle_parse_error_##name, tk_result_##name, tk_atoi_simd_parse_##name)                             \
     TK_ERROR_OF(torkettle_parse_prefix_error_##name, tk_result_pair_##name##_size, tk_atoi_simd_parse_prefix_##name)   \
-                                                                                                                       \
     TK_COLD void tk_refuse_field_##name(torkettle_fields_##name *fields, tk_field_error bad)                           \
     {                                                                                                                  \
         fields->status = tk_status_of(bad.cause);                                                                      \
@@ -9753,7 +10080,6 @@ const char *torkettle_version(void) TORKETTLE_NOEXCEPT { return TORKETTLE_VERSIO
         fields->text = fields->rest + bad.place;                                                                       \
         fields->length = bad.text.len;                                                                                 \
     }                                                                                                                  \
-                                                                                                                       \
     /* Tells of the separator as of one bad field, after which the fields end. */                                      \
     TK_COLD void tk_refuse_separator_##name(torkettle_fields_##name *fields)                                           \
     {                                                                                                                  \
@@ -9799,7 +10125,6 @@ const char *torkettle_version(void) TORKETTLE_NOEXCEPT { return TORKETTLE_VERSIO
             torkettle_next_field_##name(fields);                                                                       \
         return read;                                                                                                   \
     }                                                                                                                  \
-                                                                                                                       \
     /* A column is read as its fields, up to a bad one. */                                                             \
     TK_INLINE torkettle_fields_##name tk_fields_of_##name(const torkettle_column_##name *column)                       \
     {                                                                                                                  \

@@ -19,3 +19,4 @@ pub mod FirstBytes
 pub mod ShortSlices
 pub mod ByDigits
 pub mod TwoWordSlices
+pub mod OtherTypes

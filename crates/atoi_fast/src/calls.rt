@@ -159,8 +159,7 @@ fn whole_by_size<'a, E: Engine, T: Number>(
     whole_short::<E, T>(greatest_magnitude::<T>(minus), s, steps)
 }
 
-// Returns the magnitude of fewer than 16 bytes, which one window decides: they never have too many
-// digits.
+// Returns the magnitude of fewer than 16 bytes, which one window decides.
 #[inline(always)]
 fn whole_short<'a, E: Engine, T: Number>(
     bound: u128,

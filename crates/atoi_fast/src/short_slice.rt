@@ -46,7 +46,7 @@ pub(crate) fn short_slice<T: Number>(s: &[u8]) -> Option<T>
     if leading_digits_flipped(flipped) != 8 {
         return None;
     }
-    number_in_range::<T>(MOST_IN_WORD, minus, sum_of(flipped))
+    number_in_range::<T, T>(MOST_IN_WORD, minus, sum_of(flipped))
 }
 
 /// `quick_slice` for 2 to 15 bytes, which counts its load.
@@ -83,5 +83,5 @@ pub(crate) fn slice_of_two_words<T: Number>(s: &[u8]) -> Option<T>
     }
     let high = value_of(first, s.len() as u32 - 8);
     let magnitude = high * power_of_ten(8) + value_of(last, 8);
-    number_in_range::<T>(MOST_IN_TWO_WORDS, minus, magnitude)
+    number_in_range::<T, T>(MOST_IN_TWO_WORDS, minus, magnitude)
 }

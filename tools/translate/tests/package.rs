@@ -120,12 +120,14 @@ fn the_library_has_an_inline_part_and_the_rest() {
     }
     for (head, counts) in [
         ("TK_HINTED uint64_t tk_value_by_product(", (1, 0)),
-        ("TK_INLINE tk_option_pair_i64_size tk_quick_prefix_i64(", (1, 0)),
+        ("TK_INLINE tk_option_pair_i64_size tk_quick_prefix_i8_i64(", (1, 0)),
+        ("TK_INLINE tk_option_pair_u64_size tk_prefix_by_length_u64(", (1, 0)),
+        ("TK_INLINE tk_option_pair_u8_size tk_prefix_by_length_u8(", (0, 0)),
         ("TK_INLINE tk_pair_size_size tk_fields_position(", (0, 1)),
         ("TK_INLINE tk_option_pair_u8_bytes tk_accepted_field_u8(", (0, 0)),
         ("TK_NOINLINE tk_result_u64 tk_whole_64(", (0, 1)),
-        ("TK_FAR tk_option_pair_i64_size tk_prefix_of_two_words_i64(", (1, 1)),
-        ("TK_SYMBOL(tk_prefix_of_two_words_i64);", (1, 0)),
+        ("TK_FAR tk_pair_i64_size tk_long_signed_prefix_i64(", (1, 1)),
+        ("TK_SYMBOL(tk_long_signed_prefix_i64);", (1, 0)),
         ("#undef TK_INLINE", (1, 0)),
     ] {
         assert_eq!((header.matches(head).count(), source.matches(head).count()), counts, "{head}");

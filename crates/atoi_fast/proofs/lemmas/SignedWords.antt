@@ -54,7 +54,7 @@ module _ (k word : ℕ) where
       and_mod (bit_or above below) (repeated 128 (suc k)) 8
       ∙ ap₂ bit_and (or_mod above below 8 ∙ ap₂ bit_or above_low below_low) (omega arith)
 
-  -- Without a mark in the lowest byte, the borrow ends there, and the marks are the marks of the digits.
+  -- Without a mark in the lowest byte, these are the marks of the digits.
   borrowed_marks : borrowed (suc k) word % 256 ≡ 0 → borrowed (suc k) word ≡ marks_in (suc k) word
   borrowed_marks none =
       let some = without_48-some k in
@@ -98,8 +98,7 @@ marks_after_digit word digit =
     let rest : marks_in 8 word / 256 ≡ bit_and (x / 256) (repeated 128 7) = and_shr x (repeated 128 8) 8 in
     omega (arith, after_first x)
 
--- With a minus first and no mark in the second byte, they are the marks of the word with a zero for the
--- minus.
+-- With a minus first and no mark in the second byte, they are those with a zero for the minus.
 pub marks_after_minus : (word : ℕ) → word % 256 ≡ 45 → bit_and (marks_after_first word) 0x8000 ≡ 0
     → marks_after_first word ≡ marks_in 8 (word + 3)
 marks_after_minus word minus none =
@@ -202,17 +201,14 @@ signed_run {minus} {word} signed =
     let count = ap (λ m. count_trailing_zeros 64 m / 8) (all_marks signed) ∙ marks_of_8 (zeroed minus word) in
     (count, omega (arith, count, zero_field 16 48 (marks_after_first word) (marks_low word signed.goes_on)))
 
--- Without any mark, all bytes are digits.
 pub signed_run_full : {minus : Bool} {word digits : ℕ} → IsSigned minus word digits → marks_after_first word ≡ 0
     → run_len decimal_table (low_bytes 8 (zeroed minus word)) ≡ 8
 signed_run_full {minus} {word} signed none = none_marked (zeroed minus word) (sym (all_marks signed) ∙ none)
 
--- The tests of the code.
 pub to_signed : (minus : Bool) (word back digits : ℕ) → (minus ≡ true → word % 256 ≡ 45) → back ≡ (if minus then 3 else 0)
     → digits ≡ ((word + without_48 8) % 2 ^ 64 + back) % 2 ^ 64 → digits % 256 ≤ 9 → bit_and (marks_after_first word) 0x8000 ≡ 0
     → IsSigned minus word digits
 to_signed minus word back digits is_minus back_is digits_are small none =
-    -- To add 3 takes the borrow of a minus back.
     let same : digits ≡ (zeroed minus word + without_48 8) % 2 ^ 64 = omega arith in
     let low : 48 ≤ zeroed minus word % 256 = omega arith in
     let high : zeroed minus word % 256 ≤ 57 = omega arith in
@@ -220,7 +216,6 @@ to_signed minus word back digits is_minus back_is digits_are small none =
 
 -- ---- Digits before the first mark
 
--- None of the lowest bits is set, or one is.
 lowest_clear : (marks a b : ℕ) → marks % 2 ^ a ≡ 0 → a ≤ count_trailing_zeros (a + b) marks
 lowest_clear marks a b none = omega (arith, zero_field a b marks none)
 

@@ -14,17 +14,30 @@ pub(crate) const MOST_IN_TWO_WORDS: u64 = 1_000_000_000_000_000_000;
 /// No 19 digits spell more.
 pub(crate) const MOST_IN_THREE_WORDS: u64 = 9_999_999_999_999_999_999;
 
-/// Returns the number of this sign and magnitude, if the type has it. The magnitude is at most `most`, a
-/// constant: a type that has all numbers up to it needs no other test.
+/// Returns the number of this sign and magnitude, if both types have it. The magnitude is at most `most`, a constant: a
+/// type that has all numbers up to it needs no other test.
 #[inline(always)]
-pub(crate) fn number_in_range<T: Number>(most: u64, minus: bool, magnitude: u64) -> Option<T>
-    // requires signed { minus ≡ true → T.SIGNED ≡ true }
+pub(crate) fn number_in_range<T: Number, W: Number>(
+    most: u64,
+    minus: bool,
+    magnitude: u64,
+) -> Option<W>
+    // requires signed { minus ≡ true → W.SIGNED ≡ true }
     // requires most { magnitude ≤ most }
     // ensures in_range { IfSome result (λ number. magnitude ≤ bound_of T.int_type minus) }
-    // ensures number { IfSome result (λ number. T.number number ≡ with_sign minus magnitude) }
+    // ensures number { IfSome result (λ number. W.number number ≡ with_sign minus magnitude) }
 {
-    if u128::from(most) > T::GREATEST && magnitude > T::GREATEST as u64 + u64::from(minus) {
-        return None;
+    if is_in_range::<T>(most, minus, magnitude) && is_in_range::<W>(most, minus, magnitude) {
+        Some(W::from_parts(minus, u128::from(magnitude)))
+    } else {
+        None
     }
-    Some(T::from_parts(minus, u128::from(magnitude)))
+}
+
+#[inline(always)]
+fn is_in_range<T: Number>(most: u64, minus: bool, magnitude: u64) -> bool
+    // requires most { magnitude ≤ most }
+    // ensures { result ≡ true → magnitude ≤ bound_of T.int_type minus }
+{
+    u128::from(most) <= T::GREATEST || magnitude <= T::GREATEST as u64 + u64::from(minus)
 }

@@ -1,24 +1,22 @@
 /* Made by .ci/translate from crates/atoi_fast/src/quick.rt. Do not edit. */ //! What the header of C reads before it calls a function: few bytes, and no flag changes the answer.
-// ghost use Rattle.std.specs.Prelude.{◌≡◌, ◌+◌, ◌≤◌, IfSome, false, get_or, length, take};
+// ghost use Rattle.std.specs.Prelude.{◌≡◌, ◌+◌, ◌≤◌, IfSome, false, get_or, length, pos, take};
 // ghost use Rattle.atoi_core.specs.Digit.{decimal_table, is_digit};
+// ghost use Rattle.atoi_core.specs.IntType.{IntType, IsSized};
 // ghost use Rattle.atoi_core.specs.Run.{value};
 // ghost use Rattle.atoi_fast.specs.Short.{AreDigits, BeginsWithNumber, EndsBefore, IsNumber};
 
 use crate::proved::atoi_fast::in_range::number_in_range;
-use crate::proved::atoi_fast::short_prefix::{prefix_by_length, prefix_of_words};
+use crate::proved::atoi_fast::short_prefix::{prefix_by_calls, prefix_by_length, prefix_of_words};
 use crate::proved::atoi_fast::short_slice::{short_slice, slice_of_two_words};
 use crate::proved::atoi_core::Number;
 
-/// Returns the number of a slice of one digit.
+/// Returns the number of a slice of one digit, for each type.
 #[inline(always)]
-pub fn one_digit<T: Number>(s: &[u8]) -> Option<T>
-    // ensures { IfSome result (λ number. IsNumber T.int_type s.now (T.number number)) }
+pub fn one_digit(s: &[u8]) -> Option<u8>
+    // ensures { IfSome result (λ digit. (int : IntType) → IsSized int → IsNumber int s.now (pos digit)) }
 {
     match s {
-        [digit @ b'0'..=b'9'] => {
-            let number = u128::from(*digit - b'0');
-            Some(T::from_parts(false, number))
-        }
+        [digit @ b'0'..=b'9'] => Some(*digit - b'0'),
         _ => None,
     }
 }
@@ -48,77 +46,93 @@ pub fn long_slice<T: Number>(s: &[u8]) -> Option<T>
 }
 
 /// Returns the number at the start of a slice and its length, if that is one digit or two, or, in a slice of at least
-/// 16 bytes, fewer than 16 bytes. Others may be `None`, too.
+/// 16 bytes, fewer than 16 bytes. Others may be `None`, too. `W` is `i64` or `u64`.
 #[inline(always)]
-pub fn quick_prefix<T: Number>(s: &[u8]) -> Option<(T, usize)>
-    // ensures { IfSome result (λ found. BeginsWithNumber T.int_type s.now (T.number found.0) found.1) }
+pub fn quick_prefix<T: Number, W: Number>(s: &[u8]) -> Option<(W, usize)>
+    // requires word { W.BITS ≡ 64 }
+    // requires sign { W.SIGNED ≡ T.SIGNED }
+    // ensures { IfSome result (λ found. BeginsWithNumber T.int_type s.now (W.number found.0) found.1) }
 {
     if s.len() >= 16 {
-        if !T::SIGNED {
-            return prefix_by_length(s);
+        if !W::SIGNED {
+            return prefix_by_length::<T, W>(s);
         }
         if let [_, b'0'..=b'9', b'0'..=b'9', ..] = s {
-            return three_or_more(s);
+            return three_or_more::<T, W>(s);
         }
     }
+    two_or_less::<T, W>(s)
+}
+
+// A number of one digit or two.
+#[inline(always)]
+fn two_or_less<T: Number, W: Number>(s: &[u8]) -> Option<(W, usize)>
+    // requires sign { W.SIGNED ≡ T.SIGNED }
+    // ensures { IfSome result (λ found. BeginsWithNumber T.int_type s.now (W.number found.0) found.1) }
+{
     match s {
-        [first @ b'0'..=b'9', second @ b'0'..=b'9', third, ..] if !third.is_ascii_digit() => {
-            let tens = u32::from(*first - b'0');
-            let number = 10 * tens + u32::from(*second - b'0');
-            Some((T::from_parts(false, u128::from(number)), 2))
+        [first @ b'0'..=b'9', second, ..] if !second.is_ascii_digit() => {
+            Some((W::from_parts(false, u128::from(*first - b'0')), 1))
         }
-        _ => digit_prefix(s),
+        [first @ b'0'..=b'9', second @ b'0'..=b'9', third, ..] if !third.is_ascii_digit() => {
+            let number = 10 * u64::from(*first - b'0') + u64::from(*second - b'0');
+            Some((W::from_parts(false, u128::from(number)), 2))
+        }
+        [first @ b'0'..=b'9'] => Some((W::from_parts(false, u128::from(*first - b'0')), 1)),
+        _ => None,
     }
 }
 
 // The second and the third byte are digits.
 #[inline(always)]
-fn three_or_more<T: Number>(s: &[u8]) -> Option<(T, usize)>
+fn three_or_more<T: Number, W: Number>(s: &[u8]) -> Option<(W, usize)>
     // requires enough { 16 ≤ length s.now }
+    // requires word { W.BITS ≡ 64 }
+    // requires sign { W.SIGNED ≡ T.SIGNED }
     // requires second { (48 ≤ get_or s.now 1 0) × (get_or s.now 1 0 ≤ 57) }
     // requires third { (48 ≤ get_or s.now 2 0) × (get_or s.now 2 0 ≤ 57) }
-    // ensures { IfSome result (λ found. BeginsWithNumber T.int_type s.now (T.number found.0) found.1) }
+    // ensures { IfSome result (λ found. BeginsWithNumber T.int_type s.now (W.number found.0) found.1) }
 {
     match s {
         [first, second, third, end, ..] if !end.is_ascii_digit() && first.is_ascii_digit() => {
             let tens = 10 * u64::from(*first - b'0') + u64::from(*second - b'0');
-            let number = number_in_range::<T>(999, false, 10 * tens + u64::from(*third - b'0'))?;
+            let number = 10 * tens + u64::from(*third - b'0');
+            let number = number_in_range::<T, W>(999, false, number)?;
             Some((number, 3))
         }
-        _ => prefix_of_words(s),
+        _ => prefix_by_calls::<T, W>(s),
     }
 }
 
-// A number of one digit.
+/// `quick_prefix` for a number before this separator, also of three digits.
 #[inline(always)]
-fn digit_prefix<T: Number>(s: &[u8]) -> Option<(T, usize)>
-    // ensures { IfSome result (λ found. BeginsWithNumber T.int_type s.now (T.number found.0) found.1) }
-{
-    match s {
-        [_, b'0'..=b'9', ..] => None,
-        [digit @ b'0'..=b'9', ..] => {
-            let number = u128::from(*digit - b'0');
-            Some((T::from_parts(false, number), 1))
-        }
-        _ => None,
-    }
-}
-
-/// Like `quick_prefix`, but finds only a number before this separator, also of three digits in a short slice.
-#[inline(always)]
-pub fn quick_field<T: Number>(s: &[u8], separator: u8) -> Option<(T, usize)>
+pub fn quick_field<T: Number, W: Number>(s: &[u8], separator: u8) -> Option<(W, usize)>
+    // requires word { W.BITS ≡ 64 }
+    // requires sign { W.SIGNED ≡ T.SIGNED }
     // ensures number { is_digit decimal_table separator ≡ false
-    //     → IfSome result (λ found. BeginsWithNumber T.int_type s.now (T.number found.0) found.1) }
+    //     → IfSome result (λ found. BeginsWithNumber T.int_type s.now (W.number found.0) found.1) }
     // ensures separator { IfSome result (λ found. EndsBefore separator s.now found.1) }
 {
-    if let Some((magnitude, len)) = few_digits(s, separator) {
-        let number = number_in_range::<T>(999, false, magnitude)?;
-        return Some((number, len));
+    match few_digits(s, separator) {
+        Some((magnitude, len)) => {
+            let number = number_in_range::<T, W>(999, false, magnitude)?;
+            Some((number, len))
+        }
+        None => long_field::<T, W>(s, separator),
     }
+}
+
+#[inline(always)]
+fn long_field<T: Number, W: Number>(s: &[u8], separator: u8) -> Option<(W, usize)>
+    // requires word { W.BITS ≡ 64 }
+    // requires sign { W.SIGNED ≡ T.SIGNED }
+    // ensures number { IfSome result (λ found. BeginsWithNumber T.int_type s.now (W.number found.0) found.1) }
+    // ensures separator { IfSome result (λ found. EndsBefore separator s.now found.1) }
+{
     if s.len() < 16 {
         return None;
     }
-    let (number, len) = prefix_of_words::<T>(s)?;
+    let (number, len) = prefix_by_calls::<T, W>(s)?;
     if len < s.len() && s[len] == separator {
         Some((number, len))
     } else {

@@ -14,7 +14,7 @@ use crate::modules::Package;
 use crate::resolve::Scopes;
 use crate::source::Source;
 use crate::std_names::has;
-use ir::{Done, Function, Instance, Type};
+use ir::{Bindings, Done, Function, Instance, Type};
 use lower::Instances;
 use print::{Printer, qualifier};
 use std::collections::BTreeSet;
@@ -32,17 +32,21 @@ const ROOTS: &str = "atoi_fast::one_digit atoi_fast::quick_slice atoi_fast::long
     atoi_formats::json_integer atoi_column::is_separator atoi_column::Fields::new atoi_column::Fields::lines \
     atoi_column::Fields::position atoi_column::Fields::next atoi_column::Fields::read";
 
-/// What of this is in `torkettle.h`, and what of that a compiler of C++20 may call, with all that it calls.
-const INLINE: &str = "atoi_fast::one_digit atoi_fast::quick_field atoi_fast::quick_prefix atoi_fast::prefix_by_digits \
-    atoi_fast::whole_by_digits atoi_column::is_separator";
+/// What of this is in `torkettle.h`, and what only a compiler of C++20 needs there, which may call it and all that it
+/// calls in a constant expression.
+const INLINE: &str =
+    "atoi_fast::one_digit atoi_fast::quick_field atoi_fast::quick_prefix atoi_column::is_separator";
 const CONSTANT: &str = "atoi_fast::prefix_by_digits atoi_fast::whole_by_digits";
+
+/// What of this returns a number of any type as one of `W`, which has 64 bits. Each type has a function of its own.
+const AS_WORD: &str = "atoi_fast::quick_field atoi_fast::quick_prefix";
 
 const HEAD: &str =
     "/* Made by .ci/translate from the proved sources and c/interface. Do not edit. */\n";
 
 /// What C calls where Rust inlines it: long functions that few numbers need. Each type would have a copy.
 const CALLED: &str = "atoi_core::narrow_prefix atoi_core::whole_64 atoi_core::whole_128 atoi_fast::loaded_slice \
-    atoi_fast::prefix_64 atoi_fast::prefix_128 atoi_fast::prefix_of_two_words atoi_fast::window \
+    atoi_fast::prefix_64 atoi_fast::prefix_128 atoi_fast::long_signed_prefix atoi_fast::long_prefix atoi_fast::window \
     atoi_simd::atoi_simd_parse_prefix";
 
 /// The types that most numbers have, what C calls only for the others, and the crates whose functions gcc has to inline
@@ -98,7 +102,8 @@ pub fn print(world: &World, roots: &str, types: &str, is_checked: bool) -> Done<
     for path in roots.split_whitespace() {
         for of in types.split_whitespace().filter_map(world::integer) {
             let callee = lower::root(&mut instances, path, of)?;
-            keys.push((instances.add(&callee)?, path));
+            let known = if has(AS_WORD, path) { callee.bindings.clone() } else { Bindings::new() };
+            keys.push((instances.add_for(&callee, known)?, path));
         }
     }
     let reached = |list: &str, is_end: &dyn Fn(&Function) -> bool| {
@@ -127,10 +132,14 @@ pub fn print(world: &World, roots: &str, types: &str, is_checked: bool) -> Done<
     for far in functions.iter().filter(|it| qualifier(it) == "TK_FAR") {
         printer.declaration(far, "TK_FAR")?;
     }
-    let (near, rest): (Vec<&Function>, Vec<_>) =
+    let (near, others): (Vec<&Function>, Vec<_>) =
         functions.into_iter().partition(|it| inline.contains(&it.key) && !is_far(it));
     near.iter().try_for_each(|it| printer.function(it, qualifier(it)))?;
     let inline = printer.take();
+    let (constant, rest): (Vec<&Function>, Vec<_>) =
+        others.into_iter().partition(|it| constant.contains(&it.key));
+    constant.iter().try_for_each(|it| printer.function(it, "TK_CONSTEXPR"))?;
+    let constant = printer.take();
     rest.iter().try_for_each(|it| printer.function(it, in_source(it)))?;
-    Ok((inline, printer.take()))
+    Ok((format!("{inline}\n#ifdef TK_ALL\n{constant}#endif\n"), printer.take()))
 }

@@ -5,7 +5,5 @@ use Rattle.atoi_fast.proofs.lemmas.FirstBytes.{only_digit}
 use Rattle.atoi_fast.proofs.quick.one_digit.Goals as goal
 
 pub returns-in-48-to-57 : goal.returns-in-48-to-57
-returns-in-48-to-57 g c =
-    rw (c.from_parts.ensures, c.from-number.ensures)
-    (only_digit g.T.Number.int_type g.met.T.Number.type_is.sized c.args.s.now (grind (arith, nat_tests)) (grind (arith, nat_tests))
-    (grind (arith, nat_tests)))
+returns-in-48-to-57 c int sized =
+    only_digit int sized c.args.s.now (grind (arith, nat_tests)) (grind (arith, nat_tests)) (grind (arith, nat_tests))

@@ -13,7 +13,7 @@ from_parts-requires-clause-in_range g c =
     omega (
       arith,
       value_of_one c.load_full-word.result (omega (arith, run)),
-      least_bound g.T.Number.int_type g.met.T.Number.type_is.sized false,
+      least_bound g.W.Number.int_type g.met.W.Number.type_is.sized false,
       c.from.ensures,
       c.from-first.ensures,
       c.lowest_byte.ensures,
@@ -36,7 +36,7 @@ from_parts-requires-then-marks-ne0-3-clause-in_range g c =
     omega (
       arith,
       value_of_two c.load_full-word.result (omega (arith, run)),
-      least_bound g.T.Number.int_type g.met.T.Number.type_is.sized false,
+      least_bound g.W.Number.int_type g.met.W.Number.type_is.sized false,
       c.from-then-marks-ne0-3.ensures,
       c.from-first.ensures,
       c.from-2.ensures,
@@ -96,15 +96,15 @@ returns-then-marks-ne0-4 g c =
 pub sum_of-requires : goal.sum_of-requires
 sum_of-requires g c = (lowered_eight c.load_full-word.result _ (none_marked c.load_full-word.result c.if-marks-eq0.true) refl).0
 
-pub prefix_of_two_words-requires-clause-full : goal.prefix_of_two_words-requires-clause-full
-prefix_of_two_words-requires-clause-full g c =
+pub long_prefix-number-requires-clause-full : goal.long_prefix-number-requires-clause-full
+long_prefix-number-requires-clause-full g c =
     let word = c.load_full-word.result in
     let fits : (i : ℕ) → get_or c.args.s.now i 0 < 256 = λ i. (c.type_inv.s i).fits in
     let run = zeroed_run false c.args.s.now (omega arith) fits word c.load_full-word.ensures (λ no. absurd (cc no)) in
     omega (arith, rw add-zero at run, none_marked word c.if-marks-eq0.true)
 
-pub prefix_of_two_words-requires-clause-high : goal.prefix_of_two_words-requires-clause-high
-prefix_of_two_words-requires-clause-high g c =
+pub long_prefix-number-requires-clause-high : goal.long_prefix-number-requires-clause-high
+long_prefix-number-requires-clause-high g c =
     let word = c.load_full-word.result in
     let full = none_marked word c.if-marks-eq0.true in
     let fits : (i : ℕ) → get_or c.args.s.now i 0 < 256 = λ i. (c.type_inv.s i).fits in

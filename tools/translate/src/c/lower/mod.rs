@@ -36,7 +36,12 @@ impl<'w> Instances<'w> {
 
     /// Adds a function for what its parameters stand for, and all that it calls. Returns it with those that matter.
     pub fn add(&mut self, callee: &Instance) -> Done<Instance> {
-        let mut key = Instance { id: callee.id, bindings: Bindings::new() };
+        self.add_for(callee, Bindings::new())
+    }
+
+    /// The same with parameters that matter even if no type depends on them.
+    pub fn add_for(&mut self, callee: &Instance, bindings: Bindings) -> Done<Instance> {
+        let mut key = Instance { id: callee.id, bindings };
         loop {
             match self.tried.get(&key) {
                 Some(Attempt::Needs(name)) => {
@@ -129,7 +134,9 @@ pub fn root(instances: &mut Instances, path: &str, of: Type) -> Done<Instance> {
     let mut lowering = Lowering::new(instances, &key, Bindings::new())?;
     let paths = parse(&Source::new(Path::new("C"), format!("[{path}]")), "list")?;
     let mut callee = lowering.callee(&paths[0])?;
-    callee.bindings.insert("T".into(), of);
+    let is_signed = of.integer().is_some_and(|it| it.is_signed());
+    let word = Type::Integer(Integer(if is_signed { "i64" } else { "u64" }));
+    callee.bindings.extend([("T".into(), of), ("W".into(), word)]);
     Ok(callee)
 }
 
