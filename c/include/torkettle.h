@@ -275,7 +275,7 @@ typedef struct torkettle_error {
  * For other languages, torkettle_0_1_parse_i64 and torkettle_0_1_parse_prefix_i64 are functions of the shared library.
  */
 
-/* ---- Made by .ci/translate from the proved sources, up to the next such line. */
+/* ---- Written by hand, in c/interface/prelude.h, up to the next such line. */
 
 /* A cast, and a value of a struct, in C and in C++. */
 #ifdef __cplusplus
@@ -587,6 +587,8 @@ TK_CONSTEXPR tk_u128 tk_i128_unsigned_abs(tk_i128 a)
     return tk_i128_as_u128(tk_i128_less(a, tk_i128_of(0)) ? tk_i128_negate(a) : a);
 }
 #endif
+
+/* ---- Made by .ci/translate from the proved sources, up to the next such line. */
 
 typedef struct tk_bytes {
     const uint8_t *at;

@@ -274,7 +274,7 @@ typedef struct torkettle_error {
  * For other languages, torkettle_0_1_parse_i64 and torkettle_0_1_parse_prefix_i64 are functions of the shared library.
  */
 
-/* ---- Made by .ci/translate from the proved sources, up to the next such line. */
+/* ---- Written by hand, in c/interface/prelude.h, up to the next such line. */
 
 /* @proved */
 /* ---- The interface, written by hand. */

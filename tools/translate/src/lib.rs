@@ -1,4 +1,5 @@
-//! Reads the proved sources by their grammar, and makes the Rust of the Cargo package, `rust/src/proved`, of them.
+//! Reads the proved sources by their grammar, and makes the Rust of the Cargo package, `rust/src/proved`, and the
+//! library for C of them.
 //!
 //! The stages are those of a compiler: `lexer` makes tokens of a source, `parser` makes a tree of these by the rules of
 //! `grammar`, `modules` collects the trees of the package, `resolve` says what their names stand for, `checks` and

@@ -1,4 +1,4 @@
-//! Writes the Rust of the Cargo package, or compares it. See `.ci/translate` at the top.
+//! Writes the Rust of the Cargo package and the library for C, or compares them. See `.ci/translate` at the top.
 
 use std::path::Path;
 use std::process::ExitCode;

@@ -38,8 +38,12 @@ const INLINE: &str =
     "atoi_fast::one_digit atoi_fast::quick_field atoi_fast::quick_prefix atoi_column::is_separator";
 const CONSTANT: &str = "atoi_fast::prefix_by_digits atoi_fast::whole_by_digits";
 
-/// What of this returns a number of any type as one of `W`, which has 64 bits. Each type has a function of its own.
+/// What of this returns a number of any type as one of `W`, which is `i64` or `u64`. Each type has a short function of
+/// its own, which passes its bits and its greatest number to a function of `W`.
 const AS_WORD: &str = "atoi_fast::quick_field atoi_fast::quick_prefix";
+
+const MADE: &str =
+    "/* ---- Made by .ci/translate from the proved sources, up to the next such line. */\n\n";
 
 const HEAD: &str =
     "/* Made by .ci/translate from the proved sources and c/interface. Do not edit. */\n";
@@ -79,7 +83,7 @@ pub fn made(top: &Path, is_checked: bool) -> Done<[(&'static str, String); 2]> {
     let (inline, rest) = print(&world, ROOTS, TYPES, is_checked)?;
     let part = |name: &str| Done::Ok(Source::read(top, &Path::new(INTERFACE).join(name))?.text);
     let checked = if is_checked { part("checked.h")? } else { String::new() };
-    let inline = format!("{}\n{checked}{inline}", part("prelude.h")?);
+    let inline = format!("{}\n{checked}{MADE}{inline}", part("prelude.h")?);
     let names = inline
         .lines()
         .filter_map(|line| line.trim_start_matches('#').trim().strip_prefix("define TK_"));
