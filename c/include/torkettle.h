@@ -75,15 +75,14 @@ extern "C" {
 
 /* Ends a declaration, and declares a function. With gcc and clang, a symbol of the library has the version of its
    interface, so that a process may load two versions. */
-#if defined __GNUC__ || defined __clang__
-#define TK_SYMBOL(name) __asm__(TORKETTLE_PREFIX_(__USER_LABEL_PREFIX__) "torkettle_0_1_" #name)
-#define TORKETTLE_PREFIX_(prefix) TORKETTLE_TEXT_(prefix)
-#define TORKETTLE_TEXT_(prefix) #prefix
+#if defined __APPLE__
+#define TK_SYMBOL(name) __asm__("_torkettle_0_1_" #name)
+#elif defined __GNUC__ || defined __clang__
+#define TK_SYMBOL(name) __asm__("torkettle_0_1_" #name)
 #else
 #define TK_SYMBOL(name)
 #endif
 #define TORKETTLE_SYMBOL_(name) TORKETTLE_NOEXCEPT TK_SYMBOL(name)
-#define TK_CALLED(result, name, ...) result torkettle_##name(__VA_ARGS__) TORKETTLE_SYMBOL_(name)
 
 /*
  * The values of the argument `flags`: 0, one of these, or both with `|`. Other bits have no effect.
@@ -269,8 +268,7 @@ typedef struct torkettle_error {
  * What is described neither above nor below is internal and may change in a minor version: all names that begin with
  * tk_, and functions such as those whose names begin with torkettle_whole_, torkettle_prefix_ and torkettle_next_. They
  * return a number and its length in two registers. If there is no number, the length is 0, and the first two return the
- * status in place of the number. The length that torkettle_next_field_ returns is 1 for a number, and 2 for a bad
- * field.
+ * status in place of the number. The length that torkettle_next_ returns is 1 for a number, and 2 for a bad field.
  *
  * For other languages, torkettle_0_1_parse_i64 and torkettle_0_1_parse_prefix_i64 are functions of the shared library.
  */
@@ -330,6 +328,31 @@ typedef struct torkettle_error {
 #define TORKETTLE_CHECK(condition) ((void)0)
 #endif
 
+/* 1 or 0. As gcc 12 would set only a byte of a register, the processor would wait for what was last in it. */
+TK_INLINE uint64_t tk_bit(bool is_set)
+{
+    uint64_t one = 1;
+#if defined __GNUC__ && !defined __clang__
+    __asm__("" : "+r"(one));
+#endif
+    return is_set ? one : 0;
+}
+
+/* An index of so many elements. */
+TK_CONSTEXPR size_t tk_index(size_t index, size_t len)
+{
+    TORKETTLE_CHECK(index < len);
+    (void)len;
+    return index;
+}
+
+TK_CONSTEXPR bool tk_u8_is_digit(uint8_t byte) { return '0' <= byte && byte <= '9'; }
+TK_CONSTEXPR uint64_t tk_u64_wrapping_add(uint64_t a, uint64_t b) { return a + b; }
+TK_CONSTEXPR uint64_t tk_u64_wrapping_sub(uint64_t a, uint64_t b) { return a - b; }
+TK_CONSTEXPR uint64_t tk_u64_wrapping_mul(uint64_t a, uint64_t b) { return a * b; }
+TK_CONSTEXPR uint64_t tk_i64_unsigned_abs(int64_t a) { return a < 0 ? 0 - TK_CAST(uint64_t, a) : TK_CAST(uint64_t, a); }
+
+#ifdef TK_ALL
 /* One of two lengths or places. gcc would make a branch of it, and no processor can guess which one is next. */
 TK_INLINE size_t tk_either(bool is_first, size_t first, size_t second)
 {
@@ -352,24 +375,6 @@ TK_INLINE const uint8_t *tk_either_at(bool is_first, const uint8_t *first, const
 #define TK_EITHER(is_first, a, b)                                                                                      \
     tk_bytes_of(tk_either_at(is_first, (a).at, (b).at), tk_either(is_first, (a).len, (b).len))
 
-/* 1 or 0. As gcc 12 would set only a byte of a register, the processor would wait for what was last in it. */
-TK_INLINE uint64_t tk_bit(bool is_set)
-{
-    uint64_t one = 1;
-#if defined __GNUC__ && !defined __clang__
-    __asm__("" : "+r"(one));
-#endif
-    return is_set ? one : 0;
-}
-
-/* An index of so many elements. */
-TK_CONSTEXPR size_t tk_index(size_t index, size_t len)
-{
-    TORKETTLE_CHECK(index < len);
-    (void)len;
-    return index;
-}
-
 /* Parts of a slice. */
 #define TK_PARTS(slice)                                                                                                \
     TK_CONSTEXPR slice slice##_from(slice s, size_t low)                                                               \
@@ -388,13 +393,6 @@ TK_CONSTEXPR size_t tk_index(size_t index, size_t len)
         return slice##_of(s.at + low, high - low);                                                                     \
     }
 
-TK_CONSTEXPR bool tk_u8_is_digit(uint8_t byte) { return '0' <= byte && byte <= '9'; }
-TK_CONSTEXPR uint64_t tk_u64_wrapping_add(uint64_t a, uint64_t b) { return a + b; }
-TK_CONSTEXPR uint64_t tk_u64_wrapping_sub(uint64_t a, uint64_t b) { return a - b; }
-TK_CONSTEXPR uint64_t tk_u64_wrapping_mul(uint64_t a, uint64_t b) { return a * b; }
-TK_CONSTEXPR uint64_t tk_i64_unsigned_abs(int64_t a) { return a < 0 ? 0 - TK_CAST(uint64_t, a) : TK_CAST(uint64_t, a); }
-
-#ifdef TK_ALL
 TK_CONSTEXPR uint32_t tk_u32_wrapping_add(uint32_t a, uint32_t b) { return a + b; }
 TK_CONSTEXPR uint32_t tk_u32_wrapping_sub(uint32_t a, uint32_t b) { return a - b; }
 TK_CONSTEXPR uint32_t tk_u32_wrapping_mul(uint32_t a, uint32_t b) { return a * b; }
@@ -406,6 +404,8 @@ TK_CONSTEXPR size_t tk_size_saturating_sub(size_t a, size_t b) { return a < b ? 
 TK_CONSTEXPR uint32_t tk_i32_unsigned_abs(int32_t a) { return TK_CAST(uint32_t, tk_i64_unsigned_abs(a)); }
 TK_CONSTEXPR uint16_t tk_i16_unsigned_abs(int16_t a) { return TK_CAST(uint16_t, tk_i64_unsigned_abs(a)); }
 TK_CONSTEXPR uint8_t tk_i8_unsigned_abs(int8_t a) { return TK_CAST(uint8_t, tk_i64_unsigned_abs(a)); }
+#else
+#define TK_PARTS(slice)
 #endif
 
 /* How many low bits of a word are zero. */
@@ -461,12 +461,14 @@ TK_CONSTEXPR uint64_t tk_u128_low(tk_u128 value) { return TK_CAST(uint64_t, valu
 TK_CONSTEXPR bool tk_u128_less(tk_u128 a, tk_u128 b) { return a < b; }
 TK_CONSTEXPR tk_u128 tk_u128_wrapping_add(tk_u128 a, tk_u128 b) { return a + b; }
 TK_CONSTEXPR tk_u128 tk_u128_wrapping_sub(tk_u128 a, tk_u128 b) { return a - b; }
+TK_CONSTEXPR tk_i128 tk_u128_as_i128(tk_u128 value) { return TK_CAST(tk_i128, value); }
+TK_CONSTEXPR tk_u128 tk_i128_as_u128(tk_i128 value) { return TK_CAST(tk_u128, value); }
+#ifdef TK_ALL
 TK_CONSTEXPR tk_u128 tk_u128_wrapping_mul(tk_u128 a, tk_u128 b) { return a * b; }
 TK_CONSTEXPR bool tk_u128_product_fits(tk_u128 a, tk_u128 b) { return b == 0 || a <= ~TK_CAST(tk_u128, 0) / b; }
 TK_CONSTEXPR tk_u128 tk_u128_shift_left(tk_u128 a, uint64_t count) { return a << count; }
 TK_CONSTEXPR tk_u128 tk_u128_shift_right(tk_u128 a, uint64_t count) { return a >> count; }
-TK_CONSTEXPR tk_i128 tk_u128_as_i128(tk_u128 value) { return TK_CAST(tk_i128, value); }
-TK_CONSTEXPR tk_u128 tk_i128_as_u128(tk_i128 value) { return TK_CAST(tk_u128, value); }
+#endif
 #else
 typedef struct tk_u128 {
     uint64_t low;
@@ -541,15 +543,14 @@ TK_CONSTEXPR tk_i128 tk_i128_negate(tk_i128 a)
     return tk_u128_as_i128(tk_u128_wrapping_sub(tk_u128_of(0), tk_i128_as_u128(a)));
 }
 
-TK_CONSTEXPR bool tk_u128_sum_fits(tk_u128 a, tk_u128 b) { return !tk_u128_less(tk_u128_wrapping_add(a, b), a); }
-
 TK_CONSTEXPR tk_u128 tk_u128_add(tk_u128 a, tk_u128 b)
 {
-    TORKETTLE_CHECK(tk_u128_sum_fits(a, b));
+    TORKETTLE_CHECK(!tk_u128_less(tk_u128_wrapping_add(a, b), a));
     return tk_u128_wrapping_add(a, b);
 }
 
 #ifdef TK_ALL
+TK_CONSTEXPR bool tk_u128_sum_fits(tk_u128 a, tk_u128 b) { return !tk_u128_less(tk_u128_wrapping_add(a, b), a); }
 TK_INLINE uint32_t tk_u32_trailing_zeros(uint32_t word) { return tk_u64_trailing_zeros(word | UINT64_C(1) << 32); }
 
 TK_CONSTEXPR tk_u128 tk_u128_mul(tk_u128 a, tk_u128 b)
@@ -970,20 +971,26 @@ TK_INLINE tk_option_pair_i64_size tk_long_field_i64(uint32_t bits, tk_u128 great
 
 /* `quick_prefix` for a number before this separator, also of three digits. */
 /* atoi_fast/src/quick.rt:109 */
-TK_INLINE tk_option_pair_i64_size tk_quick_field_i8_i64(tk_bytes s, uint8_t separator)
+TK_INLINE tk_option_pair_i64_size tk_quick_field_i64(uint32_t bits, tk_u128 greatest, tk_bytes s, uint8_t separator)
 {
     tk_option_pair_u64_size found = tk_few_digits(s, separator);
     if (found.is_some) {
         uint64_t magnitude = found.value.first;
         size_t len = found.value.second;
-        tk_option_i64 found_2 = tk_number_in_range_i64(tk_u128_of(127), 999, false, magnitude);
+        tk_option_i64 found_2 = tk_number_in_range_i64(greatest, 999, false, magnitude);
         if (!found_2.is_some) {
             return tk_none_pair_i64_size();
         }
         int64_t number = found_2.value;
         return tk_some_pair_i64_size(tk_new_pair_i64_size(number, len));
     }
-    return tk_long_field_i64(8, tk_u128_of(127), s, separator);
+    return tk_long_field_i64(bits, greatest, s, separator);
+}
+
+/* atoi_fast/src/quick.rt:109 */
+TK_INLINE tk_option_pair_i64_size tk_quick_field_i8_i64(tk_bytes s, uint8_t separator)
+{
+    return tk_quick_field_i64(8, tk_u128_of(127), s, separator);
 }
 
 /* atoi_fast/src/short_prefix.rt:119 */
@@ -1063,164 +1070,76 @@ TK_INLINE tk_option_pair_u64_size tk_long_field_u64(uint32_t bits, tk_u128 great
 }
 
 /* atoi_fast/src/quick.rt:109 */
-TK_INLINE tk_option_pair_u64_size tk_quick_field_u8_u64(tk_bytes s, uint8_t separator)
+TK_INLINE tk_option_pair_u64_size tk_quick_field_u64(uint32_t bits, tk_u128 greatest, tk_bytes s, uint8_t separator)
 {
     tk_option_pair_u64_size found = tk_few_digits(s, separator);
     if (found.is_some) {
         uint64_t magnitude = found.value.first;
         size_t len = found.value.second;
-        tk_option_u64 found_2 = tk_number_in_range_u64(tk_u128_of(255), 999, false, magnitude);
+        tk_option_u64 found_2 = tk_number_in_range_u64(greatest, 999, false, magnitude);
         if (!found_2.is_some) {
             return tk_none_pair_u64_size();
         }
         uint64_t number = found_2.value;
         return tk_some_pair_u64_size(tk_new_pair_u64_size(number, len));
     }
-    return tk_long_field_u64(8, tk_u128_of(255), s, separator);
+    return tk_long_field_u64(bits, greatest, s, separator);
+}
+
+/* atoi_fast/src/quick.rt:109 */
+TK_INLINE tk_option_pair_u64_size tk_quick_field_u8_u64(tk_bytes s, uint8_t separator)
+{
+    return tk_quick_field_u64(8, tk_u128_of(255), s, separator);
 }
 
 /* atoi_fast/src/quick.rt:109 */
 TK_INLINE tk_option_pair_i64_size tk_quick_field_i16_i64(tk_bytes s, uint8_t separator)
 {
-    tk_option_pair_u64_size found = tk_few_digits(s, separator);
-    if (found.is_some) {
-        uint64_t magnitude = found.value.first;
-        size_t len = found.value.second;
-        tk_option_i64 found_2 = tk_number_in_range_i64(tk_u128_of(32767), 999, false, magnitude);
-        if (!found_2.is_some) {
-            return tk_none_pair_i64_size();
-        }
-        int64_t number = found_2.value;
-        return tk_some_pair_i64_size(tk_new_pair_i64_size(number, len));
-    }
-    return tk_long_field_i64(16, tk_u128_of(32767), s, separator);
+    return tk_quick_field_i64(16, tk_u128_of(32767), s, separator);
 }
 
 /* atoi_fast/src/quick.rt:109 */
 TK_INLINE tk_option_pair_u64_size tk_quick_field_u16_u64(tk_bytes s, uint8_t separator)
 {
-    tk_option_pair_u64_size found = tk_few_digits(s, separator);
-    if (found.is_some) {
-        uint64_t magnitude = found.value.first;
-        size_t len = found.value.second;
-        tk_option_u64 found_2 = tk_number_in_range_u64(tk_u128_of(65535), 999, false, magnitude);
-        if (!found_2.is_some) {
-            return tk_none_pair_u64_size();
-        }
-        uint64_t number = found_2.value;
-        return tk_some_pair_u64_size(tk_new_pair_u64_size(number, len));
-    }
-    return tk_long_field_u64(16, tk_u128_of(65535), s, separator);
+    return tk_quick_field_u64(16, tk_u128_of(65535), s, separator);
 }
 
 /* atoi_fast/src/quick.rt:109 */
 TK_INLINE tk_option_pair_i64_size tk_quick_field_i32_i64(tk_bytes s, uint8_t separator)
 {
-    tk_option_pair_u64_size found = tk_few_digits(s, separator);
-    if (found.is_some) {
-        uint64_t magnitude = found.value.first;
-        size_t len = found.value.second;
-        tk_option_i64 found_2 = tk_number_in_range_i64(tk_u128_of(2147483647), 999, false, magnitude);
-        if (!found_2.is_some) {
-            return tk_none_pair_i64_size();
-        }
-        int64_t number = found_2.value;
-        return tk_some_pair_i64_size(tk_new_pair_i64_size(number, len));
-    }
-    return tk_long_field_i64(32, tk_u128_of(2147483647), s, separator);
+    return tk_quick_field_i64(32, tk_u128_of(2147483647), s, separator);
 }
 
 /* atoi_fast/src/quick.rt:109 */
 TK_INLINE tk_option_pair_u64_size tk_quick_field_u32_u64(tk_bytes s, uint8_t separator)
 {
-    tk_option_pair_u64_size found = tk_few_digits(s, separator);
-    if (found.is_some) {
-        uint64_t magnitude = found.value.first;
-        size_t len = found.value.second;
-        tk_option_u64 found_2 = tk_number_in_range_u64(tk_u128_of(UINT64_C(4294967295)), 999, false, magnitude);
-        if (!found_2.is_some) {
-            return tk_none_pair_u64_size();
-        }
-        uint64_t number = found_2.value;
-        return tk_some_pair_u64_size(tk_new_pair_u64_size(number, len));
-    }
-    return tk_long_field_u64(32, tk_u128_of(UINT64_C(4294967295)), s, separator);
+    return tk_quick_field_u64(32, tk_u128_of(UINT64_C(4294967295)), s, separator);
 }
 
 /* atoi_fast/src/quick.rt:109 */
 TK_INLINE tk_option_pair_i64_size tk_quick_field_i64_i64(tk_bytes s, uint8_t separator)
 {
-    tk_option_pair_u64_size found = tk_few_digits(s, separator);
-    if (found.is_some) {
-        uint64_t magnitude = found.value.first;
-        size_t len = found.value.second;
-        tk_option_i64 found_2 = tk_number_in_range_i64(tk_u128_of(UINT64_C(9223372036854775807)), 999, false,
-                                                       magnitude);
-        if (!found_2.is_some) {
-            return tk_none_pair_i64_size();
-        }
-        int64_t number = found_2.value;
-        return tk_some_pair_i64_size(tk_new_pair_i64_size(number, len));
-    }
-    return tk_long_field_i64(64, tk_u128_of(UINT64_C(9223372036854775807)), s, separator);
+    return tk_quick_field_i64(64, tk_u128_of(UINT64_C(9223372036854775807)), s, separator);
 }
 
 /* atoi_fast/src/quick.rt:109 */
 TK_INLINE tk_option_pair_u64_size tk_quick_field_u64_u64(tk_bytes s, uint8_t separator)
 {
-    tk_option_pair_u64_size found = tk_few_digits(s, separator);
-    if (found.is_some) {
-        uint64_t magnitude = found.value.first;
-        size_t len = found.value.second;
-        tk_option_u64 found_2 = tk_number_in_range_u64(tk_u128_of(UINT64_C(18446744073709551615)), 999, false,
-                                                       magnitude);
-        if (!found_2.is_some) {
-            return tk_none_pair_u64_size();
-        }
-        uint64_t number = found_2.value;
-        return tk_some_pair_u64_size(tk_new_pair_u64_size(number, len));
-    }
-    return tk_long_field_u64(64, tk_u128_of(UINT64_C(18446744073709551615)), s, separator);
+    return tk_quick_field_u64(64, tk_u128_of(UINT64_C(18446744073709551615)), s, separator);
 }
 
 /* atoi_fast/src/quick.rt:109 */
 TK_INLINE tk_option_pair_i64_size tk_quick_field_i128_i64(tk_bytes s, uint8_t separator)
 {
-    tk_option_pair_u64_size found = tk_few_digits(s, separator);
-    if (found.is_some) {
-        uint64_t magnitude = found.value.first;
-        size_t len = found.value.second;
-        tk_option_i64 found_2 = tk_number_in_range_i64(tk_u128_make(UINT64_C(9223372036854775807),
-                                                                    UINT64_C(18446744073709551615)), 999, false,
-                                                                        magnitude);
-        if (!found_2.is_some) {
-            return tk_none_pair_i64_size();
-        }
-        int64_t number = found_2.value;
-        return tk_some_pair_i64_size(tk_new_pair_i64_size(number, len));
-    }
-    return tk_long_field_i64(128, tk_u128_make(UINT64_C(9223372036854775807), UINT64_C(18446744073709551615)), s,
-                             separator);
+    return tk_quick_field_i64(128, tk_u128_make(UINT64_C(9223372036854775807), UINT64_C(18446744073709551615)), s,
+                              separator);
 }
 
 /* atoi_fast/src/quick.rt:109 */
 TK_INLINE tk_option_pair_u64_size tk_quick_field_u128_u64(tk_bytes s, uint8_t separator)
 {
-    tk_option_pair_u64_size found = tk_few_digits(s, separator);
-    if (found.is_some) {
-        uint64_t magnitude = found.value.first;
-        size_t len = found.value.second;
-        tk_option_u64 found_2 = tk_number_in_range_u64(tk_u128_make(UINT64_C(18446744073709551615),
-                                                                    UINT64_C(18446744073709551615)), 999, false,
-                                                                        magnitude);
-        if (!found_2.is_some) {
-            return tk_none_pair_u64_size();
-        }
-        uint64_t number = found_2.value;
-        return tk_some_pair_u64_size(tk_new_pair_u64_size(number, len));
-    }
-    return tk_long_field_u64(128, tk_u128_make(UINT64_C(18446744073709551615), UINT64_C(18446744073709551615)), s,
-                             separator);
+    return tk_quick_field_u64(128, tk_u128_make(UINT64_C(18446744073709551615), UINT64_C(18446744073709551615)), s,
+                              separator);
 }
 
 /* The second and the third byte are digits. */
@@ -1277,14 +1196,20 @@ TK_INLINE tk_option_pair_i64_size tk_two_or_less_i64(tk_bytes s)
  * 16 bytes, fewer than 16 bytes. Others may be `None`, too. `W` is `i64` or `u64`.
  */
 /* atoi_fast/src/quick.rt:51 */
-TK_INLINE tk_option_pair_i64_size tk_quick_prefix_i8_i64(tk_bytes s)
+TK_INLINE tk_option_pair_i64_size tk_quick_prefix_i64(uint32_t bits, tk_u128 greatest, tk_bytes s)
 {
     if (s.len >= 16) {
         if (s.len >= 3 && '0' <= s.at[1] && s.at[1] <= '9' && '0' <= s.at[2] && s.at[2] <= '9') {
-            return tk_three_or_more_i64(8, tk_u128_of(127), s);
+            return tk_three_or_more_i64(bits, greatest, s);
         }
     }
     return tk_two_or_less_i64(s);
+}
+
+/* atoi_fast/src/quick.rt:51 */
+TK_INLINE tk_option_pair_i64_size tk_quick_prefix_i8_i64(tk_bytes s)
+{
+    return tk_quick_prefix_i64(8, tk_u128_of(127), s);
 }
 
 /* atoi_fast/src/short_prefix.rt:290 */
@@ -1367,94 +1292,66 @@ TK_INLINE tk_option_pair_u64_size tk_two_or_less_u64(tk_bytes s)
 }
 
 /* atoi_fast/src/quick.rt:51 */
-TK_INLINE tk_option_pair_u64_size tk_quick_prefix_u8_u64(tk_bytes s)
+TK_INLINE tk_option_pair_u64_size tk_quick_prefix_u64(uint32_t bits, tk_u128 greatest, tk_bytes s)
 {
     if (s.len >= 16) {
-        return tk_prefix_by_length_u64(8, tk_u128_of(255), s);
+        return tk_prefix_by_length_u64(bits, greatest, s);
     }
     return tk_two_or_less_u64(s);
+}
+
+/* atoi_fast/src/quick.rt:51 */
+TK_INLINE tk_option_pair_u64_size tk_quick_prefix_u8_u64(tk_bytes s)
+{
+    return tk_quick_prefix_u64(8, tk_u128_of(255), s);
 }
 
 /* atoi_fast/src/quick.rt:51 */
 TK_INLINE tk_option_pair_i64_size tk_quick_prefix_i16_i64(tk_bytes s)
 {
-    if (s.len >= 16) {
-        if (s.len >= 3 && '0' <= s.at[1] && s.at[1] <= '9' && '0' <= s.at[2] && s.at[2] <= '9') {
-            return tk_three_or_more_i64(16, tk_u128_of(32767), s);
-        }
-    }
-    return tk_two_or_less_i64(s);
+    return tk_quick_prefix_i64(16, tk_u128_of(32767), s);
 }
 
 /* atoi_fast/src/quick.rt:51 */
 TK_INLINE tk_option_pair_u64_size tk_quick_prefix_u16_u64(tk_bytes s)
 {
-    if (s.len >= 16) {
-        return tk_prefix_by_length_u64(16, tk_u128_of(65535), s);
-    }
-    return tk_two_or_less_u64(s);
+    return tk_quick_prefix_u64(16, tk_u128_of(65535), s);
 }
 
 /* atoi_fast/src/quick.rt:51 */
 TK_INLINE tk_option_pair_i64_size tk_quick_prefix_i32_i64(tk_bytes s)
 {
-    if (s.len >= 16) {
-        if (s.len >= 3 && '0' <= s.at[1] && s.at[1] <= '9' && '0' <= s.at[2] && s.at[2] <= '9') {
-            return tk_three_or_more_i64(32, tk_u128_of(2147483647), s);
-        }
-    }
-    return tk_two_or_less_i64(s);
+    return tk_quick_prefix_i64(32, tk_u128_of(2147483647), s);
 }
 
 /* atoi_fast/src/quick.rt:51 */
 TK_INLINE tk_option_pair_u64_size tk_quick_prefix_u32_u64(tk_bytes s)
 {
-    if (s.len >= 16) {
-        return tk_prefix_by_length_u64(32, tk_u128_of(UINT64_C(4294967295)), s);
-    }
-    return tk_two_or_less_u64(s);
+    return tk_quick_prefix_u64(32, tk_u128_of(UINT64_C(4294967295)), s);
 }
 
 /* atoi_fast/src/quick.rt:51 */
 TK_INLINE tk_option_pair_i64_size tk_quick_prefix_i64_i64(tk_bytes s)
 {
-    if (s.len >= 16) {
-        if (s.len >= 3 && '0' <= s.at[1] && s.at[1] <= '9' && '0' <= s.at[2] && s.at[2] <= '9') {
-            return tk_three_or_more_i64(64, tk_u128_of(UINT64_C(9223372036854775807)), s);
-        }
-    }
-    return tk_two_or_less_i64(s);
+    return tk_quick_prefix_i64(64, tk_u128_of(UINT64_C(9223372036854775807)), s);
 }
 
 /* atoi_fast/src/quick.rt:51 */
 TK_INLINE tk_option_pair_u64_size tk_quick_prefix_u64_u64(tk_bytes s)
 {
-    if (s.len >= 16) {
-        return tk_prefix_by_length_u64(64, tk_u128_of(UINT64_C(18446744073709551615)), s);
-    }
-    return tk_two_or_less_u64(s);
+    return tk_quick_prefix_u64(64, tk_u128_of(UINT64_C(18446744073709551615)), s);
 }
 
 /* atoi_fast/src/quick.rt:51 */
 TK_INLINE tk_option_pair_i64_size tk_quick_prefix_i128_i64(tk_bytes s)
 {
-    if (s.len >= 16) {
-        if (s.len >= 3 && '0' <= s.at[1] && s.at[1] <= '9' && '0' <= s.at[2] && s.at[2] <= '9') {
-            return tk_three_or_more_i64(128,
-                                        tk_u128_make(UINT64_C(9223372036854775807), UINT64_C(18446744073709551615)), s);
-        }
-    }
-    return tk_two_or_less_i64(s);
+    return tk_quick_prefix_i64(128, tk_u128_make(UINT64_C(9223372036854775807), UINT64_C(18446744073709551615)), s);
 }
 
 /* atoi_fast/src/quick.rt:51 */
 TK_INLINE tk_option_pair_u64_size tk_quick_prefix_u128_u64(tk_bytes s)
 {
-    if (s.len >= 16) {
-        return tk_prefix_by_length_u64(128,
-                                       tk_u128_make(UINT64_C(18446744073709551615), UINT64_C(18446744073709551615)), s);
-    }
-    return tk_two_or_less_u64(s);
+    return tk_quick_prefix_u64(128, tk_u128_make(UINT64_C(18446744073709551615), UINT64_C(18446744073709551615)), s);
 }
 
 /* Returns whether `byte` may separate fields: any byte except a digit, `+` or `-`. */
@@ -2322,195 +2219,2005 @@ static inline size_t torkettle_rest_length(size_t length, char separator) TORKET
     return tk_is_separator(TK_CAST(uint8_t, separator)) ? length : 0;
 }
 
-/* Reads the next field of a column or of fields. `called` does that, unless `tk_quick_field` finds a number. It gets a
-   copy, so that compilers can keep the fields of a loop in registers. */
-#define TORKETTLE_NEXT_(kind, called, suffix, type, word)                                                              \
-    TK_INLINE torkettle_found##suffix torkettle_next_of_##kind##suffix(torkettle_##kind##suffix *fields)               \
-        TORKETTLE_NOEXCEPT                                                                                             \
-    {                                                                                                                  \
-        tk_bytes rest = tk_text(fields->rest, fields->rest_length);                                                    \
-        tk_option_pair##word##_size number = tk_quick_field##suffix##word(rest, TK_CAST(uint8_t, fields->separator));  \
-        size_t count = number.value.second;                                                                            \
-        if (!number.is_some) {                                                                                         \
-            torkettle_##kind##suffix copy = *fields;                                                                   \
-            torkettle_found##suffix found = torkettle_##called##suffix(&copy);                                         \
-            *fields = copy;                                                                                            \
-            return found;                                                                                              \
-        }                                                                                                              \
-        fields->status = TORKETTLE_OK;                                                                                 \
-        fields->next_index += 1;                                                                                       \
-        fields->next_offset += count + 1;                                                                              \
-        fields->rest += count + 1;                                                                                     \
-        fields->rest_length -= count + 1;                                                                              \
-        return TK_MAKE(torkettle_found##suffix, TK_CAST(type, number.value.first), 1);                                 \
-    }
-
-/* The parses of a type by the functions of another, or its own, of the same size and sign. */
-#define TORKETTLE_PARSES_(name, type, same)                                                                            \
-    static inline torkettle_status torkettle_parse##name(const char *text, size_t length, unsigned flags, type *value) \
-        TORKETTLE_NOEXCEPT                                                                                             \
-    {                                                                                                                  \
-        torkettle_found##same found = torkettle_of_whole##same(text, length, flags);                                   \
-        if (found.length == 0)                                                                                         \
-            return torkettle_refusal(TK_CAST(torkettle_status, found.value));                                          \
-        *value = found.value;                                                                                          \
-        return TORKETTLE_OK;                                                                                           \
-    }                                                                                                                  \
-    TK_INLINE torkettle_status torkettle_parse_prefix##name(const char *text, size_t length, unsigned flags,           \
-                                                            type *value, size_t *count) TORKETTLE_NOEXCEPT             \
-    {                                                                                                                  \
-        torkettle_found##same found = torkettle_of_prefix##same(text, length, flags);                                  \
-        if (found.length == 0)                                                                                         \
-            return torkettle_refusal(TK_CAST(torkettle_status, found.value));                                          \
-        *value = found.value;                                                                                          \
-        *count = found.length;                                                                                         \
-        return TORKETTLE_OK;                                                                                           \
-    }                                                                                                                  \
-    static inline bool torkettle_canonical##name(const char *text, size_t length, type *value) TORKETTLE_NOEXCEPT      \
-    {                                                                                                                  \
-        torkettle_found##same found = torkettle_whole_canonical##same(text, length);                                   \
-        if (found.length == 0)                                                                                         \
-            return false;                                                                                              \
-        *value = found.value;                                                                                          \
-        return true;                                                                                                   \
-    }                                                                                                                  \
-    static inline bool torkettle_json_integer##name(const char *text, size_t length, type *value, size_t *count)       \
-        TORKETTLE_NOEXCEPT                                                                                             \
-    {                                                                                                                  \
-        torkettle_found##same found = torkettle_prefix_json##same(text, length);                                       \
-        if (found.length == 0)                                                                                         \
-            return false;                                                                                              \
-        *value = found.value;                                                                                          \
-        *count = found.length;                                                                                         \
-        return true;                                                                                                   \
-    }
-
-#define TORKETTLE_FUNCTIONS_(name, type, word)                                                                         \
-    typedef struct torkettle_found_##name {                                                                            \
-        type value;                                                                                                    \
-        size_t length;                                                                                                 \
-    } torkettle_found_##name;                                                                                          \
-    typedef struct torkettle_column_##name {                                                                           \
-        torkettle_status status;                                                                                       \
-        size_t index, offset, next_index, next_offset;                                                                 \
-        const char *rest;                                                                                              \
-        size_t rest_length;                                                                                            \
-        char separator, is_lines;                                                                                      \
-    } torkettle_column_##name;                                                                                         \
-    typedef struct torkettle_fields_##name {                                                                           \
-        torkettle_status status;                                                                                       \
-        size_t index, offset;                                                                                          \
-        const char *text;                                                                                              \
-        size_t length, next_index, next_offset;                                                                        \
-        const char *rest;                                                                                              \
-        size_t rest_length;                                                                                            \
-        char separator, is_lines;                                                                                      \
-    } torkettle_fields_##name;                                                                                         \
-    TK_CALLED(torkettle_found_##name, whole_##name, const char *text, size_t length, unsigned flags);                  \
-    TK_CALLED(torkettle_found_##name, prefix_##name, const char *text, size_t length, unsigned flags);                 \
-    TK_CALLED(torkettle_found_##name, whole_canonical_##name, const char *text, size_t length);                        \
-    TK_CALLED(torkettle_found_##name, prefix_json_##name, const char *text, size_t length);                            \
-    TK_CALLED(torkettle_found_##name, next_##name, torkettle_column_##name *column);                                   \
-    TK_CALLED(torkettle_found_##name, next_field_##name, torkettle_fields_##name *fields);                             \
-    TK_CALLED(torkettle_status, parse_pos_##name, const char *text, size_t length, unsigned flags, type *value);       \
-    TK_CALLED(torkettle_status, parse_prefix_pos_##name, const char *text, size_t length, unsigned flags, type *value, \
-              size_t *count);                                                                                          \
-    torkettle_status torkettle_called_parse_##name(const char *text, size_t length, unsigned flags, type *value)       \
-        TORKETTLE_SYMBOL_(parse_##name);                                                                               \
-    torkettle_status torkettle_called_parse_prefix_##name(const char *text, size_t length, unsigned flags,             \
-                                                          type *value, size_t *count)                                  \
-        TORKETTLE_SYMBOL_(parse_prefix_##name);                                                                        \
-    TK_CALLED(torkettle_error, parse_error_##name, const char *text, size_t length, unsigned flags);                   \
-    TK_CALLED(torkettle_error, parse_prefix_error_##name, const char *text, size_t length, unsigned flags);            \
-    TK_CALLED(size_t, column_##name##_read, torkettle_column_##name *column, type *values, size_t count);              \
-    TK_CALLED(size_t, fields_##name##_read, torkettle_fields_##name *fields, type *values, size_t count);              \
-    TK_INLINE torkettle_found_##name torkettle_of_whole_##name(const char *text, size_t length, unsigned flags)        \
-        TORKETTLE_NOEXCEPT                                                                                             \
-    {                                                                                                                  \
-        tk_option_u8 digit = tk_one_digit(tk_text(text, length));                                                      \
-        if (digit.is_some)                                                                                             \
-            return TK_MAKE(torkettle_found_##name, TK_CAST(type, digit.value), 1);                                     \
-        return torkettle_whole_##name(text, length, flags);                                                            \
-    }                                                                                                                  \
-    TK_INLINE torkettle_found_##name torkettle_of_prefix_##name(const char *text, size_t length, unsigned flags)       \
-        TORKETTLE_NOEXCEPT                                                                                             \
-    {                                                                                                                  \
-        tk_option_pair_##word##_size number = tk_quick_prefix_##name##_##word(tk_text(text, length));                  \
-        if (number.is_some)                                                                                            \
-            return TK_MAKE(torkettle_found_##name, TK_CAST(type, number.value.first), number.value.second);            \
-        return torkettle_prefix_##name(text, length, flags);                                                           \
-    }                                                                                                                  \
-    TORKETTLE_NEXT_(column, next, _##name, type, _##word)                                                              \
-    TORKETTLE_NEXT_(fields, next_field, _##name, type, _##word)                                                        \
-    TORKETTLE_PARSES_(_##name, type, _##name)                                                                          \
-    static inline void torkettle_column_##name##_init(torkettle_column_##name *column, const char *text,               \
-                                                      size_t length, char separator) TORKETTLE_NOEXCEPT                \
-    {                                                                                                                  \
-        bool is_separator = tk_is_separator(TK_CAST(uint8_t, separator));                                              \
-        torkettle_status status = is_separator ? TORKETTLE_OK : TORKETTLE_INVALID;                                     \
-        size_t index = is_separator ? 0 : SIZE_MAX;                                                                    \
-        size_t rest_length = is_separator ? length : 0;                                                                \
-        *column = TK_MAKE(torkettle_column_##name, status, index, index, 0, 0, text, rest_length, separator, 0);       \
-    }                                                                                                                  \
-    static inline bool torkettle_column_##name##_next(torkettle_column_##name *column, type *value) TORKETTLE_NOEXCEPT \
-    {                                                                                                                  \
-        torkettle_found_##name found = torkettle_next_of_column_##name(column);                                        \
-        if (found.length == 0)                                                                                         \
-            return false;                                                                                              \
-        *value = found.value;                                                                                          \
-        return true;                                                                                                   \
-    }                                                                                                                  \
-    static inline void torkettle_fields_##name##_init(torkettle_fields_##name *fields, const char *text,               \
-                                                      size_t length, char separator) TORKETTLE_NOEXCEPT                \
-    {                                                                                                                  \
-        size_t rest_length = torkettle_rest_length(length, separator);                                                 \
-        *fields = TK_MAKE(torkettle_fields_##name, TORKETTLE_OK, 0, 0, NULL, 0, 0, 0, text, rest_length, separator, 0);\
-    }                                                                                                                  \
-    static inline void torkettle_fields_##name##_init_lines(torkettle_fields_##name *fields, const char *text,         \
-                                                            size_t length) TORKETTLE_NOEXCEPT                          \
-    {                                                                                                                  \
-        torkettle_fields_##name##_init(fields, text, length, '\n');                                                    \
-        fields->is_lines = 1;                                                                                          \
-    }                                                                                                                  \
-    static inline void torkettle_fields_##name##_starting_at(torkettle_fields_##name *fields, size_t index,            \
-                                                             size_t offset) TORKETTLE_NOEXCEPT                         \
-    {                                                                                                                  \
-        fields->next_index = index;                                                                                    \
-        fields->next_offset = offset;                                                                                  \
-    }                                                                                                                  \
-    static inline bool torkettle_fields_##name##_next(torkettle_fields_##name *fields, type *value) TORKETTLE_NOEXCEPT \
-    {                                                                                                                  \
-        torkettle_found_##name found = torkettle_next_of_fields_##name(fields);                                        \
-        if (found.length == 0)                                                                                         \
-            return false;                                                                                              \
-        /* The caller also tests the status, so compilers do not warn that the value is not set. */                    \
-        if (fields->status == TORKETTLE_OK)                                                                            \
-            *value = found.value;                                                                                      \
-        return true;                                                                                                   \
-    }
-
-/* The types, for a macro that takes a name, a type and, by its name, the type of 64 bits with the same sign. */
 #if defined __SIZEOF_INT128__ && !defined TORKETTLE_NO_INT128
 typedef tk_i128 torkettle_i128;
 typedef tk_u128 torkettle_u128;
-#define TORKETTLE_LARGE_TYPES_(of) of(i128, torkettle_i128, i64) of(u128, torkettle_u128, u64)
+#define TORKETTLE_LARGE_TYPES_(of) of(i128, torkettle_i128) of(u128, torkettle_u128)
 #else
 #define TORKETTLE_LARGE_TYPES_(of)
 #endif
+/* For a macro that takes the name of a type and the type. */
 #define TORKETTLE_TYPES_(of)                                                                                           \
-    of(i8, int8_t, i64) of(u8, uint8_t, u64) of(i16, int16_t, i64) of(u16, uint16_t, u64) of(i32, int32_t, i64)        \
-        of(u32, uint32_t, u64) of(i64, int64_t, i64) of(u64, uint64_t, u64) TORKETTLE_LARGE_TYPES_(of)
-TORKETTLE_TYPES_(TORKETTLE_FUNCTIONS_)
+    of(i8, int8_t) of(u8, uint8_t) of(i16, int16_t) of(u16, uint16_t) of(i32, int32_t) of(u32, uint32_t)               \
+        of(i64, int64_t) of(u64, uint64_t) TORKETTLE_LARGE_TYPES_(of)
+
+typedef struct torkettle_found_i8 {
+    int8_t value;
+    size_t length;
+} torkettle_found_i8;
+
+typedef struct torkettle_fields_i8 {
+    torkettle_status status;
+    size_t index, offset;
+    const char *text;
+    size_t length, next_index, next_offset;
+    const char *rest;
+    size_t rest_length;
+    char separator, is_lines;
+} torkettle_fields_i8;
+
+typedef struct torkettle_column_i8 {
+    torkettle_status status;
+    size_t index, offset;
+    torkettle_fields_i8 fields;
+} torkettle_column_i8;
+
+torkettle_found_i8 torkettle_whole_i8(const char *text, size_t length, unsigned flags)
+    TORKETTLE_SYMBOL_(whole_i8);
+torkettle_found_i8 torkettle_prefix_i8(const char *text, size_t length, unsigned flags)
+    TORKETTLE_SYMBOL_(prefix_i8);
+torkettle_found_i8 torkettle_whole_canonical_i8(const char *text, size_t length)
+    TORKETTLE_SYMBOL_(whole_canonical_i8);
+torkettle_found_i8 torkettle_prefix_json_i8(const char *text, size_t length) TORKETTLE_SYMBOL_(prefix_json_i8);
+torkettle_found_i8 torkettle_next_i8(torkettle_fields_i8 *fields) TORKETTLE_SYMBOL_(next_i8);
+torkettle_column_i8 torkettle_ended_i8(const torkettle_fields_i8 *fields) TORKETTLE_SYMBOL_(ended_i8);
+torkettle_status torkettle_parse_pos_i8(const char *text, size_t length, unsigned flags, int8_t *value)
+    TORKETTLE_SYMBOL_(parse_pos_i8);
+torkettle_status torkettle_parse_prefix_pos_i8(const char *text, size_t length, unsigned flags, int8_t *value,
+                                               size_t *count) TORKETTLE_SYMBOL_(parse_prefix_pos_i8);
+torkettle_error torkettle_parse_error_i8(const char *text, size_t length, unsigned flags)
+    TORKETTLE_SYMBOL_(parse_error_i8);
+torkettle_error torkettle_parse_prefix_error_i8(const char *text, size_t length, unsigned flags)
+    TORKETTLE_SYMBOL_(parse_prefix_error_i8);
+size_t torkettle_column_i8_read(torkettle_column_i8 *column, int8_t *values, size_t count)
+    TORKETTLE_SYMBOL_(column_i8_read);
+size_t torkettle_fields_i8_read(torkettle_fields_i8 *fields, int8_t *values, size_t count)
+    TORKETTLE_SYMBOL_(fields_i8_read);
+
+TK_INLINE torkettle_found_i8 torkettle_of_whole_i8(const char *text, size_t length, unsigned flags)
+{
+    tk_option_u8 digit = tk_one_digit(tk_text(text, length));
+    torkettle_found_i8 found = {TK_CAST(int8_t, digit.value), 1};
+    if (digit.is_some)
+        return found;
+    return torkettle_whole_i8(text, length, flags);
+}
+
+TK_INLINE torkettle_found_i8 torkettle_of_prefix_i8(const char *text, size_t length, unsigned flags)
+{
+    tk_option_pair_i64_size number = tk_quick_prefix_i8_i64(tk_text(text, length));
+    torkettle_found_i8 found = {TK_CAST(int8_t, number.value.first), number.value.second};
+    return number.is_some ? found : torkettle_prefix_i8(text, length, flags);
+}
+
+/* Reads the next field, by a call unless `tk_quick_field` finds a number. The call gets a copy, so that compilers can
+   keep the fields of a loop in registers. */
+TK_INLINE torkettle_found_i8 torkettle_next_of_i8(torkettle_fields_i8 *fields)
+{
+    tk_bytes rest = tk_text(fields->rest, fields->rest_length);
+    tk_option_pair_i64_size number = tk_quick_field_i8_i64(rest, TK_CAST(uint8_t, fields->separator));
+    torkettle_found_i8 found = {TK_CAST(int8_t, number.value.first), 1};
+    size_t count = number.value.second + 1;
+    if (!number.is_some) {
+        torkettle_fields_i8 copy = *fields;
+        found = torkettle_next_i8(&copy);
+        *fields = copy;
+        return found;
+    }
+    fields->status = TORKETTLE_OK;
+    fields->next_index += 1;
+    fields->next_offset += count;
+    fields->rest += count;
+    fields->rest_length -= count;
+    return found;
+}
+
+static inline torkettle_status torkettle_parse_i8(const char *text, size_t length, unsigned flags,
+                                                  int8_t *value) TORKETTLE_NOEXCEPT
+{
+    torkettle_found_i8 found = torkettle_of_whole_i8(text, length, flags);
+    if (found.length == 0)
+        return torkettle_refusal(TK_CAST(torkettle_status, found.value));
+    *value = found.value;
+    return TORKETTLE_OK;
+}
+
+TK_INLINE torkettle_status torkettle_parse_prefix_i8(const char *text, size_t length, unsigned flags, int8_t *value,
+                                                     size_t *count) TORKETTLE_NOEXCEPT
+{
+    torkettle_found_i8 found = torkettle_of_prefix_i8(text, length, flags);
+    if (found.length == 0)
+        return torkettle_refusal(TK_CAST(torkettle_status, found.value));
+    *value = found.value;
+    *count = found.length;
+    return TORKETTLE_OK;
+}
+
+static inline bool torkettle_canonical_i8(const char *text, size_t length, int8_t *value) TORKETTLE_NOEXCEPT
+{
+    torkettle_found_i8 found = torkettle_whole_canonical_i8(text, length);
+    if (found.length == 0)
+        return false;
+    *value = found.value;
+    return true;
+}
+
+static inline bool torkettle_json_integer_i8(const char *text, size_t length, int8_t *value,
+                                             size_t *count) TORKETTLE_NOEXCEPT
+{
+    torkettle_found_i8 found = torkettle_prefix_json_i8(text, length);
+    if (found.length == 0)
+        return false;
+    *value = found.value;
+    *count = found.length;
+    return true;
+}
+
+static inline void torkettle_fields_i8_init(torkettle_fields_i8 *fields, const char *text, size_t length,
+                                            char separator) TORKETTLE_NOEXCEPT
+{
+    torkettle_fields_i8 start = {TORKETTLE_OK, 0, 0, NULL, 0, 0, 0, text, 0, separator, 0};
+    start.rest_length = torkettle_rest_length(length, separator);
+    *fields = start;
+}
+
+static inline void torkettle_fields_i8_init_lines(torkettle_fields_i8 *fields, const char *text,
+                                                  size_t length) TORKETTLE_NOEXCEPT
+{
+    torkettle_fields_i8_init(fields, text, length, '\n');
+    fields->is_lines = 1;
+}
+
+static inline void torkettle_fields_i8_starting_at(torkettle_fields_i8 *fields, size_t index,
+                                                   size_t offset) TORKETTLE_NOEXCEPT
+{
+    fields->next_index = index;
+    fields->next_offset = offset;
+}
+
+static inline bool torkettle_fields_i8_next(torkettle_fields_i8 *fields, int8_t *value) TORKETTLE_NOEXCEPT
+{
+    torkettle_found_i8 found = torkettle_next_of_i8(fields);
+    /* The caller also tests the status, so compilers do not warn that the value is not set. */
+    if (fields->status == TORKETTLE_OK && found.length != 0)
+        *value = found.value;
+    return found.length != 0;
+}
+
+static inline void torkettle_column_i8_init(torkettle_column_i8 *column, const char *text, size_t length,
+                                            char separator) TORKETTLE_NOEXCEPT
+{
+    bool is_separator = tk_is_separator(TK_CAST(uint8_t, separator));
+    torkettle_fields_i8_init(&column->fields, text, length, separator);
+    column->status = is_separator ? TORKETTLE_OK : TORKETTLE_INVALID;
+    column->index = column->offset = is_separator ? 0 : SIZE_MAX;
+}
+
+static inline bool torkettle_column_i8_next(torkettle_column_i8 *column, int8_t *value) TORKETTLE_NOEXCEPT
+{
+    torkettle_found_i8 found = torkettle_next_of_i8(&column->fields);
+    if (found.length == 2) {
+        torkettle_fields_i8 bad = column->fields;
+        *column = torkettle_ended_i8(&bad);
+    }
+    if (found.length != 1)
+        return false;
+    *value = found.value;
+    return true;
+}
+typedef struct torkettle_found_u8 {
+    uint8_t value;
+    size_t length;
+} torkettle_found_u8;
+
+typedef struct torkettle_fields_u8 {
+    torkettle_status status;
+    size_t index, offset;
+    const char *text;
+    size_t length, next_index, next_offset;
+    const char *rest;
+    size_t rest_length;
+    char separator, is_lines;
+} torkettle_fields_u8;
+
+typedef struct torkettle_column_u8 {
+    torkettle_status status;
+    size_t index, offset;
+    torkettle_fields_u8 fields;
+} torkettle_column_u8;
+
+torkettle_found_u8 torkettle_whole_u8(const char *text, size_t length, unsigned flags)
+    TORKETTLE_SYMBOL_(whole_u8);
+torkettle_found_u8 torkettle_prefix_u8(const char *text, size_t length, unsigned flags)
+    TORKETTLE_SYMBOL_(prefix_u8);
+torkettle_found_u8 torkettle_whole_canonical_u8(const char *text, size_t length)
+    TORKETTLE_SYMBOL_(whole_canonical_u8);
+torkettle_found_u8 torkettle_prefix_json_u8(const char *text, size_t length) TORKETTLE_SYMBOL_(prefix_json_u8);
+torkettle_found_u8 torkettle_next_u8(torkettle_fields_u8 *fields) TORKETTLE_SYMBOL_(next_u8);
+torkettle_column_u8 torkettle_ended_u8(const torkettle_fields_u8 *fields) TORKETTLE_SYMBOL_(ended_u8);
+torkettle_status torkettle_parse_pos_u8(const char *text, size_t length, unsigned flags, uint8_t *value)
+    TORKETTLE_SYMBOL_(parse_pos_u8);
+torkettle_status torkettle_parse_prefix_pos_u8(const char *text, size_t length, unsigned flags, uint8_t *value,
+                                               size_t *count) TORKETTLE_SYMBOL_(parse_prefix_pos_u8);
+torkettle_error torkettle_parse_error_u8(const char *text, size_t length, unsigned flags)
+    TORKETTLE_SYMBOL_(parse_error_u8);
+torkettle_error torkettle_parse_prefix_error_u8(const char *text, size_t length, unsigned flags)
+    TORKETTLE_SYMBOL_(parse_prefix_error_u8);
+size_t torkettle_column_u8_read(torkettle_column_u8 *column, uint8_t *values, size_t count)
+    TORKETTLE_SYMBOL_(column_u8_read);
+size_t torkettle_fields_u8_read(torkettle_fields_u8 *fields, uint8_t *values, size_t count)
+    TORKETTLE_SYMBOL_(fields_u8_read);
+
+TK_INLINE torkettle_found_u8 torkettle_of_whole_u8(const char *text, size_t length, unsigned flags)
+{
+    tk_option_u8 digit = tk_one_digit(tk_text(text, length));
+    torkettle_found_u8 found = {TK_CAST(uint8_t, digit.value), 1};
+    if (digit.is_some)
+        return found;
+    return torkettle_whole_u8(text, length, flags);
+}
+
+TK_INLINE torkettle_found_u8 torkettle_of_prefix_u8(const char *text, size_t length, unsigned flags)
+{
+    tk_option_pair_u64_size number = tk_quick_prefix_u8_u64(tk_text(text, length));
+    torkettle_found_u8 found = {TK_CAST(uint8_t, number.value.first), number.value.second};
+    return number.is_some ? found : torkettle_prefix_u8(text, length, flags);
+}
+
+/* Reads the next field, by a call unless `tk_quick_field` finds a number. The call gets a copy, so that compilers can
+   keep the fields of a loop in registers. */
+TK_INLINE torkettle_found_u8 torkettle_next_of_u8(torkettle_fields_u8 *fields)
+{
+    tk_bytes rest = tk_text(fields->rest, fields->rest_length);
+    tk_option_pair_u64_size number = tk_quick_field_u8_u64(rest, TK_CAST(uint8_t, fields->separator));
+    torkettle_found_u8 found = {TK_CAST(uint8_t, number.value.first), 1};
+    size_t count = number.value.second + 1;
+    if (!number.is_some) {
+        torkettle_fields_u8 copy = *fields;
+        found = torkettle_next_u8(&copy);
+        *fields = copy;
+        return found;
+    }
+    fields->status = TORKETTLE_OK;
+    fields->next_index += 1;
+    fields->next_offset += count;
+    fields->rest += count;
+    fields->rest_length -= count;
+    return found;
+}
+
+static inline torkettle_status torkettle_parse_u8(const char *text, size_t length, unsigned flags,
+                                                  uint8_t *value) TORKETTLE_NOEXCEPT
+{
+    torkettle_found_u8 found = torkettle_of_whole_u8(text, length, flags);
+    if (found.length == 0)
+        return torkettle_refusal(TK_CAST(torkettle_status, found.value));
+    *value = found.value;
+    return TORKETTLE_OK;
+}
+
+TK_INLINE torkettle_status torkettle_parse_prefix_u8(const char *text, size_t length, unsigned flags, uint8_t *value,
+                                                     size_t *count) TORKETTLE_NOEXCEPT
+{
+    torkettle_found_u8 found = torkettle_of_prefix_u8(text, length, flags);
+    if (found.length == 0)
+        return torkettle_refusal(TK_CAST(torkettle_status, found.value));
+    *value = found.value;
+    *count = found.length;
+    return TORKETTLE_OK;
+}
+
+static inline bool torkettle_canonical_u8(const char *text, size_t length, uint8_t *value) TORKETTLE_NOEXCEPT
+{
+    torkettle_found_u8 found = torkettle_whole_canonical_u8(text, length);
+    if (found.length == 0)
+        return false;
+    *value = found.value;
+    return true;
+}
+
+static inline bool torkettle_json_integer_u8(const char *text, size_t length, uint8_t *value,
+                                             size_t *count) TORKETTLE_NOEXCEPT
+{
+    torkettle_found_u8 found = torkettle_prefix_json_u8(text, length);
+    if (found.length == 0)
+        return false;
+    *value = found.value;
+    *count = found.length;
+    return true;
+}
+
+static inline void torkettle_fields_u8_init(torkettle_fields_u8 *fields, const char *text, size_t length,
+                                            char separator) TORKETTLE_NOEXCEPT
+{
+    torkettle_fields_u8 start = {TORKETTLE_OK, 0, 0, NULL, 0, 0, 0, text, 0, separator, 0};
+    start.rest_length = torkettle_rest_length(length, separator);
+    *fields = start;
+}
+
+static inline void torkettle_fields_u8_init_lines(torkettle_fields_u8 *fields, const char *text,
+                                                  size_t length) TORKETTLE_NOEXCEPT
+{
+    torkettle_fields_u8_init(fields, text, length, '\n');
+    fields->is_lines = 1;
+}
+
+static inline void torkettle_fields_u8_starting_at(torkettle_fields_u8 *fields, size_t index,
+                                                   size_t offset) TORKETTLE_NOEXCEPT
+{
+    fields->next_index = index;
+    fields->next_offset = offset;
+}
+
+static inline bool torkettle_fields_u8_next(torkettle_fields_u8 *fields, uint8_t *value) TORKETTLE_NOEXCEPT
+{
+    torkettle_found_u8 found = torkettle_next_of_u8(fields);
+    /* The caller also tests the status, so compilers do not warn that the value is not set. */
+    if (fields->status == TORKETTLE_OK && found.length != 0)
+        *value = found.value;
+    return found.length != 0;
+}
+
+static inline void torkettle_column_u8_init(torkettle_column_u8 *column, const char *text, size_t length,
+                                            char separator) TORKETTLE_NOEXCEPT
+{
+    bool is_separator = tk_is_separator(TK_CAST(uint8_t, separator));
+    torkettle_fields_u8_init(&column->fields, text, length, separator);
+    column->status = is_separator ? TORKETTLE_OK : TORKETTLE_INVALID;
+    column->index = column->offset = is_separator ? 0 : SIZE_MAX;
+}
+
+static inline bool torkettle_column_u8_next(torkettle_column_u8 *column, uint8_t *value) TORKETTLE_NOEXCEPT
+{
+    torkettle_found_u8 found = torkettle_next_of_u8(&column->fields);
+    if (found.length == 2) {
+        torkettle_fields_u8 bad = column->fields;
+        *column = torkettle_ended_u8(&bad);
+    }
+    if (found.length != 1)
+        return false;
+    *value = found.value;
+    return true;
+}
+typedef struct torkettle_found_i16 {
+    int16_t value;
+    size_t length;
+} torkettle_found_i16;
+
+typedef struct torkettle_fields_i16 {
+    torkettle_status status;
+    size_t index, offset;
+    const char *text;
+    size_t length, next_index, next_offset;
+    const char *rest;
+    size_t rest_length;
+    char separator, is_lines;
+} torkettle_fields_i16;
+
+typedef struct torkettle_column_i16 {
+    torkettle_status status;
+    size_t index, offset;
+    torkettle_fields_i16 fields;
+} torkettle_column_i16;
+
+torkettle_found_i16 torkettle_whole_i16(const char *text, size_t length, unsigned flags)
+    TORKETTLE_SYMBOL_(whole_i16);
+torkettle_found_i16 torkettle_prefix_i16(const char *text, size_t length, unsigned flags)
+    TORKETTLE_SYMBOL_(prefix_i16);
+torkettle_found_i16 torkettle_whole_canonical_i16(const char *text, size_t length)
+    TORKETTLE_SYMBOL_(whole_canonical_i16);
+torkettle_found_i16 torkettle_prefix_json_i16(const char *text, size_t length) TORKETTLE_SYMBOL_(prefix_json_i16);
+torkettle_found_i16 torkettle_next_i16(torkettle_fields_i16 *fields) TORKETTLE_SYMBOL_(next_i16);
+torkettle_column_i16 torkettle_ended_i16(const torkettle_fields_i16 *fields) TORKETTLE_SYMBOL_(ended_i16);
+torkettle_status torkettle_parse_pos_i16(const char *text, size_t length, unsigned flags, int16_t *value)
+    TORKETTLE_SYMBOL_(parse_pos_i16);
+torkettle_status torkettle_parse_prefix_pos_i16(const char *text, size_t length, unsigned flags, int16_t *value,
+                                                size_t *count) TORKETTLE_SYMBOL_(parse_prefix_pos_i16);
+torkettle_error torkettle_parse_error_i16(const char *text, size_t length, unsigned flags)
+    TORKETTLE_SYMBOL_(parse_error_i16);
+torkettle_error torkettle_parse_prefix_error_i16(const char *text, size_t length, unsigned flags)
+    TORKETTLE_SYMBOL_(parse_prefix_error_i16);
+size_t torkettle_column_i16_read(torkettle_column_i16 *column, int16_t *values, size_t count)
+    TORKETTLE_SYMBOL_(column_i16_read);
+size_t torkettle_fields_i16_read(torkettle_fields_i16 *fields, int16_t *values, size_t count)
+    TORKETTLE_SYMBOL_(fields_i16_read);
+
+TK_INLINE torkettle_found_i16 torkettle_of_whole_i16(const char *text, size_t length, unsigned flags)
+{
+    tk_option_u8 digit = tk_one_digit(tk_text(text, length));
+    torkettle_found_i16 found = {TK_CAST(int16_t, digit.value), 1};
+    if (digit.is_some)
+        return found;
+    return torkettle_whole_i16(text, length, flags);
+}
+
+TK_INLINE torkettle_found_i16 torkettle_of_prefix_i16(const char *text, size_t length, unsigned flags)
+{
+    tk_option_pair_i64_size number = tk_quick_prefix_i16_i64(tk_text(text, length));
+    torkettle_found_i16 found = {TK_CAST(int16_t, number.value.first), number.value.second};
+    return number.is_some ? found : torkettle_prefix_i16(text, length, flags);
+}
+
+/* Reads the next field, by a call unless `tk_quick_field` finds a number. The call gets a copy, so that compilers can
+   keep the fields of a loop in registers. */
+TK_INLINE torkettle_found_i16 torkettle_next_of_i16(torkettle_fields_i16 *fields)
+{
+    tk_bytes rest = tk_text(fields->rest, fields->rest_length);
+    tk_option_pair_i64_size number = tk_quick_field_i16_i64(rest, TK_CAST(uint8_t, fields->separator));
+    torkettle_found_i16 found = {TK_CAST(int16_t, number.value.first), 1};
+    size_t count = number.value.second + 1;
+    if (!number.is_some) {
+        torkettle_fields_i16 copy = *fields;
+        found = torkettle_next_i16(&copy);
+        *fields = copy;
+        return found;
+    }
+    fields->status = TORKETTLE_OK;
+    fields->next_index += 1;
+    fields->next_offset += count;
+    fields->rest += count;
+    fields->rest_length -= count;
+    return found;
+}
+
+static inline torkettle_status torkettle_parse_i16(const char *text, size_t length, unsigned flags,
+                                                   int16_t *value) TORKETTLE_NOEXCEPT
+{
+    torkettle_found_i16 found = torkettle_of_whole_i16(text, length, flags);
+    if (found.length == 0)
+        return torkettle_refusal(TK_CAST(torkettle_status, found.value));
+    *value = found.value;
+    return TORKETTLE_OK;
+}
+
+TK_INLINE torkettle_status torkettle_parse_prefix_i16(const char *text, size_t length, unsigned flags, int16_t *value,
+                                                      size_t *count) TORKETTLE_NOEXCEPT
+{
+    torkettle_found_i16 found = torkettle_of_prefix_i16(text, length, flags);
+    if (found.length == 0)
+        return torkettle_refusal(TK_CAST(torkettle_status, found.value));
+    *value = found.value;
+    *count = found.length;
+    return TORKETTLE_OK;
+}
+
+static inline bool torkettle_canonical_i16(const char *text, size_t length, int16_t *value) TORKETTLE_NOEXCEPT
+{
+    torkettle_found_i16 found = torkettle_whole_canonical_i16(text, length);
+    if (found.length == 0)
+        return false;
+    *value = found.value;
+    return true;
+}
+
+static inline bool torkettle_json_integer_i16(const char *text, size_t length, int16_t *value,
+                                              size_t *count) TORKETTLE_NOEXCEPT
+{
+    torkettle_found_i16 found = torkettle_prefix_json_i16(text, length);
+    if (found.length == 0)
+        return false;
+    *value = found.value;
+    *count = found.length;
+    return true;
+}
+
+static inline void torkettle_fields_i16_init(torkettle_fields_i16 *fields, const char *text, size_t length,
+                                             char separator) TORKETTLE_NOEXCEPT
+{
+    torkettle_fields_i16 start = {TORKETTLE_OK, 0, 0, NULL, 0, 0, 0, text, 0, separator, 0};
+    start.rest_length = torkettle_rest_length(length, separator);
+    *fields = start;
+}
+
+static inline void torkettle_fields_i16_init_lines(torkettle_fields_i16 *fields, const char *text,
+                                                   size_t length) TORKETTLE_NOEXCEPT
+{
+    torkettle_fields_i16_init(fields, text, length, '\n');
+    fields->is_lines = 1;
+}
+
+static inline void torkettle_fields_i16_starting_at(torkettle_fields_i16 *fields, size_t index,
+                                                    size_t offset) TORKETTLE_NOEXCEPT
+{
+    fields->next_index = index;
+    fields->next_offset = offset;
+}
+
+static inline bool torkettle_fields_i16_next(torkettle_fields_i16 *fields, int16_t *value) TORKETTLE_NOEXCEPT
+{
+    torkettle_found_i16 found = torkettle_next_of_i16(fields);
+    /* The caller also tests the status, so compilers do not warn that the value is not set. */
+    if (fields->status == TORKETTLE_OK && found.length != 0)
+        *value = found.value;
+    return found.length != 0;
+}
+
+static inline void torkettle_column_i16_init(torkettle_column_i16 *column, const char *text, size_t length,
+                                             char separator) TORKETTLE_NOEXCEPT
+{
+    bool is_separator = tk_is_separator(TK_CAST(uint8_t, separator));
+    torkettle_fields_i16_init(&column->fields, text, length, separator);
+    column->status = is_separator ? TORKETTLE_OK : TORKETTLE_INVALID;
+    column->index = column->offset = is_separator ? 0 : SIZE_MAX;
+}
+
+static inline bool torkettle_column_i16_next(torkettle_column_i16 *column, int16_t *value) TORKETTLE_NOEXCEPT
+{
+    torkettle_found_i16 found = torkettle_next_of_i16(&column->fields);
+    if (found.length == 2) {
+        torkettle_fields_i16 bad = column->fields;
+        *column = torkettle_ended_i16(&bad);
+    }
+    if (found.length != 1)
+        return false;
+    *value = found.value;
+    return true;
+}
+typedef struct torkettle_found_u16 {
+    uint16_t value;
+    size_t length;
+} torkettle_found_u16;
+
+typedef struct torkettle_fields_u16 {
+    torkettle_status status;
+    size_t index, offset;
+    const char *text;
+    size_t length, next_index, next_offset;
+    const char *rest;
+    size_t rest_length;
+    char separator, is_lines;
+} torkettle_fields_u16;
+
+typedef struct torkettle_column_u16 {
+    torkettle_status status;
+    size_t index, offset;
+    torkettle_fields_u16 fields;
+} torkettle_column_u16;
+
+torkettle_found_u16 torkettle_whole_u16(const char *text, size_t length, unsigned flags)
+    TORKETTLE_SYMBOL_(whole_u16);
+torkettle_found_u16 torkettle_prefix_u16(const char *text, size_t length, unsigned flags)
+    TORKETTLE_SYMBOL_(prefix_u16);
+torkettle_found_u16 torkettle_whole_canonical_u16(const char *text, size_t length)
+    TORKETTLE_SYMBOL_(whole_canonical_u16);
+torkettle_found_u16 torkettle_prefix_json_u16(const char *text, size_t length) TORKETTLE_SYMBOL_(prefix_json_u16);
+torkettle_found_u16 torkettle_next_u16(torkettle_fields_u16 *fields) TORKETTLE_SYMBOL_(next_u16);
+torkettle_column_u16 torkettle_ended_u16(const torkettle_fields_u16 *fields) TORKETTLE_SYMBOL_(ended_u16);
+torkettle_status torkettle_parse_pos_u16(const char *text, size_t length, unsigned flags, uint16_t *value)
+    TORKETTLE_SYMBOL_(parse_pos_u16);
+torkettle_status torkettle_parse_prefix_pos_u16(const char *text, size_t length, unsigned flags, uint16_t *value,
+                                                size_t *count) TORKETTLE_SYMBOL_(parse_prefix_pos_u16);
+torkettle_error torkettle_parse_error_u16(const char *text, size_t length, unsigned flags)
+    TORKETTLE_SYMBOL_(parse_error_u16);
+torkettle_error torkettle_parse_prefix_error_u16(const char *text, size_t length, unsigned flags)
+    TORKETTLE_SYMBOL_(parse_prefix_error_u16);
+size_t torkettle_column_u16_read(torkettle_column_u16 *column, uint16_t *values, size_t count)
+    TORKETTLE_SYMBOL_(column_u16_read);
+size_t torkettle_fields_u16_read(torkettle_fields_u16 *fields, uint16_t *values, size_t count)
+    TORKETTLE_SYMBOL_(fields_u16_read);
+
+TK_INLINE torkettle_found_u16 torkettle_of_whole_u16(const char *text, size_t length, unsigned flags)
+{
+    tk_option_u8 digit = tk_one_digit(tk_text(text, length));
+    torkettle_found_u16 found = {TK_CAST(uint16_t, digit.value), 1};
+    if (digit.is_some)
+        return found;
+    return torkettle_whole_u16(text, length, flags);
+}
+
+TK_INLINE torkettle_found_u16 torkettle_of_prefix_u16(const char *text, size_t length, unsigned flags)
+{
+    tk_option_pair_u64_size number = tk_quick_prefix_u16_u64(tk_text(text, length));
+    torkettle_found_u16 found = {TK_CAST(uint16_t, number.value.first), number.value.second};
+    return number.is_some ? found : torkettle_prefix_u16(text, length, flags);
+}
+
+/* Reads the next field, by a call unless `tk_quick_field` finds a number. The call gets a copy, so that compilers can
+   keep the fields of a loop in registers. */
+TK_INLINE torkettle_found_u16 torkettle_next_of_u16(torkettle_fields_u16 *fields)
+{
+    tk_bytes rest = tk_text(fields->rest, fields->rest_length);
+    tk_option_pair_u64_size number = tk_quick_field_u16_u64(rest, TK_CAST(uint8_t, fields->separator));
+    torkettle_found_u16 found = {TK_CAST(uint16_t, number.value.first), 1};
+    size_t count = number.value.second + 1;
+    if (!number.is_some) {
+        torkettle_fields_u16 copy = *fields;
+        found = torkettle_next_u16(&copy);
+        *fields = copy;
+        return found;
+    }
+    fields->status = TORKETTLE_OK;
+    fields->next_index += 1;
+    fields->next_offset += count;
+    fields->rest += count;
+    fields->rest_length -= count;
+    return found;
+}
+
+static inline torkettle_status torkettle_parse_u16(const char *text, size_t length, unsigned flags,
+                                                   uint16_t *value) TORKETTLE_NOEXCEPT
+{
+    torkettle_found_u16 found = torkettle_of_whole_u16(text, length, flags);
+    if (found.length == 0)
+        return torkettle_refusal(TK_CAST(torkettle_status, found.value));
+    *value = found.value;
+    return TORKETTLE_OK;
+}
+
+TK_INLINE torkettle_status torkettle_parse_prefix_u16(const char *text, size_t length, unsigned flags, uint16_t *value,
+                                                      size_t *count) TORKETTLE_NOEXCEPT
+{
+    torkettle_found_u16 found = torkettle_of_prefix_u16(text, length, flags);
+    if (found.length == 0)
+        return torkettle_refusal(TK_CAST(torkettle_status, found.value));
+    *value = found.value;
+    *count = found.length;
+    return TORKETTLE_OK;
+}
+
+static inline bool torkettle_canonical_u16(const char *text, size_t length, uint16_t *value) TORKETTLE_NOEXCEPT
+{
+    torkettle_found_u16 found = torkettle_whole_canonical_u16(text, length);
+    if (found.length == 0)
+        return false;
+    *value = found.value;
+    return true;
+}
+
+static inline bool torkettle_json_integer_u16(const char *text, size_t length, uint16_t *value,
+                                              size_t *count) TORKETTLE_NOEXCEPT
+{
+    torkettle_found_u16 found = torkettle_prefix_json_u16(text, length);
+    if (found.length == 0)
+        return false;
+    *value = found.value;
+    *count = found.length;
+    return true;
+}
+
+static inline void torkettle_fields_u16_init(torkettle_fields_u16 *fields, const char *text, size_t length,
+                                             char separator) TORKETTLE_NOEXCEPT
+{
+    torkettle_fields_u16 start = {TORKETTLE_OK, 0, 0, NULL, 0, 0, 0, text, 0, separator, 0};
+    start.rest_length = torkettle_rest_length(length, separator);
+    *fields = start;
+}
+
+static inline void torkettle_fields_u16_init_lines(torkettle_fields_u16 *fields, const char *text,
+                                                   size_t length) TORKETTLE_NOEXCEPT
+{
+    torkettle_fields_u16_init(fields, text, length, '\n');
+    fields->is_lines = 1;
+}
+
+static inline void torkettle_fields_u16_starting_at(torkettle_fields_u16 *fields, size_t index,
+                                                    size_t offset) TORKETTLE_NOEXCEPT
+{
+    fields->next_index = index;
+    fields->next_offset = offset;
+}
+
+static inline bool torkettle_fields_u16_next(torkettle_fields_u16 *fields, uint16_t *value) TORKETTLE_NOEXCEPT
+{
+    torkettle_found_u16 found = torkettle_next_of_u16(fields);
+    /* The caller also tests the status, so compilers do not warn that the value is not set. */
+    if (fields->status == TORKETTLE_OK && found.length != 0)
+        *value = found.value;
+    return found.length != 0;
+}
+
+static inline void torkettle_column_u16_init(torkettle_column_u16 *column, const char *text, size_t length,
+                                             char separator) TORKETTLE_NOEXCEPT
+{
+    bool is_separator = tk_is_separator(TK_CAST(uint8_t, separator));
+    torkettle_fields_u16_init(&column->fields, text, length, separator);
+    column->status = is_separator ? TORKETTLE_OK : TORKETTLE_INVALID;
+    column->index = column->offset = is_separator ? 0 : SIZE_MAX;
+}
+
+static inline bool torkettle_column_u16_next(torkettle_column_u16 *column, uint16_t *value) TORKETTLE_NOEXCEPT
+{
+    torkettle_found_u16 found = torkettle_next_of_u16(&column->fields);
+    if (found.length == 2) {
+        torkettle_fields_u16 bad = column->fields;
+        *column = torkettle_ended_u16(&bad);
+    }
+    if (found.length != 1)
+        return false;
+    *value = found.value;
+    return true;
+}
+typedef struct torkettle_found_i32 {
+    int32_t value;
+    size_t length;
+} torkettle_found_i32;
+
+typedef struct torkettle_fields_i32 {
+    torkettle_status status;
+    size_t index, offset;
+    const char *text;
+    size_t length, next_index, next_offset;
+    const char *rest;
+    size_t rest_length;
+    char separator, is_lines;
+} torkettle_fields_i32;
+
+typedef struct torkettle_column_i32 {
+    torkettle_status status;
+    size_t index, offset;
+    torkettle_fields_i32 fields;
+} torkettle_column_i32;
+
+torkettle_found_i32 torkettle_whole_i32(const char *text, size_t length, unsigned flags)
+    TORKETTLE_SYMBOL_(whole_i32);
+torkettle_found_i32 torkettle_prefix_i32(const char *text, size_t length, unsigned flags)
+    TORKETTLE_SYMBOL_(prefix_i32);
+torkettle_found_i32 torkettle_whole_canonical_i32(const char *text, size_t length)
+    TORKETTLE_SYMBOL_(whole_canonical_i32);
+torkettle_found_i32 torkettle_prefix_json_i32(const char *text, size_t length) TORKETTLE_SYMBOL_(prefix_json_i32);
+torkettle_found_i32 torkettle_next_i32(torkettle_fields_i32 *fields) TORKETTLE_SYMBOL_(next_i32);
+torkettle_column_i32 torkettle_ended_i32(const torkettle_fields_i32 *fields) TORKETTLE_SYMBOL_(ended_i32);
+torkettle_status torkettle_parse_pos_i32(const char *text, size_t length, unsigned flags, int32_t *value)
+    TORKETTLE_SYMBOL_(parse_pos_i32);
+torkettle_status torkettle_parse_prefix_pos_i32(const char *text, size_t length, unsigned flags, int32_t *value,
+                                                size_t *count) TORKETTLE_SYMBOL_(parse_prefix_pos_i32);
+torkettle_error torkettle_parse_error_i32(const char *text, size_t length, unsigned flags)
+    TORKETTLE_SYMBOL_(parse_error_i32);
+torkettle_error torkettle_parse_prefix_error_i32(const char *text, size_t length, unsigned flags)
+    TORKETTLE_SYMBOL_(parse_prefix_error_i32);
+size_t torkettle_column_i32_read(torkettle_column_i32 *column, int32_t *values, size_t count)
+    TORKETTLE_SYMBOL_(column_i32_read);
+size_t torkettle_fields_i32_read(torkettle_fields_i32 *fields, int32_t *values, size_t count)
+    TORKETTLE_SYMBOL_(fields_i32_read);
+
+TK_INLINE torkettle_found_i32 torkettle_of_whole_i32(const char *text, size_t length, unsigned flags)
+{
+    tk_option_u8 digit = tk_one_digit(tk_text(text, length));
+    torkettle_found_i32 found = {TK_CAST(int32_t, digit.value), 1};
+    if (digit.is_some)
+        return found;
+    return torkettle_whole_i32(text, length, flags);
+}
+
+TK_INLINE torkettle_found_i32 torkettle_of_prefix_i32(const char *text, size_t length, unsigned flags)
+{
+    tk_option_pair_i64_size number = tk_quick_prefix_i32_i64(tk_text(text, length));
+    torkettle_found_i32 found = {TK_CAST(int32_t, number.value.first), number.value.second};
+    return number.is_some ? found : torkettle_prefix_i32(text, length, flags);
+}
+
+/* Reads the next field, by a call unless `tk_quick_field` finds a number. The call gets a copy, so that compilers can
+   keep the fields of a loop in registers. */
+TK_INLINE torkettle_found_i32 torkettle_next_of_i32(torkettle_fields_i32 *fields)
+{
+    tk_bytes rest = tk_text(fields->rest, fields->rest_length);
+    tk_option_pair_i64_size number = tk_quick_field_i32_i64(rest, TK_CAST(uint8_t, fields->separator));
+    torkettle_found_i32 found = {TK_CAST(int32_t, number.value.first), 1};
+    size_t count = number.value.second + 1;
+    if (!number.is_some) {
+        torkettle_fields_i32 copy = *fields;
+        found = torkettle_next_i32(&copy);
+        *fields = copy;
+        return found;
+    }
+    fields->status = TORKETTLE_OK;
+    fields->next_index += 1;
+    fields->next_offset += count;
+    fields->rest += count;
+    fields->rest_length -= count;
+    return found;
+}
+
+static inline torkettle_status torkettle_parse_i32(const char *text, size_t length, unsigned flags,
+                                                   int32_t *value) TORKETTLE_NOEXCEPT
+{
+    torkettle_found_i32 found = torkettle_of_whole_i32(text, length, flags);
+    if (found.length == 0)
+        return torkettle_refusal(TK_CAST(torkettle_status, found.value));
+    *value = found.value;
+    return TORKETTLE_OK;
+}
+
+TK_INLINE torkettle_status torkettle_parse_prefix_i32(const char *text, size_t length, unsigned flags, int32_t *value,
+                                                      size_t *count) TORKETTLE_NOEXCEPT
+{
+    torkettle_found_i32 found = torkettle_of_prefix_i32(text, length, flags);
+    if (found.length == 0)
+        return torkettle_refusal(TK_CAST(torkettle_status, found.value));
+    *value = found.value;
+    *count = found.length;
+    return TORKETTLE_OK;
+}
+
+static inline bool torkettle_canonical_i32(const char *text, size_t length, int32_t *value) TORKETTLE_NOEXCEPT
+{
+    torkettle_found_i32 found = torkettle_whole_canonical_i32(text, length);
+    if (found.length == 0)
+        return false;
+    *value = found.value;
+    return true;
+}
+
+static inline bool torkettle_json_integer_i32(const char *text, size_t length, int32_t *value,
+                                              size_t *count) TORKETTLE_NOEXCEPT
+{
+    torkettle_found_i32 found = torkettle_prefix_json_i32(text, length);
+    if (found.length == 0)
+        return false;
+    *value = found.value;
+    *count = found.length;
+    return true;
+}
+
+static inline void torkettle_fields_i32_init(torkettle_fields_i32 *fields, const char *text, size_t length,
+                                             char separator) TORKETTLE_NOEXCEPT
+{
+    torkettle_fields_i32 start = {TORKETTLE_OK, 0, 0, NULL, 0, 0, 0, text, 0, separator, 0};
+    start.rest_length = torkettle_rest_length(length, separator);
+    *fields = start;
+}
+
+static inline void torkettle_fields_i32_init_lines(torkettle_fields_i32 *fields, const char *text,
+                                                   size_t length) TORKETTLE_NOEXCEPT
+{
+    torkettle_fields_i32_init(fields, text, length, '\n');
+    fields->is_lines = 1;
+}
+
+static inline void torkettle_fields_i32_starting_at(torkettle_fields_i32 *fields, size_t index,
+                                                    size_t offset) TORKETTLE_NOEXCEPT
+{
+    fields->next_index = index;
+    fields->next_offset = offset;
+}
+
+static inline bool torkettle_fields_i32_next(torkettle_fields_i32 *fields, int32_t *value) TORKETTLE_NOEXCEPT
+{
+    torkettle_found_i32 found = torkettle_next_of_i32(fields);
+    /* The caller also tests the status, so compilers do not warn that the value is not set. */
+    if (fields->status == TORKETTLE_OK && found.length != 0)
+        *value = found.value;
+    return found.length != 0;
+}
+
+static inline void torkettle_column_i32_init(torkettle_column_i32 *column, const char *text, size_t length,
+                                             char separator) TORKETTLE_NOEXCEPT
+{
+    bool is_separator = tk_is_separator(TK_CAST(uint8_t, separator));
+    torkettle_fields_i32_init(&column->fields, text, length, separator);
+    column->status = is_separator ? TORKETTLE_OK : TORKETTLE_INVALID;
+    column->index = column->offset = is_separator ? 0 : SIZE_MAX;
+}
+
+static inline bool torkettle_column_i32_next(torkettle_column_i32 *column, int32_t *value) TORKETTLE_NOEXCEPT
+{
+    torkettle_found_i32 found = torkettle_next_of_i32(&column->fields);
+    if (found.length == 2) {
+        torkettle_fields_i32 bad = column->fields;
+        *column = torkettle_ended_i32(&bad);
+    }
+    if (found.length != 1)
+        return false;
+    *value = found.value;
+    return true;
+}
+typedef struct torkettle_found_u32 {
+    uint32_t value;
+    size_t length;
+} torkettle_found_u32;
+
+typedef struct torkettle_fields_u32 {
+    torkettle_status status;
+    size_t index, offset;
+    const char *text;
+    size_t length, next_index, next_offset;
+    const char *rest;
+    size_t rest_length;
+    char separator, is_lines;
+} torkettle_fields_u32;
+
+typedef struct torkettle_column_u32 {
+    torkettle_status status;
+    size_t index, offset;
+    torkettle_fields_u32 fields;
+} torkettle_column_u32;
+
+torkettle_found_u32 torkettle_whole_u32(const char *text, size_t length, unsigned flags)
+    TORKETTLE_SYMBOL_(whole_u32);
+torkettle_found_u32 torkettle_prefix_u32(const char *text, size_t length, unsigned flags)
+    TORKETTLE_SYMBOL_(prefix_u32);
+torkettle_found_u32 torkettle_whole_canonical_u32(const char *text, size_t length)
+    TORKETTLE_SYMBOL_(whole_canonical_u32);
+torkettle_found_u32 torkettle_prefix_json_u32(const char *text, size_t length) TORKETTLE_SYMBOL_(prefix_json_u32);
+torkettle_found_u32 torkettle_next_u32(torkettle_fields_u32 *fields) TORKETTLE_SYMBOL_(next_u32);
+torkettle_column_u32 torkettle_ended_u32(const torkettle_fields_u32 *fields) TORKETTLE_SYMBOL_(ended_u32);
+torkettle_status torkettle_parse_pos_u32(const char *text, size_t length, unsigned flags, uint32_t *value)
+    TORKETTLE_SYMBOL_(parse_pos_u32);
+torkettle_status torkettle_parse_prefix_pos_u32(const char *text, size_t length, unsigned flags, uint32_t *value,
+                                                size_t *count) TORKETTLE_SYMBOL_(parse_prefix_pos_u32);
+torkettle_error torkettle_parse_error_u32(const char *text, size_t length, unsigned flags)
+    TORKETTLE_SYMBOL_(parse_error_u32);
+torkettle_error torkettle_parse_prefix_error_u32(const char *text, size_t length, unsigned flags)
+    TORKETTLE_SYMBOL_(parse_prefix_error_u32);
+size_t torkettle_column_u32_read(torkettle_column_u32 *column, uint32_t *values, size_t count)
+    TORKETTLE_SYMBOL_(column_u32_read);
+size_t torkettle_fields_u32_read(torkettle_fields_u32 *fields, uint32_t *values, size_t count)
+    TORKETTLE_SYMBOL_(fields_u32_read);
+
+TK_INLINE torkettle_found_u32 torkettle_of_whole_u32(const char *text, size_t length, unsigned flags)
+{
+    tk_option_u8 digit = tk_one_digit(tk_text(text, length));
+    torkettle_found_u32 found = {TK_CAST(uint32_t, digit.value), 1};
+    if (digit.is_some)
+        return found;
+    return torkettle_whole_u32(text, length, flags);
+}
+
+TK_INLINE torkettle_found_u32 torkettle_of_prefix_u32(const char *text, size_t length, unsigned flags)
+{
+    tk_option_pair_u64_size number = tk_quick_prefix_u32_u64(tk_text(text, length));
+    torkettle_found_u32 found = {TK_CAST(uint32_t, number.value.first), number.value.second};
+    return number.is_some ? found : torkettle_prefix_u32(text, length, flags);
+}
+
+/* Reads the next field, by a call unless `tk_quick_field` finds a number. The call gets a copy, so that compilers can
+   keep the fields of a loop in registers. */
+TK_INLINE torkettle_found_u32 torkettle_next_of_u32(torkettle_fields_u32 *fields)
+{
+    tk_bytes rest = tk_text(fields->rest, fields->rest_length);
+    tk_option_pair_u64_size number = tk_quick_field_u32_u64(rest, TK_CAST(uint8_t, fields->separator));
+    torkettle_found_u32 found = {TK_CAST(uint32_t, number.value.first), 1};
+    size_t count = number.value.second + 1;
+    if (!number.is_some) {
+        torkettle_fields_u32 copy = *fields;
+        found = torkettle_next_u32(&copy);
+        *fields = copy;
+        return found;
+    }
+    fields->status = TORKETTLE_OK;
+    fields->next_index += 1;
+    fields->next_offset += count;
+    fields->rest += count;
+    fields->rest_length -= count;
+    return found;
+}
+
+static inline torkettle_status torkettle_parse_u32(const char *text, size_t length, unsigned flags,
+                                                   uint32_t *value) TORKETTLE_NOEXCEPT
+{
+    torkettle_found_u32 found = torkettle_of_whole_u32(text, length, flags);
+    if (found.length == 0)
+        return torkettle_refusal(TK_CAST(torkettle_status, found.value));
+    *value = found.value;
+    return TORKETTLE_OK;
+}
+
+TK_INLINE torkettle_status torkettle_parse_prefix_u32(const char *text, size_t length, unsigned flags, uint32_t *value,
+                                                      size_t *count) TORKETTLE_NOEXCEPT
+{
+    torkettle_found_u32 found = torkettle_of_prefix_u32(text, length, flags);
+    if (found.length == 0)
+        return torkettle_refusal(TK_CAST(torkettle_status, found.value));
+    *value = found.value;
+    *count = found.length;
+    return TORKETTLE_OK;
+}
+
+static inline bool torkettle_canonical_u32(const char *text, size_t length, uint32_t *value) TORKETTLE_NOEXCEPT
+{
+    torkettle_found_u32 found = torkettle_whole_canonical_u32(text, length);
+    if (found.length == 0)
+        return false;
+    *value = found.value;
+    return true;
+}
+
+static inline bool torkettle_json_integer_u32(const char *text, size_t length, uint32_t *value,
+                                              size_t *count) TORKETTLE_NOEXCEPT
+{
+    torkettle_found_u32 found = torkettle_prefix_json_u32(text, length);
+    if (found.length == 0)
+        return false;
+    *value = found.value;
+    *count = found.length;
+    return true;
+}
+
+static inline void torkettle_fields_u32_init(torkettle_fields_u32 *fields, const char *text, size_t length,
+                                             char separator) TORKETTLE_NOEXCEPT
+{
+    torkettle_fields_u32 start = {TORKETTLE_OK, 0, 0, NULL, 0, 0, 0, text, 0, separator, 0};
+    start.rest_length = torkettle_rest_length(length, separator);
+    *fields = start;
+}
+
+static inline void torkettle_fields_u32_init_lines(torkettle_fields_u32 *fields, const char *text,
+                                                   size_t length) TORKETTLE_NOEXCEPT
+{
+    torkettle_fields_u32_init(fields, text, length, '\n');
+    fields->is_lines = 1;
+}
+
+static inline void torkettle_fields_u32_starting_at(torkettle_fields_u32 *fields, size_t index,
+                                                    size_t offset) TORKETTLE_NOEXCEPT
+{
+    fields->next_index = index;
+    fields->next_offset = offset;
+}
+
+static inline bool torkettle_fields_u32_next(torkettle_fields_u32 *fields, uint32_t *value) TORKETTLE_NOEXCEPT
+{
+    torkettle_found_u32 found = torkettle_next_of_u32(fields);
+    /* The caller also tests the status, so compilers do not warn that the value is not set. */
+    if (fields->status == TORKETTLE_OK && found.length != 0)
+        *value = found.value;
+    return found.length != 0;
+}
+
+static inline void torkettle_column_u32_init(torkettle_column_u32 *column, const char *text, size_t length,
+                                             char separator) TORKETTLE_NOEXCEPT
+{
+    bool is_separator = tk_is_separator(TK_CAST(uint8_t, separator));
+    torkettle_fields_u32_init(&column->fields, text, length, separator);
+    column->status = is_separator ? TORKETTLE_OK : TORKETTLE_INVALID;
+    column->index = column->offset = is_separator ? 0 : SIZE_MAX;
+}
+
+static inline bool torkettle_column_u32_next(torkettle_column_u32 *column, uint32_t *value) TORKETTLE_NOEXCEPT
+{
+    torkettle_found_u32 found = torkettle_next_of_u32(&column->fields);
+    if (found.length == 2) {
+        torkettle_fields_u32 bad = column->fields;
+        *column = torkettle_ended_u32(&bad);
+    }
+    if (found.length != 1)
+        return false;
+    *value = found.value;
+    return true;
+}
+typedef struct torkettle_found_i64 {
+    int64_t value;
+    size_t length;
+} torkettle_found_i64;
+
+typedef struct torkettle_fields_i64 {
+    torkettle_status status;
+    size_t index, offset;
+    const char *text;
+    size_t length, next_index, next_offset;
+    const char *rest;
+    size_t rest_length;
+    char separator, is_lines;
+} torkettle_fields_i64;
+
+typedef struct torkettle_column_i64 {
+    torkettle_status status;
+    size_t index, offset;
+    torkettle_fields_i64 fields;
+} torkettle_column_i64;
+
+torkettle_found_i64 torkettle_whole_i64(const char *text, size_t length, unsigned flags)
+    TORKETTLE_SYMBOL_(whole_i64);
+torkettle_found_i64 torkettle_prefix_i64(const char *text, size_t length, unsigned flags)
+    TORKETTLE_SYMBOL_(prefix_i64);
+torkettle_found_i64 torkettle_whole_canonical_i64(const char *text, size_t length)
+    TORKETTLE_SYMBOL_(whole_canonical_i64);
+torkettle_found_i64 torkettle_prefix_json_i64(const char *text, size_t length) TORKETTLE_SYMBOL_(prefix_json_i64);
+torkettle_found_i64 torkettle_next_i64(torkettle_fields_i64 *fields) TORKETTLE_SYMBOL_(next_i64);
+torkettle_column_i64 torkettle_ended_i64(const torkettle_fields_i64 *fields) TORKETTLE_SYMBOL_(ended_i64);
+torkettle_status torkettle_parse_pos_i64(const char *text, size_t length, unsigned flags, int64_t *value)
+    TORKETTLE_SYMBOL_(parse_pos_i64);
+torkettle_status torkettle_parse_prefix_pos_i64(const char *text, size_t length, unsigned flags, int64_t *value,
+                                                size_t *count) TORKETTLE_SYMBOL_(parse_prefix_pos_i64);
+torkettle_error torkettle_parse_error_i64(const char *text, size_t length, unsigned flags)
+    TORKETTLE_SYMBOL_(parse_error_i64);
+torkettle_error torkettle_parse_prefix_error_i64(const char *text, size_t length, unsigned flags)
+    TORKETTLE_SYMBOL_(parse_prefix_error_i64);
+size_t torkettle_column_i64_read(torkettle_column_i64 *column, int64_t *values, size_t count)
+    TORKETTLE_SYMBOL_(column_i64_read);
+size_t torkettle_fields_i64_read(torkettle_fields_i64 *fields, int64_t *values, size_t count)
+    TORKETTLE_SYMBOL_(fields_i64_read);
+
+TK_INLINE torkettle_found_i64 torkettle_of_whole_i64(const char *text, size_t length, unsigned flags)
+{
+    tk_option_u8 digit = tk_one_digit(tk_text(text, length));
+    torkettle_found_i64 found = {TK_CAST(int64_t, digit.value), 1};
+    if (digit.is_some)
+        return found;
+    return torkettle_whole_i64(text, length, flags);
+}
+
+TK_INLINE torkettle_found_i64 torkettle_of_prefix_i64(const char *text, size_t length, unsigned flags)
+{
+    tk_option_pair_i64_size number = tk_quick_prefix_i64_i64(tk_text(text, length));
+    torkettle_found_i64 found = {TK_CAST(int64_t, number.value.first), number.value.second};
+    return number.is_some ? found : torkettle_prefix_i64(text, length, flags);
+}
+
+/* Reads the next field, by a call unless `tk_quick_field` finds a number. The call gets a copy, so that compilers can
+   keep the fields of a loop in registers. */
+TK_INLINE torkettle_found_i64 torkettle_next_of_i64(torkettle_fields_i64 *fields)
+{
+    tk_bytes rest = tk_text(fields->rest, fields->rest_length);
+    tk_option_pair_i64_size number = tk_quick_field_i64_i64(rest, TK_CAST(uint8_t, fields->separator));
+    torkettle_found_i64 found = {TK_CAST(int64_t, number.value.first), 1};
+    size_t count = number.value.second + 1;
+    if (!number.is_some) {
+        torkettle_fields_i64 copy = *fields;
+        found = torkettle_next_i64(&copy);
+        *fields = copy;
+        return found;
+    }
+    fields->status = TORKETTLE_OK;
+    fields->next_index += 1;
+    fields->next_offset += count;
+    fields->rest += count;
+    fields->rest_length -= count;
+    return found;
+}
+
+static inline torkettle_status torkettle_parse_i64(const char *text, size_t length, unsigned flags,
+                                                   int64_t *value) TORKETTLE_NOEXCEPT
+{
+    torkettle_found_i64 found = torkettle_of_whole_i64(text, length, flags);
+    if (found.length == 0)
+        return torkettle_refusal(TK_CAST(torkettle_status, found.value));
+    *value = found.value;
+    return TORKETTLE_OK;
+}
+
+TK_INLINE torkettle_status torkettle_parse_prefix_i64(const char *text, size_t length, unsigned flags, int64_t *value,
+                                                      size_t *count) TORKETTLE_NOEXCEPT
+{
+    torkettle_found_i64 found = torkettle_of_prefix_i64(text, length, flags);
+    if (found.length == 0)
+        return torkettle_refusal(TK_CAST(torkettle_status, found.value));
+    *value = found.value;
+    *count = found.length;
+    return TORKETTLE_OK;
+}
+
+static inline bool torkettle_canonical_i64(const char *text, size_t length, int64_t *value) TORKETTLE_NOEXCEPT
+{
+    torkettle_found_i64 found = torkettle_whole_canonical_i64(text, length);
+    if (found.length == 0)
+        return false;
+    *value = found.value;
+    return true;
+}
+
+static inline bool torkettle_json_integer_i64(const char *text, size_t length, int64_t *value,
+                                              size_t *count) TORKETTLE_NOEXCEPT
+{
+    torkettle_found_i64 found = torkettle_prefix_json_i64(text, length);
+    if (found.length == 0)
+        return false;
+    *value = found.value;
+    *count = found.length;
+    return true;
+}
+
+static inline void torkettle_fields_i64_init(torkettle_fields_i64 *fields, const char *text, size_t length,
+                                             char separator) TORKETTLE_NOEXCEPT
+{
+    torkettle_fields_i64 start = {TORKETTLE_OK, 0, 0, NULL, 0, 0, 0, text, 0, separator, 0};
+    start.rest_length = torkettle_rest_length(length, separator);
+    *fields = start;
+}
+
+static inline void torkettle_fields_i64_init_lines(torkettle_fields_i64 *fields, const char *text,
+                                                   size_t length) TORKETTLE_NOEXCEPT
+{
+    torkettle_fields_i64_init(fields, text, length, '\n');
+    fields->is_lines = 1;
+}
+
+static inline void torkettle_fields_i64_starting_at(torkettle_fields_i64 *fields, size_t index,
+                                                    size_t offset) TORKETTLE_NOEXCEPT
+{
+    fields->next_index = index;
+    fields->next_offset = offset;
+}
+
+static inline bool torkettle_fields_i64_next(torkettle_fields_i64 *fields, int64_t *value) TORKETTLE_NOEXCEPT
+{
+    torkettle_found_i64 found = torkettle_next_of_i64(fields);
+    /* The caller also tests the status, so compilers do not warn that the value is not set. */
+    if (fields->status == TORKETTLE_OK && found.length != 0)
+        *value = found.value;
+    return found.length != 0;
+}
+
+static inline void torkettle_column_i64_init(torkettle_column_i64 *column, const char *text, size_t length,
+                                             char separator) TORKETTLE_NOEXCEPT
+{
+    bool is_separator = tk_is_separator(TK_CAST(uint8_t, separator));
+    torkettle_fields_i64_init(&column->fields, text, length, separator);
+    column->status = is_separator ? TORKETTLE_OK : TORKETTLE_INVALID;
+    column->index = column->offset = is_separator ? 0 : SIZE_MAX;
+}
+
+static inline bool torkettle_column_i64_next(torkettle_column_i64 *column, int64_t *value) TORKETTLE_NOEXCEPT
+{
+    torkettle_found_i64 found = torkettle_next_of_i64(&column->fields);
+    if (found.length == 2) {
+        torkettle_fields_i64 bad = column->fields;
+        *column = torkettle_ended_i64(&bad);
+    }
+    if (found.length != 1)
+        return false;
+    *value = found.value;
+    return true;
+}
+typedef struct torkettle_found_u64 {
+    uint64_t value;
+    size_t length;
+} torkettle_found_u64;
+
+typedef struct torkettle_fields_u64 {
+    torkettle_status status;
+    size_t index, offset;
+    const char *text;
+    size_t length, next_index, next_offset;
+    const char *rest;
+    size_t rest_length;
+    char separator, is_lines;
+} torkettle_fields_u64;
+
+typedef struct torkettle_column_u64 {
+    torkettle_status status;
+    size_t index, offset;
+    torkettle_fields_u64 fields;
+} torkettle_column_u64;
+
+torkettle_found_u64 torkettle_whole_u64(const char *text, size_t length, unsigned flags)
+    TORKETTLE_SYMBOL_(whole_u64);
+torkettle_found_u64 torkettle_prefix_u64(const char *text, size_t length, unsigned flags)
+    TORKETTLE_SYMBOL_(prefix_u64);
+torkettle_found_u64 torkettle_whole_canonical_u64(const char *text, size_t length)
+    TORKETTLE_SYMBOL_(whole_canonical_u64);
+torkettle_found_u64 torkettle_prefix_json_u64(const char *text, size_t length) TORKETTLE_SYMBOL_(prefix_json_u64);
+torkettle_found_u64 torkettle_next_u64(torkettle_fields_u64 *fields) TORKETTLE_SYMBOL_(next_u64);
+torkettle_column_u64 torkettle_ended_u64(const torkettle_fields_u64 *fields) TORKETTLE_SYMBOL_(ended_u64);
+torkettle_status torkettle_parse_pos_u64(const char *text, size_t length, unsigned flags, uint64_t *value)
+    TORKETTLE_SYMBOL_(parse_pos_u64);
+torkettle_status torkettle_parse_prefix_pos_u64(const char *text, size_t length, unsigned flags, uint64_t *value,
+                                                size_t *count) TORKETTLE_SYMBOL_(parse_prefix_pos_u64);
+torkettle_error torkettle_parse_error_u64(const char *text, size_t length, unsigned flags)
+    TORKETTLE_SYMBOL_(parse_error_u64);
+torkettle_error torkettle_parse_prefix_error_u64(const char *text, size_t length, unsigned flags)
+    TORKETTLE_SYMBOL_(parse_prefix_error_u64);
+size_t torkettle_column_u64_read(torkettle_column_u64 *column, uint64_t *values, size_t count)
+    TORKETTLE_SYMBOL_(column_u64_read);
+size_t torkettle_fields_u64_read(torkettle_fields_u64 *fields, uint64_t *values, size_t count)
+    TORKETTLE_SYMBOL_(fields_u64_read);
+
+TK_INLINE torkettle_found_u64 torkettle_of_whole_u64(const char *text, size_t length, unsigned flags)
+{
+    tk_option_u8 digit = tk_one_digit(tk_text(text, length));
+    torkettle_found_u64 found = {TK_CAST(uint64_t, digit.value), 1};
+    if (digit.is_some)
+        return found;
+    return torkettle_whole_u64(text, length, flags);
+}
+
+TK_INLINE torkettle_found_u64 torkettle_of_prefix_u64(const char *text, size_t length, unsigned flags)
+{
+    tk_option_pair_u64_size number = tk_quick_prefix_u64_u64(tk_text(text, length));
+    torkettle_found_u64 found = {TK_CAST(uint64_t, number.value.first), number.value.second};
+    return number.is_some ? found : torkettle_prefix_u64(text, length, flags);
+}
+
+/* Reads the next field, by a call unless `tk_quick_field` finds a number. The call gets a copy, so that compilers can
+   keep the fields of a loop in registers. */
+TK_INLINE torkettle_found_u64 torkettle_next_of_u64(torkettle_fields_u64 *fields)
+{
+    tk_bytes rest = tk_text(fields->rest, fields->rest_length);
+    tk_option_pair_u64_size number = tk_quick_field_u64_u64(rest, TK_CAST(uint8_t, fields->separator));
+    torkettle_found_u64 found = {TK_CAST(uint64_t, number.value.first), 1};
+    size_t count = number.value.second + 1;
+    if (!number.is_some) {
+        torkettle_fields_u64 copy = *fields;
+        found = torkettle_next_u64(&copy);
+        *fields = copy;
+        return found;
+    }
+    fields->status = TORKETTLE_OK;
+    fields->next_index += 1;
+    fields->next_offset += count;
+    fields->rest += count;
+    fields->rest_length -= count;
+    return found;
+}
+
+static inline torkettle_status torkettle_parse_u64(const char *text, size_t length, unsigned flags,
+                                                   uint64_t *value) TORKETTLE_NOEXCEPT
+{
+    torkettle_found_u64 found = torkettle_of_whole_u64(text, length, flags);
+    if (found.length == 0)
+        return torkettle_refusal(TK_CAST(torkettle_status, found.value));
+    *value = found.value;
+    return TORKETTLE_OK;
+}
+
+TK_INLINE torkettle_status torkettle_parse_prefix_u64(const char *text, size_t length, unsigned flags, uint64_t *value,
+                                                      size_t *count) TORKETTLE_NOEXCEPT
+{
+    torkettle_found_u64 found = torkettle_of_prefix_u64(text, length, flags);
+    if (found.length == 0)
+        return torkettle_refusal(TK_CAST(torkettle_status, found.value));
+    *value = found.value;
+    *count = found.length;
+    return TORKETTLE_OK;
+}
+
+static inline bool torkettle_canonical_u64(const char *text, size_t length, uint64_t *value) TORKETTLE_NOEXCEPT
+{
+    torkettle_found_u64 found = torkettle_whole_canonical_u64(text, length);
+    if (found.length == 0)
+        return false;
+    *value = found.value;
+    return true;
+}
+
+static inline bool torkettle_json_integer_u64(const char *text, size_t length, uint64_t *value,
+                                              size_t *count) TORKETTLE_NOEXCEPT
+{
+    torkettle_found_u64 found = torkettle_prefix_json_u64(text, length);
+    if (found.length == 0)
+        return false;
+    *value = found.value;
+    *count = found.length;
+    return true;
+}
+
+static inline void torkettle_fields_u64_init(torkettle_fields_u64 *fields, const char *text, size_t length,
+                                             char separator) TORKETTLE_NOEXCEPT
+{
+    torkettle_fields_u64 start = {TORKETTLE_OK, 0, 0, NULL, 0, 0, 0, text, 0, separator, 0};
+    start.rest_length = torkettle_rest_length(length, separator);
+    *fields = start;
+}
+
+static inline void torkettle_fields_u64_init_lines(torkettle_fields_u64 *fields, const char *text,
+                                                   size_t length) TORKETTLE_NOEXCEPT
+{
+    torkettle_fields_u64_init(fields, text, length, '\n');
+    fields->is_lines = 1;
+}
+
+static inline void torkettle_fields_u64_starting_at(torkettle_fields_u64 *fields, size_t index,
+                                                    size_t offset) TORKETTLE_NOEXCEPT
+{
+    fields->next_index = index;
+    fields->next_offset = offset;
+}
+
+static inline bool torkettle_fields_u64_next(torkettle_fields_u64 *fields, uint64_t *value) TORKETTLE_NOEXCEPT
+{
+    torkettle_found_u64 found = torkettle_next_of_u64(fields);
+    /* The caller also tests the status, so compilers do not warn that the value is not set. */
+    if (fields->status == TORKETTLE_OK && found.length != 0)
+        *value = found.value;
+    return found.length != 0;
+}
+
+static inline void torkettle_column_u64_init(torkettle_column_u64 *column, const char *text, size_t length,
+                                             char separator) TORKETTLE_NOEXCEPT
+{
+    bool is_separator = tk_is_separator(TK_CAST(uint8_t, separator));
+    torkettle_fields_u64_init(&column->fields, text, length, separator);
+    column->status = is_separator ? TORKETTLE_OK : TORKETTLE_INVALID;
+    column->index = column->offset = is_separator ? 0 : SIZE_MAX;
+}
+
+static inline bool torkettle_column_u64_next(torkettle_column_u64 *column, uint64_t *value) TORKETTLE_NOEXCEPT
+{
+    torkettle_found_u64 found = torkettle_next_of_u64(&column->fields);
+    if (found.length == 2) {
+        torkettle_fields_u64 bad = column->fields;
+        *column = torkettle_ended_u64(&bad);
+    }
+    if (found.length != 1)
+        return false;
+    *value = found.value;
+    return true;
+}
+#if defined __SIZEOF_INT128__ && !defined TORKETTLE_NO_INT128
+typedef struct torkettle_found_i128 {
+    torkettle_i128 value;
+    size_t length;
+} torkettle_found_i128;
+
+typedef struct torkettle_fields_i128 {
+    torkettle_status status;
+    size_t index, offset;
+    const char *text;
+    size_t length, next_index, next_offset;
+    const char *rest;
+    size_t rest_length;
+    char separator, is_lines;
+} torkettle_fields_i128;
+
+typedef struct torkettle_column_i128 {
+    torkettle_status status;
+    size_t index, offset;
+    torkettle_fields_i128 fields;
+} torkettle_column_i128;
+
+torkettle_found_i128 torkettle_whole_i128(const char *text, size_t length, unsigned flags)
+    TORKETTLE_SYMBOL_(whole_i128);
+torkettle_found_i128 torkettle_prefix_i128(const char *text, size_t length, unsigned flags)
+    TORKETTLE_SYMBOL_(prefix_i128);
+torkettle_found_i128 torkettle_whole_canonical_i128(const char *text, size_t length)
+    TORKETTLE_SYMBOL_(whole_canonical_i128);
+torkettle_found_i128 torkettle_prefix_json_i128(const char *text, size_t length) TORKETTLE_SYMBOL_(prefix_json_i128);
+torkettle_found_i128 torkettle_next_i128(torkettle_fields_i128 *fields) TORKETTLE_SYMBOL_(next_i128);
+torkettle_column_i128 torkettle_ended_i128(const torkettle_fields_i128 *fields) TORKETTLE_SYMBOL_(ended_i128);
+torkettle_status torkettle_parse_pos_i128(const char *text, size_t length, unsigned flags, torkettle_i128 *value)
+    TORKETTLE_SYMBOL_(parse_pos_i128);
+torkettle_status torkettle_parse_prefix_pos_i128(const char *text, size_t length, unsigned flags, torkettle_i128 *value,
+                                                 size_t *count) TORKETTLE_SYMBOL_(parse_prefix_pos_i128);
+torkettle_error torkettle_parse_error_i128(const char *text, size_t length, unsigned flags)
+    TORKETTLE_SYMBOL_(parse_error_i128);
+torkettle_error torkettle_parse_prefix_error_i128(const char *text, size_t length, unsigned flags)
+    TORKETTLE_SYMBOL_(parse_prefix_error_i128);
+size_t torkettle_column_i128_read(torkettle_column_i128 *column, torkettle_i128 *values, size_t count)
+    TORKETTLE_SYMBOL_(column_i128_read);
+size_t torkettle_fields_i128_read(torkettle_fields_i128 *fields, torkettle_i128 *values, size_t count)
+    TORKETTLE_SYMBOL_(fields_i128_read);
+
+TK_INLINE torkettle_found_i128 torkettle_of_whole_i128(const char *text, size_t length, unsigned flags)
+{
+    tk_option_u8 digit = tk_one_digit(tk_text(text, length));
+    torkettle_found_i128 found = {TK_CAST(torkettle_i128, digit.value), 1};
+    if (digit.is_some)
+        return found;
+    return torkettle_whole_i128(text, length, flags);
+}
+
+TK_INLINE torkettle_found_i128 torkettle_of_prefix_i128(const char *text, size_t length, unsigned flags)
+{
+    tk_option_pair_i64_size number = tk_quick_prefix_i128_i64(tk_text(text, length));
+    torkettle_found_i128 found = {TK_CAST(torkettle_i128, number.value.first), number.value.second};
+    return number.is_some ? found : torkettle_prefix_i128(text, length, flags);
+}
+
+/* Reads the next field, by a call unless `tk_quick_field` finds a number. The call gets a copy, so that compilers can
+   keep the fields of a loop in registers. */
+TK_INLINE torkettle_found_i128 torkettle_next_of_i128(torkettle_fields_i128 *fields)
+{
+    tk_bytes rest = tk_text(fields->rest, fields->rest_length);
+    tk_option_pair_i64_size number = tk_quick_field_i128_i64(rest, TK_CAST(uint8_t, fields->separator));
+    torkettle_found_i128 found = {TK_CAST(torkettle_i128, number.value.first), 1};
+    size_t count = number.value.second + 1;
+    if (!number.is_some) {
+        torkettle_fields_i128 copy = *fields;
+        found = torkettle_next_i128(&copy);
+        *fields = copy;
+        return found;
+    }
+    fields->status = TORKETTLE_OK;
+    fields->next_index += 1;
+    fields->next_offset += count;
+    fields->rest += count;
+    fields->rest_length -= count;
+    return found;
+}
+
+static inline torkettle_status torkettle_parse_i128(const char *text, size_t length, unsigned flags,
+                                                    torkettle_i128 *value) TORKETTLE_NOEXCEPT
+{
+    torkettle_found_i128 found = torkettle_of_whole_i128(text, length, flags);
+    if (found.length == 0)
+        return torkettle_refusal(TK_CAST(torkettle_status, found.value));
+    *value = found.value;
+    return TORKETTLE_OK;
+}
+
+TK_INLINE torkettle_status torkettle_parse_prefix_i128(const char *text, size_t length, unsigned flags,
+                                                       torkettle_i128 *value, size_t *count) TORKETTLE_NOEXCEPT
+{
+    torkettle_found_i128 found = torkettle_of_prefix_i128(text, length, flags);
+    if (found.length == 0)
+        return torkettle_refusal(TK_CAST(torkettle_status, found.value));
+    *value = found.value;
+    *count = found.length;
+    return TORKETTLE_OK;
+}
+
+static inline bool torkettle_canonical_i128(const char *text, size_t length, torkettle_i128 *value) TORKETTLE_NOEXCEPT
+{
+    torkettle_found_i128 found = torkettle_whole_canonical_i128(text, length);
+    if (found.length == 0)
+        return false;
+    *value = found.value;
+    return true;
+}
+
+static inline bool torkettle_json_integer_i128(const char *text, size_t length, torkettle_i128 *value,
+                                               size_t *count) TORKETTLE_NOEXCEPT
+{
+    torkettle_found_i128 found = torkettle_prefix_json_i128(text, length);
+    if (found.length == 0)
+        return false;
+    *value = found.value;
+    *count = found.length;
+    return true;
+}
+
+static inline void torkettle_fields_i128_init(torkettle_fields_i128 *fields, const char *text, size_t length,
+                                              char separator) TORKETTLE_NOEXCEPT
+{
+    torkettle_fields_i128 start = {TORKETTLE_OK, 0, 0, NULL, 0, 0, 0, text, 0, separator, 0};
+    start.rest_length = torkettle_rest_length(length, separator);
+    *fields = start;
+}
+
+static inline void torkettle_fields_i128_init_lines(torkettle_fields_i128 *fields, const char *text,
+                                                    size_t length) TORKETTLE_NOEXCEPT
+{
+    torkettle_fields_i128_init(fields, text, length, '\n');
+    fields->is_lines = 1;
+}
+
+static inline void torkettle_fields_i128_starting_at(torkettle_fields_i128 *fields, size_t index,
+                                                     size_t offset) TORKETTLE_NOEXCEPT
+{
+    fields->next_index = index;
+    fields->next_offset = offset;
+}
+
+static inline bool torkettle_fields_i128_next(torkettle_fields_i128 *fields, torkettle_i128 *value) TORKETTLE_NOEXCEPT
+{
+    torkettle_found_i128 found = torkettle_next_of_i128(fields);
+    /* The caller also tests the status, so compilers do not warn that the value is not set. */
+    if (fields->status == TORKETTLE_OK && found.length != 0)
+        *value = found.value;
+    return found.length != 0;
+}
+
+static inline void torkettle_column_i128_init(torkettle_column_i128 *column, const char *text, size_t length,
+                                              char separator) TORKETTLE_NOEXCEPT
+{
+    bool is_separator = tk_is_separator(TK_CAST(uint8_t, separator));
+    torkettle_fields_i128_init(&column->fields, text, length, separator);
+    column->status = is_separator ? TORKETTLE_OK : TORKETTLE_INVALID;
+    column->index = column->offset = is_separator ? 0 : SIZE_MAX;
+}
+
+static inline bool torkettle_column_i128_next(torkettle_column_i128 *column, torkettle_i128 *value) TORKETTLE_NOEXCEPT
+{
+    torkettle_found_i128 found = torkettle_next_of_i128(&column->fields);
+    if (found.length == 2) {
+        torkettle_fields_i128 bad = column->fields;
+        *column = torkettle_ended_i128(&bad);
+    }
+    if (found.length != 1)
+        return false;
+    *value = found.value;
+    return true;
+}
+typedef struct torkettle_found_u128 {
+    torkettle_u128 value;
+    size_t length;
+} torkettle_found_u128;
+
+typedef struct torkettle_fields_u128 {
+    torkettle_status status;
+    size_t index, offset;
+    const char *text;
+    size_t length, next_index, next_offset;
+    const char *rest;
+    size_t rest_length;
+    char separator, is_lines;
+} torkettle_fields_u128;
+
+typedef struct torkettle_column_u128 {
+    torkettle_status status;
+    size_t index, offset;
+    torkettle_fields_u128 fields;
+} torkettle_column_u128;
+
+torkettle_found_u128 torkettle_whole_u128(const char *text, size_t length, unsigned flags)
+    TORKETTLE_SYMBOL_(whole_u128);
+torkettle_found_u128 torkettle_prefix_u128(const char *text, size_t length, unsigned flags)
+    TORKETTLE_SYMBOL_(prefix_u128);
+torkettle_found_u128 torkettle_whole_canonical_u128(const char *text, size_t length)
+    TORKETTLE_SYMBOL_(whole_canonical_u128);
+torkettle_found_u128 torkettle_prefix_json_u128(const char *text, size_t length) TORKETTLE_SYMBOL_(prefix_json_u128);
+torkettle_found_u128 torkettle_next_u128(torkettle_fields_u128 *fields) TORKETTLE_SYMBOL_(next_u128);
+torkettle_column_u128 torkettle_ended_u128(const torkettle_fields_u128 *fields) TORKETTLE_SYMBOL_(ended_u128);
+torkettle_status torkettle_parse_pos_u128(const char *text, size_t length, unsigned flags, torkettle_u128 *value)
+    TORKETTLE_SYMBOL_(parse_pos_u128);
+torkettle_status torkettle_parse_prefix_pos_u128(const char *text, size_t length, unsigned flags, torkettle_u128 *value,
+                                                 size_t *count) TORKETTLE_SYMBOL_(parse_prefix_pos_u128);
+torkettle_error torkettle_parse_error_u128(const char *text, size_t length, unsigned flags)
+    TORKETTLE_SYMBOL_(parse_error_u128);
+torkettle_error torkettle_parse_prefix_error_u128(const char *text, size_t length, unsigned flags)
+    TORKETTLE_SYMBOL_(parse_prefix_error_u128);
+size_t torkettle_column_u128_read(torkettle_column_u128 *column, torkettle_u128 *values, size_t count)
+    TORKETTLE_SYMBOL_(column_u128_read);
+size_t torkettle_fields_u128_read(torkettle_fields_u128 *fields, torkettle_u128 *values, size_t count)
+    TORKETTLE_SYMBOL_(fields_u128_read);
+
+TK_INLINE torkettle_found_u128 torkettle_of_whole_u128(const char *text, size_t length, unsigned flags)
+{
+    tk_option_u8 digit = tk_one_digit(tk_text(text, length));
+    torkettle_found_u128 found = {TK_CAST(torkettle_u128, digit.value), 1};
+    if (digit.is_some)
+        return found;
+    return torkettle_whole_u128(text, length, flags);
+}
+
+TK_INLINE torkettle_found_u128 torkettle_of_prefix_u128(const char *text, size_t length, unsigned flags)
+{
+    tk_option_pair_u64_size number = tk_quick_prefix_u128_u64(tk_text(text, length));
+    torkettle_found_u128 found = {TK_CAST(torkettle_u128, number.value.first), number.value.second};
+    return number.is_some ? found : torkettle_prefix_u128(text, length, flags);
+}
+
+/* Reads the next field, by a call unless `tk_quick_field` finds a number. The call gets a copy, so that compilers can
+   keep the fields of a loop in registers. */
+TK_INLINE torkettle_found_u128 torkettle_next_of_u128(torkettle_fields_u128 *fields)
+{
+    tk_bytes rest = tk_text(fields->rest, fields->rest_length);
+    tk_option_pair_u64_size number = tk_quick_field_u128_u64(rest, TK_CAST(uint8_t, fields->separator));
+    torkettle_found_u128 found = {TK_CAST(torkettle_u128, number.value.first), 1};
+    size_t count = number.value.second + 1;
+    if (!number.is_some) {
+        torkettle_fields_u128 copy = *fields;
+        found = torkettle_next_u128(&copy);
+        *fields = copy;
+        return found;
+    }
+    fields->status = TORKETTLE_OK;
+    fields->next_index += 1;
+    fields->next_offset += count;
+    fields->rest += count;
+    fields->rest_length -= count;
+    return found;
+}
+
+static inline torkettle_status torkettle_parse_u128(const char *text, size_t length, unsigned flags,
+                                                    torkettle_u128 *value) TORKETTLE_NOEXCEPT
+{
+    torkettle_found_u128 found = torkettle_of_whole_u128(text, length, flags);
+    if (found.length == 0)
+        return torkettle_refusal(TK_CAST(torkettle_status, found.value));
+    *value = found.value;
+    return TORKETTLE_OK;
+}
+
+TK_INLINE torkettle_status torkettle_parse_prefix_u128(const char *text, size_t length, unsigned flags,
+                                                       torkettle_u128 *value, size_t *count) TORKETTLE_NOEXCEPT
+{
+    torkettle_found_u128 found = torkettle_of_prefix_u128(text, length, flags);
+    if (found.length == 0)
+        return torkettle_refusal(TK_CAST(torkettle_status, found.value));
+    *value = found.value;
+    *count = found.length;
+    return TORKETTLE_OK;
+}
+
+static inline bool torkettle_canonical_u128(const char *text, size_t length, torkettle_u128 *value) TORKETTLE_NOEXCEPT
+{
+    torkettle_found_u128 found = torkettle_whole_canonical_u128(text, length);
+    if (found.length == 0)
+        return false;
+    *value = found.value;
+    return true;
+}
+
+static inline bool torkettle_json_integer_u128(const char *text, size_t length, torkettle_u128 *value,
+                                               size_t *count) TORKETTLE_NOEXCEPT
+{
+    torkettle_found_u128 found = torkettle_prefix_json_u128(text, length);
+    if (found.length == 0)
+        return false;
+    *value = found.value;
+    *count = found.length;
+    return true;
+}
+
+static inline void torkettle_fields_u128_init(torkettle_fields_u128 *fields, const char *text, size_t length,
+                                              char separator) TORKETTLE_NOEXCEPT
+{
+    torkettle_fields_u128 start = {TORKETTLE_OK, 0, 0, NULL, 0, 0, 0, text, 0, separator, 0};
+    start.rest_length = torkettle_rest_length(length, separator);
+    *fields = start;
+}
+
+static inline void torkettle_fields_u128_init_lines(torkettle_fields_u128 *fields, const char *text,
+                                                    size_t length) TORKETTLE_NOEXCEPT
+{
+    torkettle_fields_u128_init(fields, text, length, '\n');
+    fields->is_lines = 1;
+}
+
+static inline void torkettle_fields_u128_starting_at(torkettle_fields_u128 *fields, size_t index,
+                                                     size_t offset) TORKETTLE_NOEXCEPT
+{
+    fields->next_index = index;
+    fields->next_offset = offset;
+}
+
+static inline bool torkettle_fields_u128_next(torkettle_fields_u128 *fields, torkettle_u128 *value) TORKETTLE_NOEXCEPT
+{
+    torkettle_found_u128 found = torkettle_next_of_u128(fields);
+    /* The caller also tests the status, so compilers do not warn that the value is not set. */
+    if (fields->status == TORKETTLE_OK && found.length != 0)
+        *value = found.value;
+    return found.length != 0;
+}
+
+static inline void torkettle_column_u128_init(torkettle_column_u128 *column, const char *text, size_t length,
+                                              char separator) TORKETTLE_NOEXCEPT
+{
+    bool is_separator = tk_is_separator(TK_CAST(uint8_t, separator));
+    torkettle_fields_u128_init(&column->fields, text, length, separator);
+    column->status = is_separator ? TORKETTLE_OK : TORKETTLE_INVALID;
+    column->index = column->offset = is_separator ? 0 : SIZE_MAX;
+}
+
+static inline bool torkettle_column_u128_next(torkettle_column_u128 *column, torkettle_u128 *value) TORKETTLE_NOEXCEPT
+{
+    torkettle_found_u128 found = torkettle_next_of_u128(&column->fields);
+    if (found.length == 2) {
+        torkettle_fields_u128 bad = column->fields;
+        *column = torkettle_ended_u128(&bad);
+    }
+    if (found.length != 1)
+        return false;
+    *value = found.value;
+    return true;
+}
+#endif
 
 #if ULONG_MAX == UINT64_MAX
-TORKETTLE_PARSES_(_l, long, _i64)
-TORKETTLE_PARSES_(_ul, unsigned long, _u64)
+static inline torkettle_status torkettle_parse_l(const char *text, size_t length, unsigned flags,
+                                                 long *value) TORKETTLE_NOEXCEPT
+{
+    torkettle_found_i64 found = torkettle_of_whole_i64(text, length, flags);
+    if (found.length == 0)
+        return torkettle_refusal(TK_CAST(torkettle_status, found.value));
+    *value = found.value;
+    return TORKETTLE_OK;
+}
+
+TK_INLINE torkettle_status torkettle_parse_prefix_l(const char *text, size_t length, unsigned flags, long *value,
+                                                    size_t *count) TORKETTLE_NOEXCEPT
+{
+    torkettle_found_i64 found = torkettle_of_prefix_i64(text, length, flags);
+    if (found.length == 0)
+        return torkettle_refusal(TK_CAST(torkettle_status, found.value));
+    *value = found.value;
+    *count = found.length;
+    return TORKETTLE_OK;
+}
+
+static inline bool torkettle_canonical_l(const char *text, size_t length, long *value) TORKETTLE_NOEXCEPT
+{
+    torkettle_found_i64 found = torkettle_whole_canonical_i64(text, length);
+    if (found.length == 0)
+        return false;
+    *value = found.value;
+    return true;
+}
+
+static inline bool torkettle_json_integer_l(const char *text, size_t length, long *value,
+                                            size_t *count) TORKETTLE_NOEXCEPT
+{
+    torkettle_found_i64 found = torkettle_prefix_json_i64(text, length);
+    if (found.length == 0)
+        return false;
+    *value = found.value;
+    *count = found.length;
+    return true;
+}
+static inline torkettle_status torkettle_parse_ul(const char *text, size_t length, unsigned flags,
+                                                  unsigned long *value) TORKETTLE_NOEXCEPT
+{
+    torkettle_found_u64 found = torkettle_of_whole_u64(text, length, flags);
+    if (found.length == 0)
+        return torkettle_refusal(TK_CAST(torkettle_status, found.value));
+    *value = found.value;
+    return TORKETTLE_OK;
+}
+
+TK_INLINE torkettle_status torkettle_parse_prefix_ul(const char *text, size_t length, unsigned flags,
+                                                     unsigned long *value, size_t *count) TORKETTLE_NOEXCEPT
+{
+    torkettle_found_u64 found = torkettle_of_prefix_u64(text, length, flags);
+    if (found.length == 0)
+        return torkettle_refusal(TK_CAST(torkettle_status, found.value));
+    *value = found.value;
+    *count = found.length;
+    return TORKETTLE_OK;
+}
+
+static inline bool torkettle_canonical_ul(const char *text, size_t length, unsigned long *value) TORKETTLE_NOEXCEPT
+{
+    torkettle_found_u64 found = torkettle_whole_canonical_u64(text, length);
+    if (found.length == 0)
+        return false;
+    *value = found.value;
+    return true;
+}
+
+static inline bool torkettle_json_integer_ul(const char *text, size_t length, unsigned long *value,
+                                             size_t *count) TORKETTLE_NOEXCEPT
+{
+    torkettle_found_u64 found = torkettle_prefix_json_u64(text, length);
+    if (found.length == 0)
+        return false;
+    *value = found.value;
+    *count = found.length;
+    return true;
+}
 #else
-TORKETTLE_PARSES_(_l, long, _i32)
-TORKETTLE_PARSES_(_ul, unsigned long, _u32)
+static inline torkettle_status torkettle_parse_l(const char *text, size_t length, unsigned flags,
+                                                 long *value) TORKETTLE_NOEXCEPT
+{
+    torkettle_found_i32 found = torkettle_of_whole_i32(text, length, flags);
+    if (found.length == 0)
+        return torkettle_refusal(TK_CAST(torkettle_status, found.value));
+    *value = found.value;
+    return TORKETTLE_OK;
+}
+
+TK_INLINE torkettle_status torkettle_parse_prefix_l(const char *text, size_t length, unsigned flags, long *value,
+                                                    size_t *count) TORKETTLE_NOEXCEPT
+{
+    torkettle_found_i32 found = torkettle_of_prefix_i32(text, length, flags);
+    if (found.length == 0)
+        return torkettle_refusal(TK_CAST(torkettle_status, found.value));
+    *value = found.value;
+    *count = found.length;
+    return TORKETTLE_OK;
+}
+
+static inline bool torkettle_canonical_l(const char *text, size_t length, long *value) TORKETTLE_NOEXCEPT
+{
+    torkettle_found_i32 found = torkettle_whole_canonical_i32(text, length);
+    if (found.length == 0)
+        return false;
+    *value = found.value;
+    return true;
+}
+
+static inline bool torkettle_json_integer_l(const char *text, size_t length, long *value,
+                                            size_t *count) TORKETTLE_NOEXCEPT
+{
+    torkettle_found_i32 found = torkettle_prefix_json_i32(text, length);
+    if (found.length == 0)
+        return false;
+    *value = found.value;
+    *count = found.length;
+    return true;
+}
+static inline torkettle_status torkettle_parse_ul(const char *text, size_t length, unsigned flags,
+                                                  unsigned long *value) TORKETTLE_NOEXCEPT
+{
+    torkettle_found_u32 found = torkettle_of_whole_u32(text, length, flags);
+    if (found.length == 0)
+        return torkettle_refusal(TK_CAST(torkettle_status, found.value));
+    *value = found.value;
+    return TORKETTLE_OK;
+}
+
+TK_INLINE torkettle_status torkettle_parse_prefix_ul(const char *text, size_t length, unsigned flags,
+                                                     unsigned long *value, size_t *count) TORKETTLE_NOEXCEPT
+{
+    torkettle_found_u32 found = torkettle_of_prefix_u32(text, length, flags);
+    if (found.length == 0)
+        return torkettle_refusal(TK_CAST(torkettle_status, found.value));
+    *value = found.value;
+    *count = found.length;
+    return TORKETTLE_OK;
+}
+
+static inline bool torkettle_canonical_ul(const char *text, size_t length, unsigned long *value) TORKETTLE_NOEXCEPT
+{
+    torkettle_found_u32 found = torkettle_whole_canonical_u32(text, length);
+    if (found.length == 0)
+        return false;
+    *value = found.value;
+    return true;
+}
+
+static inline bool torkettle_json_integer_ul(const char *text, size_t length, unsigned long *value,
+                                             size_t *count) TORKETTLE_NOEXCEPT
+{
+    torkettle_found_u32 found = torkettle_prefix_json_u32(text, length);
+    if (found.length == 0)
+        return false;
+    *value = found.value;
+    *count = found.length;
+    return true;
+}
 #endif
-TORKETTLE_PARSES_(_ll, long long, _i64)
-TORKETTLE_PARSES_(_ull, unsigned long long, _u64)
+static inline torkettle_status torkettle_parse_ll(const char *text, size_t length, unsigned flags,
+                                                  long long *value) TORKETTLE_NOEXCEPT
+{
+    torkettle_found_i64 found = torkettle_of_whole_i64(text, length, flags);
+    if (found.length == 0)
+        return torkettle_refusal(TK_CAST(torkettle_status, found.value));
+    *value = found.value;
+    return TORKETTLE_OK;
+}
+
+TK_INLINE torkettle_status torkettle_parse_prefix_ll(const char *text, size_t length, unsigned flags, long long *value,
+                                                     size_t *count) TORKETTLE_NOEXCEPT
+{
+    torkettle_found_i64 found = torkettle_of_prefix_i64(text, length, flags);
+    if (found.length == 0)
+        return torkettle_refusal(TK_CAST(torkettle_status, found.value));
+    *value = found.value;
+    *count = found.length;
+    return TORKETTLE_OK;
+}
+
+static inline bool torkettle_canonical_ll(const char *text, size_t length, long long *value) TORKETTLE_NOEXCEPT
+{
+    torkettle_found_i64 found = torkettle_whole_canonical_i64(text, length);
+    if (found.length == 0)
+        return false;
+    *value = found.value;
+    return true;
+}
+
+static inline bool torkettle_json_integer_ll(const char *text, size_t length, long long *value,
+                                             size_t *count) TORKETTLE_NOEXCEPT
+{
+    torkettle_found_i64 found = torkettle_prefix_json_i64(text, length);
+    if (found.length == 0)
+        return false;
+    *value = found.value;
+    *count = found.length;
+    return true;
+}
+static inline torkettle_status torkettle_parse_ull(const char *text, size_t length, unsigned flags,
+                                                   unsigned long long *value) TORKETTLE_NOEXCEPT
+{
+    torkettle_found_u64 found = torkettle_of_whole_u64(text, length, flags);
+    if (found.length == 0)
+        return torkettle_refusal(TK_CAST(torkettle_status, found.value));
+    *value = found.value;
+    return TORKETTLE_OK;
+}
+
+TK_INLINE torkettle_status torkettle_parse_prefix_ull(const char *text, size_t length, unsigned flags,
+                                                      unsigned long long *value, size_t *count) TORKETTLE_NOEXCEPT
+{
+    torkettle_found_u64 found = torkettle_of_prefix_u64(text, length, flags);
+    if (found.length == 0)
+        return torkettle_refusal(TK_CAST(torkettle_status, found.value));
+    *value = found.value;
+    *count = found.length;
+    return TORKETTLE_OK;
+}
+
+static inline bool torkettle_canonical_ull(const char *text, size_t length,
+                                           unsigned long long *value) TORKETTLE_NOEXCEPT
+{
+    torkettle_found_u64 found = torkettle_whole_canonical_u64(text, length);
+    if (found.length == 0)
+        return false;
+    *value = found.value;
+    return true;
+}
+
+static inline bool torkettle_json_integer_ull(const char *text, size_t length, unsigned long long *value,
+                                              size_t *count) TORKETTLE_NOEXCEPT
+{
+    torkettle_found_u64 found = torkettle_prefix_json_u64(text, length);
+    if (found.length == 0)
+        return false;
+    *value = found.value;
+    *count = found.length;
+    return true;
+}
 
 /* The size of a buffer into which every message of torkettle_error_text fits. */
 #define TORKETTLE_ERROR_TEXT_SIZE 333
@@ -2529,9 +4236,6 @@ size_t torkettle_error_text(char *buffer, size_t size, const torkettle_error *er
 /* Returns the version of the library, as TORKETTLE_VERSION has it. */
 const char *torkettle_version(void) TORKETTLE_SYMBOL_(version);
 
-#undef TORKETTLE_PARSES_
-#undef TORKETTLE_FUNCTIONS_
-#undef TORKETTLE_NEXT_
 /* torkettle.c goes on with these. */
 #ifndef TORKETTLE_SOURCE_
 #undef TK_ALL
@@ -2550,12 +4254,9 @@ const char *torkettle_version(void) TORKETTLE_SYMBOL_(version);
 #undef TK_PARTS
 #undef TK_TEXT
 #undef TK_ZEROS
-#undef TK_CALLED
 #undef TK_SYMBOL
 #undef TORKETTLE_BYTES_
 #undef TORKETTLE_SYMBOL_
-#undef TORKETTLE_PREFIX_
-#undef TORKETTLE_TEXT_
 #undef TORKETTLE_NOEXCEPT
 #ifdef __GNUC__
 #pragma GCC diagnostic pop

@@ -76,7 +76,7 @@ template <class T> constexpr bool is_signed = T(-1) < T(0);
 
 template <class T> using functions_of = functions<sizeof(T), is_signed<T>>;
 
-#define TORKETTLE_FUNCTIONS_(name, type, word)                                                                         \
+#define TORKETTLE_FUNCTIONS_(name, type)                                                                               \
     template <> struct functions<sizeof(type), is_signed<type>> {                                                      \
         using found = torkettle_found_##name;                                                                          \
         TORKETTLE_CONSTANTS_(name)                                                                                     \
@@ -96,7 +96,7 @@ template <class T> using functions_of = functions<sizeof(T), is_signed<T>>;
         using fields = torkettle_fields_##name;                                                                        \
         [[gnu::always_inline]] static auto next(fields &state) noexcept                                                \
         {                                                                                                              \
-            return torkettle_next_of_fields_##name(&state);                                                            \
+            return torkettle_next_of_##name(&state);                                                                   \
         }                                                                                                              \
         /* The values may be of `long long` where `int64_t` is `long`, so no access to them moves across the call. */  \
         static std::size_t read(fields &state, void *values, std::size_t count) noexcept                               \

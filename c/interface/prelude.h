@@ -51,6 +51,31 @@
 #define TORKETTLE_CHECK(condition) ((void)0)
 #endif
 
+/* 1 or 0. As gcc 12 would set only a byte of a register, the processor would wait for what was last in it. */
+TK_INLINE uint64_t tk_bit(bool is_set)
+{
+    uint64_t one = 1;
+#if defined __GNUC__ && !defined __clang__
+    __asm__("" : "+r"(one));
+#endif
+    return is_set ? one : 0;
+}
+
+/* An index of so many elements. */
+TK_CONSTEXPR size_t tk_index(size_t index, size_t len)
+{
+    TORKETTLE_CHECK(index < len);
+    (void)len;
+    return index;
+}
+
+TK_CONSTEXPR bool tk_u8_is_digit(uint8_t byte) { return '0' <= byte && byte <= '9'; }
+TK_CONSTEXPR uint64_t tk_u64_wrapping_add(uint64_t a, uint64_t b) { return a + b; }
+TK_CONSTEXPR uint64_t tk_u64_wrapping_sub(uint64_t a, uint64_t b) { return a - b; }
+TK_CONSTEXPR uint64_t tk_u64_wrapping_mul(uint64_t a, uint64_t b) { return a * b; }
+TK_CONSTEXPR uint64_t tk_i64_unsigned_abs(int64_t a) { return a < 0 ? 0 - TK_CAST(uint64_t, a) : TK_CAST(uint64_t, a); }
+
+#ifdef TK_ALL
 /* One of two lengths or places. gcc would make a branch of it, and no processor can guess which one is next. */
 TK_INLINE size_t tk_either(bool is_first, size_t first, size_t second)
 {
@@ -73,24 +98,6 @@ TK_INLINE const uint8_t *tk_either_at(bool is_first, const uint8_t *first, const
 #define TK_EITHER(is_first, a, b)                                                                                      \
     tk_bytes_of(tk_either_at(is_first, (a).at, (b).at), tk_either(is_first, (a).len, (b).len))
 
-/* 1 or 0. As gcc 12 would set only a byte of a register, the processor would wait for what was last in it. */
-TK_INLINE uint64_t tk_bit(bool is_set)
-{
-    uint64_t one = 1;
-#if defined __GNUC__ && !defined __clang__
-    __asm__("" : "+r"(one));
-#endif
-    return is_set ? one : 0;
-}
-
-/* An index of so many elements. */
-TK_CONSTEXPR size_t tk_index(size_t index, size_t len)
-{
-    TORKETTLE_CHECK(index < len);
-    (void)len;
-    return index;
-}
-
 /* Parts of a slice. */
 #define TK_PARTS(slice)                                                                                                \
     TK_CONSTEXPR slice slice##_from(slice s, size_t low)                                                               \
@@ -109,13 +116,6 @@ TK_CONSTEXPR size_t tk_index(size_t index, size_t len)
         return slice##_of(s.at + low, high - low);                                                                     \
     }
 
-TK_CONSTEXPR bool tk_u8_is_digit(uint8_t byte) { return '0' <= byte && byte <= '9'; }
-TK_CONSTEXPR uint64_t tk_u64_wrapping_add(uint64_t a, uint64_t b) { return a + b; }
-TK_CONSTEXPR uint64_t tk_u64_wrapping_sub(uint64_t a, uint64_t b) { return a - b; }
-TK_CONSTEXPR uint64_t tk_u64_wrapping_mul(uint64_t a, uint64_t b) { return a * b; }
-TK_CONSTEXPR uint64_t tk_i64_unsigned_abs(int64_t a) { return a < 0 ? 0 - TK_CAST(uint64_t, a) : TK_CAST(uint64_t, a); }
-
-#ifdef TK_ALL
 TK_CONSTEXPR uint32_t tk_u32_wrapping_add(uint32_t a, uint32_t b) { return a + b; }
 TK_CONSTEXPR uint32_t tk_u32_wrapping_sub(uint32_t a, uint32_t b) { return a - b; }
 TK_CONSTEXPR uint32_t tk_u32_wrapping_mul(uint32_t a, uint32_t b) { return a * b; }
@@ -127,6 +127,8 @@ TK_CONSTEXPR size_t tk_size_saturating_sub(size_t a, size_t b) { return a < b ? 
 TK_CONSTEXPR uint32_t tk_i32_unsigned_abs(int32_t a) { return TK_CAST(uint32_t, tk_i64_unsigned_abs(a)); }
 TK_CONSTEXPR uint16_t tk_i16_unsigned_abs(int16_t a) { return TK_CAST(uint16_t, tk_i64_unsigned_abs(a)); }
 TK_CONSTEXPR uint8_t tk_i8_unsigned_abs(int8_t a) { return TK_CAST(uint8_t, tk_i64_unsigned_abs(a)); }
+#else
+#define TK_PARTS(slice)
 #endif
 
 /* How many low bits of a word are zero. */
@@ -182,12 +184,14 @@ TK_CONSTEXPR uint64_t tk_u128_low(tk_u128 value) { return TK_CAST(uint64_t, valu
 TK_CONSTEXPR bool tk_u128_less(tk_u128 a, tk_u128 b) { return a < b; }
 TK_CONSTEXPR tk_u128 tk_u128_wrapping_add(tk_u128 a, tk_u128 b) { return a + b; }
 TK_CONSTEXPR tk_u128 tk_u128_wrapping_sub(tk_u128 a, tk_u128 b) { return a - b; }
+TK_CONSTEXPR tk_i128 tk_u128_as_i128(tk_u128 value) { return TK_CAST(tk_i128, value); }
+TK_CONSTEXPR tk_u128 tk_i128_as_u128(tk_i128 value) { return TK_CAST(tk_u128, value); }
+#ifdef TK_ALL
 TK_CONSTEXPR tk_u128 tk_u128_wrapping_mul(tk_u128 a, tk_u128 b) { return a * b; }
 TK_CONSTEXPR bool tk_u128_product_fits(tk_u128 a, tk_u128 b) { return b == 0 || a <= ~TK_CAST(tk_u128, 0) / b; }
 TK_CONSTEXPR tk_u128 tk_u128_shift_left(tk_u128 a, uint64_t count) { return a << count; }
 TK_CONSTEXPR tk_u128 tk_u128_shift_right(tk_u128 a, uint64_t count) { return a >> count; }
-TK_CONSTEXPR tk_i128 tk_u128_as_i128(tk_u128 value) { return TK_CAST(tk_i128, value); }
-TK_CONSTEXPR tk_u128 tk_i128_as_u128(tk_i128 value) { return TK_CAST(tk_u128, value); }
+#endif
 #else
 typedef struct tk_u128 {
     uint64_t low;
@@ -262,15 +266,14 @@ TK_CONSTEXPR tk_i128 tk_i128_negate(tk_i128 a)
     return tk_u128_as_i128(tk_u128_wrapping_sub(tk_u128_of(0), tk_i128_as_u128(a)));
 }
 
-TK_CONSTEXPR bool tk_u128_sum_fits(tk_u128 a, tk_u128 b) { return !tk_u128_less(tk_u128_wrapping_add(a, b), a); }
-
 TK_CONSTEXPR tk_u128 tk_u128_add(tk_u128 a, tk_u128 b)
 {
-    TORKETTLE_CHECK(tk_u128_sum_fits(a, b));
+    TORKETTLE_CHECK(!tk_u128_less(tk_u128_wrapping_add(a, b), a));
     return tk_u128_wrapping_add(a, b);
 }
 
 #ifdef TK_ALL
+TK_CONSTEXPR bool tk_u128_sum_fits(tk_u128 a, tk_u128 b) { return !tk_u128_less(tk_u128_wrapping_add(a, b), a); }
 TK_INLINE uint32_t tk_u32_trailing_zeros(uint32_t word) { return tk_u64_trailing_zeros(word | UINT64_C(1) << 32); }
 
 TK_CONSTEXPR tk_u128 tk_u128_mul(tk_u128 a, tk_u128 b)

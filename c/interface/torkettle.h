@@ -74,15 +74,14 @@ extern "C" {
 
 /* Ends a declaration, and declares a function. With gcc and clang, a symbol of the library has the version of its
    interface, so that a process may load two versions. */
-#if defined __GNUC__ || defined __clang__
-#define TK_SYMBOL(name) __asm__(TORKETTLE_PREFIX_(__USER_LABEL_PREFIX__) "torkettle_0_1_" #name)
-#define TORKETTLE_PREFIX_(prefix) TORKETTLE_TEXT_(prefix)
-#define TORKETTLE_TEXT_(prefix) #prefix
+#if defined __APPLE__
+#define TK_SYMBOL(name) __asm__("_torkettle_0_1_" #name)
+#elif defined __GNUC__ || defined __clang__
+#define TK_SYMBOL(name) __asm__("torkettle_0_1_" #name)
 #else
 #define TK_SYMBOL(name)
 #endif
 #define TORKETTLE_SYMBOL_(name) TORKETTLE_NOEXCEPT TK_SYMBOL(name)
-#define TK_CALLED(result, name, ...) result torkettle_##name(__VA_ARGS__) TORKETTLE_SYMBOL_(name)
 
 /*
  * The values of the argument `flags`: 0, one of these, or both with `|`. Other bits have no effect.
@@ -268,8 +267,7 @@ typedef struct torkettle_error {
  * What is described neither above nor below is internal and may change in a minor version: all names that begin with
  * tk_, and functions such as those whose names begin with torkettle_whole_, torkettle_prefix_ and torkettle_next_. They
  * return a number and its length in two registers. If there is no number, the length is 0, and the first two return the
- * status in place of the number. The length that torkettle_next_field_ returns is 1 for a number, and 2 for a bad
- * field.
+ * status in place of the number. The length that torkettle_next_ returns is 1 for a number, and 2 for a bad field.
  *
  * For other languages, torkettle_0_1_parse_i64 and torkettle_0_1_parse_prefix_i64 are functions of the shared library.
  */
@@ -303,195 +301,40 @@ static inline size_t torkettle_rest_length(size_t length, char separator) TORKET
     return tk_is_separator(TK_CAST(uint8_t, separator)) ? length : 0;
 }
 
-/* Reads the next field of a column or of fields. `called` does that, unless `tk_quick_field` finds a number. It gets a
-   copy, so that compilers can keep the fields of a loop in registers. */
-#define TORKETTLE_NEXT_(kind, called, suffix, type, word)                                                              \
-    TK_INLINE torkettle_found##suffix torkettle_next_of_##kind##suffix(torkettle_##kind##suffix *fields)               \
-        TORKETTLE_NOEXCEPT                                                                                             \
-    {                                                                                                                  \
-        tk_bytes rest = tk_text(fields->rest, fields->rest_length);                                                    \
-        tk_option_pair##word##_size number = tk_quick_field##suffix##word(rest, TK_CAST(uint8_t, fields->separator));  \
-        size_t count = number.value.second;                                                                            \
-        if (!number.is_some) {                                                                                         \
-            torkettle_##kind##suffix copy = *fields;                                                                   \
-            torkettle_found##suffix found = torkettle_##called##suffix(&copy);                                         \
-            *fields = copy;                                                                                            \
-            return found;                                                                                              \
-        }                                                                                                              \
-        fields->status = TORKETTLE_OK;                                                                                 \
-        fields->next_index += 1;                                                                                       \
-        fields->next_offset += count + 1;                                                                              \
-        fields->rest += count + 1;                                                                                     \
-        fields->rest_length -= count + 1;                                                                              \
-        return TK_MAKE(torkettle_found##suffix, TK_CAST(type, number.value.first), 1);                                 \
-    }
-
-/* The parses of a type by the functions of another, or its own, of the same size and sign. */
-#define TORKETTLE_PARSES_(name, type, same)                                                                            \
-    static inline torkettle_status torkettle_parse##name(const char *text, size_t length, unsigned flags, type *value) \
-        TORKETTLE_NOEXCEPT                                                                                             \
-    {                                                                                                                  \
-        torkettle_found##same found = torkettle_of_whole##same(text, length, flags);                                   \
-        if (found.length == 0)                                                                                         \
-            return torkettle_refusal(TK_CAST(torkettle_status, found.value));                                          \
-        *value = found.value;                                                                                          \
-        return TORKETTLE_OK;                                                                                           \
-    }                                                                                                                  \
-    TK_INLINE torkettle_status torkettle_parse_prefix##name(const char *text, size_t length, unsigned flags,           \
-                                                            type *value, size_t *count) TORKETTLE_NOEXCEPT             \
-    {                                                                                                                  \
-        torkettle_found##same found = torkettle_of_prefix##same(text, length, flags);                                  \
-        if (found.length == 0)                                                                                         \
-            return torkettle_refusal(TK_CAST(torkettle_status, found.value));                                          \
-        *value = found.value;                                                                                          \
-        *count = found.length;                                                                                         \
-        return TORKETTLE_OK;                                                                                           \
-    }                                                                                                                  \
-    static inline bool torkettle_canonical##name(const char *text, size_t length, type *value) TORKETTLE_NOEXCEPT      \
-    {                                                                                                                  \
-        torkettle_found##same found = torkettle_whole_canonical##same(text, length);                                   \
-        if (found.length == 0)                                                                                         \
-            return false;                                                                                              \
-        *value = found.value;                                                                                          \
-        return true;                                                                                                   \
-    }                                                                                                                  \
-    static inline bool torkettle_json_integer##name(const char *text, size_t length, type *value, size_t *count)       \
-        TORKETTLE_NOEXCEPT                                                                                             \
-    {                                                                                                                  \
-        torkettle_found##same found = torkettle_prefix_json##same(text, length);                                       \
-        if (found.length == 0)                                                                                         \
-            return false;                                                                                              \
-        *value = found.value;                                                                                          \
-        *count = found.length;                                                                                         \
-        return true;                                                                                                   \
-    }
-
-#define TORKETTLE_FUNCTIONS_(name, type, word)                                                                         \
-    typedef struct torkettle_found_##name {                                                                            \
-        type value;                                                                                                    \
-        size_t length;                                                                                                 \
-    } torkettle_found_##name;                                                                                          \
-    typedef struct torkettle_column_##name {                                                                           \
-        torkettle_status status;                                                                                       \
-        size_t index, offset, next_index, next_offset;                                                                 \
-        const char *rest;                                                                                              \
-        size_t rest_length;                                                                                            \
-        char separator, is_lines;                                                                                      \
-    } torkettle_column_##name;                                                                                         \
-    typedef struct torkettle_fields_##name {                                                                           \
-        torkettle_status status;                                                                                       \
-        size_t index, offset;                                                                                          \
-        const char *text;                                                                                              \
-        size_t length, next_index, next_offset;                                                                        \
-        const char *rest;                                                                                              \
-        size_t rest_length;                                                                                            \
-        char separator, is_lines;                                                                                      \
-    } torkettle_fields_##name;                                                                                         \
-    TK_CALLED(torkettle_found_##name, whole_##name, const char *text, size_t length, unsigned flags);                  \
-    TK_CALLED(torkettle_found_##name, prefix_##name, const char *text, size_t length, unsigned flags);                 \
-    TK_CALLED(torkettle_found_##name, whole_canonical_##name, const char *text, size_t length);                        \
-    TK_CALLED(torkettle_found_##name, prefix_json_##name, const char *text, size_t length);                            \
-    TK_CALLED(torkettle_found_##name, next_##name, torkettle_column_##name *column);                                   \
-    TK_CALLED(torkettle_found_##name, next_field_##name, torkettle_fields_##name *fields);                             \
-    TK_CALLED(torkettle_status, parse_pos_##name, const char *text, size_t length, unsigned flags, type *value);       \
-    TK_CALLED(torkettle_status, parse_prefix_pos_##name, const char *text, size_t length, unsigned flags, type *value, \
-              size_t *count);                                                                                          \
-    torkettle_status torkettle_called_parse_##name(const char *text, size_t length, unsigned flags, type *value)       \
-        TORKETTLE_SYMBOL_(parse_##name);                                                                               \
-    torkettle_status torkettle_called_parse_prefix_##name(const char *text, size_t length, unsigned flags,             \
-                                                          type *value, size_t *count)                                  \
-        TORKETTLE_SYMBOL_(parse_prefix_##name);                                                                        \
-    TK_CALLED(torkettle_error, parse_error_##name, const char *text, size_t length, unsigned flags);                   \
-    TK_CALLED(torkettle_error, parse_prefix_error_##name, const char *text, size_t length, unsigned flags);            \
-    TK_CALLED(size_t, column_##name##_read, torkettle_column_##name *column, type *values, size_t count);              \
-    TK_CALLED(size_t, fields_##name##_read, torkettle_fields_##name *fields, type *values, size_t count);              \
-    TK_INLINE torkettle_found_##name torkettle_of_whole_##name(const char *text, size_t length, unsigned flags)        \
-        TORKETTLE_NOEXCEPT                                                                                             \
-    {                                                                                                                  \
-        tk_option_u8 digit = tk_one_digit(tk_text(text, length));                                                      \
-        if (digit.is_some)                                                                                             \
-            return TK_MAKE(torkettle_found_##name, TK_CAST(type, digit.value), 1);                                     \
-        return torkettle_whole_##name(text, length, flags);                                                            \
-    }                                                                                                                  \
-    TK_INLINE torkettle_found_##name torkettle_of_prefix_##name(const char *text, size_t length, unsigned flags)       \
-        TORKETTLE_NOEXCEPT                                                                                             \
-    {                                                                                                                  \
-        tk_option_pair_##word##_size number = tk_quick_prefix_##name##_##word(tk_text(text, length));                  \
-        if (number.is_some)                                                                                            \
-            return TK_MAKE(torkettle_found_##name, TK_CAST(type, number.value.first), number.value.second);            \
-        return torkettle_prefix_##name(text, length, flags);                                                           \
-    }                                                                                                                  \
-    TORKETTLE_NEXT_(column, next, _##name, type, _##word)                                                              \
-    TORKETTLE_NEXT_(fields, next_field, _##name, type, _##word)                                                        \
-    TORKETTLE_PARSES_(_##name, type, _##name)                                                                          \
-    static inline void torkettle_column_##name##_init(torkettle_column_##name *column, const char *text,               \
-                                                      size_t length, char separator) TORKETTLE_NOEXCEPT                \
-    {                                                                                                                  \
-        bool is_separator = tk_is_separator(TK_CAST(uint8_t, separator));                                              \
-        torkettle_status status = is_separator ? TORKETTLE_OK : TORKETTLE_INVALID;                                     \
-        size_t index = is_separator ? 0 : SIZE_MAX;                                                                    \
-        size_t rest_length = is_separator ? length : 0;                                                                \
-        *column = TK_MAKE(torkettle_column_##name, status, index, index, 0, 0, text, rest_length, separator, 0);       \
-    }                                                                                                                  \
-    static inline bool torkettle_column_##name##_next(torkettle_column_##name *column, type *value) TORKETTLE_NOEXCEPT \
-    {                                                                                                                  \
-        torkettle_found_##name found = torkettle_next_of_column_##name(column);                                        \
-        if (found.length == 0)                                                                                         \
-            return false;                                                                                              \
-        *value = found.value;                                                                                          \
-        return true;                                                                                                   \
-    }                                                                                                                  \
-    static inline void torkettle_fields_##name##_init(torkettle_fields_##name *fields, const char *text,               \
-                                                      size_t length, char separator) TORKETTLE_NOEXCEPT                \
-    {                                                                                                                  \
-        size_t rest_length = torkettle_rest_length(length, separator);                                                 \
-        *fields = TK_MAKE(torkettle_fields_##name, TORKETTLE_OK, 0, 0, NULL, 0, 0, 0, text, rest_length, separator, 0);\
-    }                                                                                                                  \
-    static inline void torkettle_fields_##name##_init_lines(torkettle_fields_##name *fields, const char *text,         \
-                                                            size_t length) TORKETTLE_NOEXCEPT                          \
-    {                                                                                                                  \
-        torkettle_fields_##name##_init(fields, text, length, '\n');                                                    \
-        fields->is_lines = 1;                                                                                          \
-    }                                                                                                                  \
-    static inline void torkettle_fields_##name##_starting_at(torkettle_fields_##name *fields, size_t index,            \
-                                                             size_t offset) TORKETTLE_NOEXCEPT                         \
-    {                                                                                                                  \
-        fields->next_index = index;                                                                                    \
-        fields->next_offset = offset;                                                                                  \
-    }                                                                                                                  \
-    static inline bool torkettle_fields_##name##_next(torkettle_fields_##name *fields, type *value) TORKETTLE_NOEXCEPT \
-    {                                                                                                                  \
-        torkettle_found_##name found = torkettle_next_of_fields_##name(fields);                                        \
-        if (found.length == 0)                                                                                         \
-            return false;                                                                                              \
-        /* The caller also tests the status, so compilers do not warn that the value is not set. */                    \
-        if (fields->status == TORKETTLE_OK)                                                                            \
-            *value = found.value;                                                                                      \
-        return true;                                                                                                   \
-    }
-
-/* The types, for a macro that takes a name, a type and, by its name, the type of 64 bits with the same sign. */
 #if defined __SIZEOF_INT128__ && !defined TORKETTLE_NO_INT128
 typedef tk_i128 torkettle_i128;
 typedef tk_u128 torkettle_u128;
-#define TORKETTLE_LARGE_TYPES_(of) of(i128, torkettle_i128, i64) of(u128, torkettle_u128, u64)
+#define TORKETTLE_LARGE_TYPES_(of) of(i128, torkettle_i128) of(u128, torkettle_u128)
 #else
 #define TORKETTLE_LARGE_TYPES_(of)
 #endif
+/* For a macro that takes the name of a type and the type. */
 #define TORKETTLE_TYPES_(of)                                                                                           \
-    of(i8, int8_t, i64) of(u8, uint8_t, u64) of(i16, int16_t, i64) of(u16, uint16_t, u64) of(i32, int32_t, i64)        \
-        of(u32, uint32_t, u64) of(i64, int64_t, i64) of(u64, uint64_t, u64) TORKETTLE_LARGE_TYPES_(of)
-TORKETTLE_TYPES_(TORKETTLE_FUNCTIONS_)
+    of(i8, int8_t) of(u8, uint8_t) of(i16, int16_t) of(u16, uint16_t) of(i32, int32_t) of(u32, uint32_t)               \
+        of(i64, int64_t) of(u64, uint64_t) TORKETTLE_LARGE_TYPES_(of)
+
+/* @print types.h, NAME: i8, TYPE: int8_t, WORD: i64 */
+/* @print types.h, NAME: u8, TYPE: uint8_t, WORD: u64 */
+/* @print types.h, NAME: i16, TYPE: int16_t, WORD: i64 */
+/* @print types.h, NAME: u16, TYPE: uint16_t, WORD: u64 */
+/* @print types.h, NAME: i32, TYPE: int32_t, WORD: i64 */
+/* @print types.h, NAME: u32, TYPE: uint32_t, WORD: u64 */
+/* @print types.h, NAME: i64, TYPE: int64_t, WORD: i64 */
+/* @print types.h, NAME: u64, TYPE: uint64_t, WORD: u64 */
+#if defined __SIZEOF_INT128__ && !defined TORKETTLE_NO_INT128
+/* @print types.h, NAME: i128, TYPE: torkettle_i128, WORD: i64 */
+/* @print types.h, NAME: u128, TYPE: torkettle_u128, WORD: u64 */
+#endif
 
 #if ULONG_MAX == UINT64_MAX
-TORKETTLE_PARSES_(_l, long, _i64)
-TORKETTLE_PARSES_(_ul, unsigned long, _u64)
+/* @print parses.h, NAME: l, TYPE: long, SAME: i64 */
+/* @print parses.h, NAME: ul, TYPE: unsigned long, SAME: u64 */
 #else
-TORKETTLE_PARSES_(_l, long, _i32)
-TORKETTLE_PARSES_(_ul, unsigned long, _u32)
+/* @print parses.h, NAME: l, TYPE: long, SAME: i32 */
+/* @print parses.h, NAME: ul, TYPE: unsigned long, SAME: u32 */
 #endif
-TORKETTLE_PARSES_(_ll, long long, _i64)
-TORKETTLE_PARSES_(_ull, unsigned long long, _u64)
+/* @print parses.h, NAME: ll, TYPE: long long, SAME: i64 */
+/* @print parses.h, NAME: ull, TYPE: unsigned long long, SAME: u64 */
 
 /* The size of a buffer into which every message of torkettle_error_text fits. */
 #define TORKETTLE_ERROR_TEXT_SIZE 333
@@ -510,18 +353,12 @@ size_t torkettle_error_text(char *buffer, size_t size, const torkettle_error *er
 /* Returns the version of the library, as TORKETTLE_VERSION has it. */
 const char *torkettle_version(void) TORKETTLE_SYMBOL_(version);
 
-#undef TORKETTLE_PARSES_
-#undef TORKETTLE_FUNCTIONS_
-#undef TORKETTLE_NEXT_
 /* torkettle.c goes on with these. */
 #ifndef TORKETTLE_SOURCE_
 /* @forget */
-#undef TK_CALLED
 #undef TK_SYMBOL
 #undef TORKETTLE_BYTES_
 #undef TORKETTLE_SYMBOL_
-#undef TORKETTLE_PREFIX_
-#undef TORKETTLE_TEXT_
 #undef TORKETTLE_NOEXCEPT
 #ifdef __GNUC__
 #pragma GCC diagnostic pop

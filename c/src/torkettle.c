@@ -9957,220 +9957,1882 @@ const char *torkettle_version(void) TORKETTLE_NOEXCEPT { return TORKETTLE_VERSIO
 /* The flags of a call. */
 #define TK_ZEROES ((flags & TORKETTLE_SKIP_ZEROES) != 0)
 #define TK_PLUS ((flags & TORKETTLE_SKIP_PLUS) != 0)
-#define TK_BOTH (TORKETTLE_SKIP_ZEROES | TORKETTLE_SKIP_PLUS)
 
-/* The error of a parse, which returns this result. */
-#define TK_ERROR_OF(function, result, parse)                                                                           \
-    torkettle_error function(const char *text, size_t length, unsigned flags) TORKETTLE_NOEXCEPT                       \
-    {                                                                                                                  \
-        tk_bytes bytes = tk_text(text, length);                                                                        \
-        result found = parse(bytes, TK_ZEROES, TK_PLUS);                                                               \
-        if (found.is_ok)                                                                                               \
-            return TK_MAKE(torkettle_error, TORKETTLE_OK, 0, 0, 0, 0, 0);                                              \
-        return tk_explained(found.error, bytes);                                                                       \
+/* A slice that `quick_slice` does not read, in a function of its own: this one needs room for an error. */
+TK_NOINLINE torkettle_found_i8 tk_rest_of_whole_i8(const char *text, size_t length, unsigned flags)
+{
+    tk_bytes bytes = tk_text(text, length);
+    tk_option_i8 long_ = tk_long_slice_i8(bytes);
+    if (long_.is_some)
+        return TK_MAKE(torkettle_found_i8, long_.value, length);
+    tk_result_i8 found = tk_atoi_simd_parse_i8(bytes, TK_ZEROES, TK_PLUS);
+    if (!found.is_ok)
+        return TK_MAKE(torkettle_found_i8, TK_CAST(int8_t, tk_status_of(found.error)), 0);
+    return TK_MAKE(torkettle_found_i8, found.value, length);
+}
+
+TK_FAR torkettle_found_i8 torkettle_whole_i8(const char *text, size_t length, unsigned flags) TORKETTLE_NOEXCEPT
+{
+    tk_option_i8 quick = tk_quick_slice_i8(tk_text(text, length));
+    if (quick.is_some)
+        return TK_MAKE(torkettle_found_i8, quick.value, length);
+    return tk_rest_of_whole_i8(text, length, flags);
+}
+
+torkettle_found_i8 torkettle_prefix_i8(const char *text, size_t length, unsigned flags) TORKETTLE_NOEXCEPT
+{
+    tk_result_pair_i8_size found = tk_atoi_simd_parse_prefix_i8(tk_text(text, length), TK_ZEROES, TK_PLUS);
+    if (!found.is_ok)
+        return TK_MAKE(torkettle_found_i8, TK_CAST(int8_t, tk_status_of(found.error)), 0);
+    return TK_MAKE(torkettle_found_i8, found.value.first, found.value.second);
+}
+
+torkettle_found_i8 torkettle_whole_canonical_i8(const char *text, size_t length) TORKETTLE_NOEXCEPT
+{
+    tk_option_i8 found = tk_canonical_i8(tk_text(text, length));
+    return TK_MAKE(torkettle_found_i8, found.value, found.is_some ? length : 0);
+}
+
+torkettle_found_i8 torkettle_prefix_json_i8(const char *text, size_t length) TORKETTLE_NOEXCEPT
+{
+    tk_option_pair_i8_bytes found = tk_json_integer_i8(tk_text(text, length));
+    size_t count = found.is_some ? length - found.value.second.len : 0;
+    return TK_MAKE(torkettle_found_i8, found.value.first, count);
+}
+
+torkettle_status torkettle_parse_pos_i8(const char *text, size_t length, unsigned flags,
+                                        int8_t *value) TORKETTLE_NOEXCEPT
+{
+    tk_result_i8 found = tk_atoi_simd_parse_pos_i8(tk_text(text, length), TK_ZEROES);
+    if (!found.is_ok)
+        return tk_status_of(found.error);
+    *value = found.value;
+    return TORKETTLE_OK;
+}
+
+torkettle_status torkettle_parse_prefix_pos_i8(const char *text, size_t length, unsigned flags, int8_t *value,
+                                               size_t *count) TORKETTLE_NOEXCEPT
+{
+    tk_result_pair_i8_size found = tk_atoi_simd_parse_prefix_pos_i8(tk_text(text, length), TK_ZEROES);
+    if (!found.is_ok)
+        return tk_status_of(found.error);
+    *value = found.value.first;
+    *count = found.value.second;
+    return TORKETTLE_OK;
+}
+
+/* For programs that do not read the header. */
+torkettle_status torkettle_called_parse_i8(const char *text, size_t length, unsigned flags, int8_t *value)
+    TORKETTLE_SYMBOL_(parse_i8);
+torkettle_status torkettle_called_parse_prefix_i8(const char *text, size_t length, unsigned flags, int8_t *value,
+                                                  size_t *count) TORKETTLE_SYMBOL_(parse_prefix_i8);
+torkettle_status torkettle_called_parse_i8(const char *text, size_t length, unsigned flags,
+                                           int8_t *value) TORKETTLE_NOEXCEPT
+{
+    return torkettle_parse_i8(text, length, flags, value);
+}
+
+torkettle_status torkettle_called_parse_prefix_i8(const char *text, size_t length, unsigned flags, int8_t *value,
+                                                  size_t *count) TORKETTLE_NOEXCEPT
+{
+    torkettle_found_i8 found = torkettle_prefix_i8(text, length, flags);
+    if (found.length == 0)
+        return TK_CAST(torkettle_status, found.value);
+    *value = found.value;
+    *count = found.length;
+    return TORKETTLE_OK;
+}
+
+torkettle_error torkettle_parse_error_i8(const char *text, size_t length, unsigned flags) TORKETTLE_NOEXCEPT
+{
+    tk_bytes bytes = tk_text(text, length);
+    tk_result_i8 found = tk_atoi_simd_parse_i8(bytes, TK_ZEROES, TK_PLUS);
+    return found.is_ok ? TK_MAKE(torkettle_error, TORKETTLE_OK, 0, 0, 0, 0, 0) : tk_explained(found.error, bytes);
+}
+
+torkettle_error torkettle_parse_prefix_error_i8(const char *text, size_t length, unsigned flags) TORKETTLE_NOEXCEPT
+{
+    tk_bytes bytes = tk_text(text, length);
+    tk_result_pair_i8_size found = tk_atoi_simd_parse_prefix_i8(bytes, TK_ZEROES, TK_PLUS);
+    return found.is_ok ? TK_MAKE(torkettle_error, TORKETTLE_OK, 0, 0, 0, 0, 0) : tk_explained(found.error, bytes);
+}
+
+TK_INLINE tk_fields tk_left_i8(const torkettle_fields_i8 *fields)
+{
+    tk_bytes rest = tk_text(fields->rest, fields->rest_length);
+    return fields->is_lines ? tk_fields_lines(rest) : tk_fields_new(rest, TK_CAST(uint8_t, fields->separator));
+}
+
+TK_INLINE void tk_go_on_i8(torkettle_fields_i8 *fields, tk_fields left)
+{
+    tk_pair_size_size position = tk_fields_position(left);
+    fields->next_index += position.first;
+    fields->next_offset += position.second;
+    fields->rest += position.second;
+    fields->rest_length -= position.second;
+}
+
+TK_COLD void tk_refuse_field_i8(torkettle_fields_i8 *fields, tk_field_error bad)
+{
+    fields->status = tk_status_of(bad.cause);
+    fields->index = fields->next_index + bad.index;
+    fields->offset = fields->next_offset + bad.place;
+    fields->text = fields->rest + bad.place;
+    fields->length = bad.text.len;
+}
+
+/* Tells of the separator as of one bad field, after which the fields end. */
+TK_COLD void tk_refuse_separator_i8(torkettle_fields_i8 *fields)
+{
+    fields->status = TORKETTLE_INVALID;
+    fields->index = fields->offset = SIZE_MAX;
+    fields->text = NULL;
+    fields->length = fields->rest_length = 0;
+    fields->separator = ',';
+}
+
+torkettle_found_i8 torkettle_next_i8(torkettle_fields_i8 *fields) TORKETTLE_NOEXCEPT
+{
+    torkettle_found_i8 end = {0, 0}, bad = {0, 2};
+    if (!fields->is_lines && !tk_is_separator(TK_CAST(uint8_t, fields->separator))) {
+        tk_refuse_separator_i8(fields);
+        return bad;
     }
-
-/* What columns and fields have in common. */
-#define TK_LEFT(all)                                                                                                   \
-    ((all)->is_lines ? tk_fields_lines(tk_text((all)->rest, (all)->rest_length))                                       \
-                     : tk_fields_new(tk_text((all)->rest, (all)->rest_length), TK_CAST(uint8_t, (all)->separator)))
-
-#define TK_GO_ON(all, left)                                                                                            \
-    do {                                                                                                               \
-        tk_pair_size_size position = tk_fields_position(left);                                                         \
-        (all)->next_index += position.first;                                                                           \
-        (all)->next_offset += position.second;                                                                         \
-        (all)->rest += position.second;                                                                                \
-        (all)->rest_length -= position.second;                                                                         \
-    } while (0)
-
-#define TK_FUNCTIONS(name, type, word)                                                                                 \
-    /* Without a number, the value is the status. */                                                                   \
-    TK_INLINE torkettle_found_##name tk_refused_##name(tk_error error)                                                 \
-    {                                                                                                                  \
-        return TK_MAKE(torkettle_found_##name, TK_CAST(type, tk_status_of(error)), 0);                                 \
-    }                                                                                                                  \
-    TK_INLINE torkettle_found_##name tk_found_##name(tk_result_##name found, size_t length)                            \
-    {                                                                                                                  \
-        if (!found.is_ok)                                                                                              \
-            return tk_refused_##name(found.error);                                                                     \
-        return TK_MAKE(torkettle_found_##name, found.value, length);                                                   \
-    }                                                                                                                  \
-    TK_INLINE torkettle_found_##name tk_found_prefix_##name(tk_result_pair_##name##_size found)                        \
-    {                                                                                                                  \
-        if (!found.is_ok)                                                                                              \
-            return tk_refused_##name(found.error);                                                                     \
-        return TK_MAKE(torkettle_found_##name, found.value.first, found.value.second);                                 \
-    }                                                                                                                  \
-                                                                                                                       \
-    /* A slice that `quick_slice` does not read, in a function of its own: this one needs room for an error. */        \
-    TK_NOINLINE torkettle_found_##name tk_rest_of_whole_##name(const char *text, size_t length, unsigned flags)        \
-    {                                                                                                                  \
-        tk_bytes bytes = tk_text(text, length);                                                                        \
-        tk_option_##name long_ = tk_long_slice_##name(bytes);                                                          \
-        if (long_.is_some)                                                                                             \
-            return TK_MAKE(torkettle_found_##name, long_.value, length);                                               \
-        return tk_found_##name(tk_atoi_simd_parse_##name(bytes, TK_ZEROES, TK_PLUS), length);                          \
-    }                                                                                                                  \
-    TK_FAR torkettle_found_##name torkettle_whole_##name(const char *text, size_t length, unsigned flags)              \
-        TORKETTLE_NOEXCEPT                                                                                             \
-    {                                                                                                                  \
-        tk_option_##name quick = tk_quick_slice_##name(tk_text(text, length));                                         \
-        if (quick.is_some)                                                                                             \
-            return TK_MAKE(torkettle_found_##name, quick.value, length);                                               \
-        return tk_rest_of_whole_##name(text, length, flags);                                                           \
-    }                                                                                                                  \
-    torkettle_found_##name torkettle_prefix_##name(const char *text, size_t length, unsigned flags) TORKETTLE_NOEXCEPT \
-    {                                                                                                                  \
-        return tk_found_prefix_##name(tk_atoi_simd_parse_prefix_##name(tk_text(text, length), TK_ZEROES, TK_PLUS));    \
-    }                                                                                                                  \
-    torkettle_found_##name torkettle_whole_canonical_##name(const char *text, size_t length) TORKETTLE_NOEXCEPT        \
-    {                                                                                                                  \
-        tk_option_##name found = tk_canonical_##name(tk_text(text, length));                                           \
-        return TK_MAKE(torkettle_found_##name, found.value, found.is_some ? length : 0);                               \
-    }                                                                                                                  \
-    torkettle_found_##name torkettle_prefix_json_##name(const char *text, size_t length) TORKETTLE_NOEXCEPT            \
-    {                                                                                                                  \
-        tk_option_pair_##name##_bytes found = tk_json_integer_##name(tk_text(text, length));                           \
-        size_t count = found.is_some ? length - found.value.second.len : 0;                                            \
-        return TK_MAKE(torkettle_found_##name, found.value.first, count);                                              \
-    }                                                                                                                  \
-                                                                                                                       \
-    torkettle_status torkettle_parse_pos_##name(const char *text, size_t length, unsigned flags, type *value)          \
-        TORKETTLE_NOEXCEPT                                                                                             \
-    {                                                                                                                  \
-        tk_result_##name found = tk_atoi_simd_parse_pos_##name(tk_text(text, length), TK_ZEROES);                      \
-        if (!found.is_ok)                                                                                              \
-            return tk_status_of(found.error);                                                                          \
-        *value = found.value;                                                                                          \
-        return TORKETTLE_OK;                                                                                           \
-    }                                                                                                                  \
-    torkettle_status torkettle_parse_prefix_pos_##name(const char *text, size_t length, unsigned flags, type *value,   \
-                                                       size_t *count) TORKETTLE_NOEXCEPT                               \
-    {                                                                                                                  \
-        tk_result_pair_##name##_size found = tk_atoi_simd_parse_prefix_pos_##name(tk_text(text, length), TK_ZEROES);   \
-        if (!found.is_ok)                                                                                              \
-            return tk_status_of(found.error);                                                                          \
-        *value = found.value.first;                                                                                    \
-        *count = found.value.second;                                                                                   \
-        return TORKETTLE_OK;                                                                                           \
-    }                                                                                                                  \
-    torkettle_status torkettle_called_parse_##name(const char *text, size_t length, unsigned flags, type *value)       \
-        TORKETTLE_NOEXCEPT                                                                                             \
-    {                                                                                                                  \
-        return torkettle_parse_##name(text, length, flags, value);                                                     \
-    }                                                                                                                  \
-    torkettle_status torkettle_called_parse_prefix_##name(const char *text, size_t length, unsigned flags,             \
-                                                          type *value, size_t *count) TORKETTLE_NOEXCEPT               \
-    {                                                                                                                  \
-        torkettle_found_##name found = torkettle_prefix_##name(text, length, flags);                                   \
-        if (found.length == 0)                                                                                         \
-            return TK_CAST(torkettle_status, found.value);                                                             \
-        *value = found.value;                                                                                          \
-        *count = found.length;                                                                                         \
-        return TORKETTLE_OK;                                                                                           \
-    }                                                                                                                  \
-    TK_ERROR_OF(torkettle_parse_error_##name, tk_result_##name, tk_atoi_simd_parse_##name)                             \
-    TK_ERROR_OF(torkettle_parse_prefix_error_##name, tk_result_pair_##name##_size, tk_atoi_simd_parse_prefix_##name)   \
-    TK_COLD void tk_refuse_field_##name(torkettle_fields_##name *fields, tk_field_error bad)                           \
-    {                                                                                                                  \
-        fields->status = tk_status_of(bad.cause);                                                                      \
-        fields->index = fields->next_index + bad.index;                                                                \
-        fields->offset = fields->next_offset + bad.place;                                                              \
-        fields->text = fields->rest + bad.place;                                                                       \
-        fields->length = bad.text.len;                                                                                 \
-    }                                                                                                                  \
-    /* Tells of the separator as of one bad field, after which the fields end. */                                      \
-    TK_COLD void tk_refuse_separator_##name(torkettle_fields_##name *fields)                                           \
-    {                                                                                                                  \
-        fields->status = TORKETTLE_INVALID;                                                                            \
-        fields->index = fields->offset = SIZE_MAX;                                                                     \
-        fields->text = NULL;                                                                                           \
-        fields->length = fields->rest_length = 0;                                                                      \
-        fields->separator = ',';                                                                                       \
-    }                                                                                                                  \
-    torkettle_found_##name torkettle_next_field_##name(torkettle_fields_##name *fields) TORKETTLE_NOEXCEPT             \
-    {                                                                                                                  \
-        torkettle_found_##name end = {0, 0}, bad = {0, 2};                                                             \
-        tk_fields left;                                                                                                \
-        tk_option_result_##name##_field_error item;                                                                    \
-        if (!fields->is_lines && !tk_is_separator(TK_CAST(uint8_t, fields->separator))) {                              \
-            tk_refuse_separator_##name(fields);                                                                        \
-            return bad;                                                                                                \
-        }                                                                                                              \
-        fields->status = TORKETTLE_OK;                                                                                 \
-        if (fields->rest_length == 0)                                                                                  \
-            return end;                                                                                                \
-        left = TK_LEFT(fields);                                                                                        \
-        item = tk_fields_next_##name(&left);                                                                           \
-        if (!item.value.is_ok) {                                                                                       \
-            tk_refuse_field_##name(fields, item.value.error);                                                          \
-            TK_GO_ON(fields, left);                                                                                    \
-            return bad;                                                                                                \
-        }                                                                                                              \
-        TK_GO_ON(fields, left);                                                                                        \
-        return TK_MAKE(torkettle_found_##name, item.value.value, 1);                                                   \
-    }                                                                                                                  \
-    size_t torkettle_fields_##name##_read(torkettle_fields_##name *fields, type *values, size_t count)                 \
-        TORKETTLE_NOEXCEPT                                                                                             \
-    {                                                                                                                  \
-        size_t read = 0;                                                                                               \
-        fields->status = TORKETTLE_OK;                                                                                 \
-        if (fields->rest_length > 0 && count > 0) {                                                                    \
-            tk_fields left = TK_LEFT(fields);                                                                          \
-            read = tk_fields_read_##name(&left, tk_room_##name##_of(values, count));                                   \
-            TK_GO_ON(fields, left);                                                                                    \
-        }                                                                                                              \
-        if (read < count)                                                                                              \
-            torkettle_next_field_##name(fields);                                                                       \
-        return read;                                                                                                   \
-    }                                                                                                                  \
-    /* A column is read as its fields, up to a bad one. */                                                             \
-    TK_INLINE torkettle_fields_##name tk_fields_of_##name(const torkettle_column_##name *column)                       \
-    {                                                                                                                  \
-        return TK_MAKE(torkettle_fields_##name, TORKETTLE_OK, 0, 0, NULL, 0, column->next_index, column->next_offset,  \
-                       column->rest, column->rest_length, column->separator, 0);                                       \
-    }                                                                                                                  \
-    TK_COLD void tk_refuse_column_##name(torkettle_column_##name *column, const torkettle_fields_##name *bad)          \
-    {                                                                                                                  \
-        torkettle_error error = torkettle_parse_error_##name(bad->text, bad->length, TK_BOTH);                         \
-        column->status = bad->status;                                                                                  \
-        column->index = bad->index;                                                                                    \
-        column->offset = bad->offset + (bad->status == TORKETTLE_INVALID ? error.offset + error.count : 0);            \
-        column->rest_length = 0;                                                                                       \
-    }                                                                                                                  \
-    TK_INLINE void tk_go_on_##name(torkettle_column_##name *column, const torkettle_fields_##name *fields)             \
-    {                                                                                                                  \
-        if (fields->status != TORKETTLE_OK) {                                                                          \
-            tk_refuse_column_##name(column, fields);                                                                   \
-            return;                                                                                                    \
-        }                                                                                                              \
-        column->next_index = fields->next_index;                                                                       \
-        column->next_offset = fields->next_offset;                                                                     \
-        column->rest = fields->rest;                                                                                   \
-        column->rest_length = fields->rest_length;                                                                     \
-    }                                                                                                                  \
-    torkettle_found_##name torkettle_next_##name(torkettle_column_##name *column) TORKETTLE_NOEXCEPT                   \
-    {                                                                                                                  \
-        torkettle_found_##name found = {0, 0};                                                                         \
-        if (column->rest_length > 0) {                                                                                 \
-            torkettle_fields_##name fields = tk_fields_of_##name(column);                                              \
-            found = torkettle_next_field_##name(&fields);                                                              \
-            tk_go_on_##name(column, &fields);                                                                          \
-            found.length = found.length == 1;                                                                          \
-        }                                                                                                              \
-        return found;                                                                                                  \
-    }                                                                                                                  \
-    size_t torkettle_column_##name##_read(torkettle_column_##name *column, type *values, size_t count)                 \
-        TORKETTLE_NOEXCEPT                                                                                             \
-    {                                                                                                                  \
-        size_t read = 0;                                                                                               \
-        if (column->rest_length > 0) {                                                                                 \
-            torkettle_fields_##name fields = tk_fields_of_##name(column);                                              \
-            read = torkettle_fields_##name##_read(&fields, values, count);                                             \
-            tk_go_on_##name(column, &fields);                                                                          \
-        }                                                                                                              \
-        return read;                                                                                                   \
+    fields->status = TORKETTLE_OK;
+    if (fields->rest_length == 0)
+        return end;
+    tk_fields left = tk_left_i8(fields);
+    tk_option_result_i8_field_error item = tk_fields_next_i8(&left);
+    if (!item.value.is_ok) {
+        tk_refuse_field_i8(fields, item.value.error);
+        tk_go_on_i8(fields, left);
+        return bad;
     }
+    tk_go_on_i8(fields, left);
+    return TK_MAKE(torkettle_found_i8, item.value.value, 1);
+}
 
-TORKETTLE_TYPES_(TK_FUNCTIONS)
+size_t torkettle_fields_i8_read(torkettle_fields_i8 *fields, int8_t *values, size_t count) TORKETTLE_NOEXCEPT
+{
+    size_t read = 0;
+    fields->status = TORKETTLE_OK;
+    if (fields->rest_length > 0 && count > 0) {
+        tk_fields left = tk_left_i8(fields);
+        read = tk_fields_read_i8(&left, tk_room_i8_of(values, count));
+        tk_go_on_i8(fields, left);
+    }
+    if (read < count)
+        torkettle_next_i8(fields);
+    return read;
+}
+
+/* What a column is after a bad field. */
+torkettle_column_i8 torkettle_ended_i8(const torkettle_fields_i8 *fields) TORKETTLE_NOEXCEPT
+{
+    unsigned flags = TORKETTLE_SKIP_ZEROES | TORKETTLE_SKIP_PLUS;
+    torkettle_error error = torkettle_parse_error_i8(fields->text, fields->length, flags);
+    torkettle_column_i8 column = {fields->status, fields->index, fields->offset, *fields};
+    if (fields->status == TORKETTLE_INVALID)
+        column.offset += error.offset + error.count;
+    column.fields.rest_length = 0;
+    return column;
+}
+
+size_t torkettle_column_i8_read(torkettle_column_i8 *column, int8_t *values, size_t count) TORKETTLE_NOEXCEPT
+{
+    size_t read = torkettle_fields_i8_read(&column->fields, values, count);
+    if (column->fields.status != TORKETTLE_OK)
+        *column = torkettle_ended_i8(&column->fields);
+    return read;
+}
+/* A slice that `quick_slice` does not read, in a function of its own: this one needs room for an error. */
+TK_NOINLINE torkettle_found_u8 tk_rest_of_whole_u8(const char *text, size_t length, unsigned flags)
+{
+    tk_bytes bytes = tk_text(text, length);
+    tk_option_u8 long_ = tk_long_slice_u8(bytes);
+    if (long_.is_some)
+        return TK_MAKE(torkettle_found_u8, long_.value, length);
+    tk_result_u8 found = tk_atoi_simd_parse_u8(bytes, TK_ZEROES, TK_PLUS);
+    if (!found.is_ok)
+        return TK_MAKE(torkettle_found_u8, TK_CAST(uint8_t, tk_status_of(found.error)), 0);
+    return TK_MAKE(torkettle_found_u8, found.value, length);
+}
+
+TK_FAR torkettle_found_u8 torkettle_whole_u8(const char *text, size_t length, unsigned flags) TORKETTLE_NOEXCEPT
+{
+    tk_option_u8 quick = tk_quick_slice_u8(tk_text(text, length));
+    if (quick.is_some)
+        return TK_MAKE(torkettle_found_u8, quick.value, length);
+    return tk_rest_of_whole_u8(text, length, flags);
+}
+
+torkettle_found_u8 torkettle_prefix_u8(const char *text, size_t length, unsigned flags) TORKETTLE_NOEXCEPT
+{
+    tk_result_pair_u8_size found = tk_atoi_simd_parse_prefix_u8(tk_text(text, length), TK_ZEROES, TK_PLUS);
+    if (!found.is_ok)
+        return TK_MAKE(torkettle_found_u8, TK_CAST(uint8_t, tk_status_of(found.error)), 0);
+    return TK_MAKE(torkettle_found_u8, found.value.first, found.value.second);
+}
+
+torkettle_found_u8 torkettle_whole_canonical_u8(const char *text, size_t length) TORKETTLE_NOEXCEPT
+{
+    tk_option_u8 found = tk_canonical_u8(tk_text(text, length));
+    return TK_MAKE(torkettle_found_u8, found.value, found.is_some ? length : 0);
+}
+
+torkettle_found_u8 torkettle_prefix_json_u8(const char *text, size_t length) TORKETTLE_NOEXCEPT
+{
+    tk_option_pair_u8_bytes found = tk_json_integer_u8(tk_text(text, length));
+    size_t count = found.is_some ? length - found.value.second.len : 0;
+    return TK_MAKE(torkettle_found_u8, found.value.first, count);
+}
+
+torkettle_status torkettle_parse_pos_u8(const char *text, size_t length, unsigned flags,
+                                        uint8_t *value) TORKETTLE_NOEXCEPT
+{
+    tk_result_u8 found = tk_atoi_simd_parse_pos_u8(tk_text(text, length), TK_ZEROES);
+    if (!found.is_ok)
+        return tk_status_of(found.error);
+    *value = found.value;
+    return TORKETTLE_OK;
+}
+
+torkettle_status torkettle_parse_prefix_pos_u8(const char *text, size_t length, unsigned flags, uint8_t *value,
+                                               size_t *count) TORKETTLE_NOEXCEPT
+{
+    tk_result_pair_u8_size found = tk_atoi_simd_parse_prefix_pos_u8(tk_text(text, length), TK_ZEROES);
+    if (!found.is_ok)
+        return tk_status_of(found.error);
+    *value = found.value.first;
+    *count = found.value.second;
+    return TORKETTLE_OK;
+}
+
+/* For programs that do not read the header. */
+torkettle_status torkettle_called_parse_u8(const char *text, size_t length, unsigned flags, uint8_t *value)
+    TORKETTLE_SYMBOL_(parse_u8);
+torkettle_status torkettle_called_parse_prefix_u8(const char *text, size_t length, unsigned flags, uint8_t *value,
+                                                  size_t *count) TORKETTLE_SYMBOL_(parse_prefix_u8);
+torkettle_status torkettle_called_parse_u8(const char *text, size_t length, unsigned flags,
+                                           uint8_t *value) TORKETTLE_NOEXCEPT
+{
+    return torkettle_parse_u8(text, length, flags, value);
+}
+
+torkettle_status torkettle_called_parse_prefix_u8(const char *text, size_t length, unsigned flags, uint8_t *value,
+                                                  size_t *count) TORKETTLE_NOEXCEPT
+{
+    torkettle_found_u8 found = torkettle_prefix_u8(text, length, flags);
+    if (found.length == 0)
+        return TK_CAST(torkettle_status, found.value);
+    *value = found.value;
+    *count = found.length;
+    return TORKETTLE_OK;
+}
+
+torkettle_error torkettle_parse_error_u8(const char *text, size_t length, unsigned flags) TORKETTLE_NOEXCEPT
+{
+    tk_bytes bytes = tk_text(text, length);
+    tk_result_u8 found = tk_atoi_simd_parse_u8(bytes, TK_ZEROES, TK_PLUS);
+    return found.is_ok ? TK_MAKE(torkettle_error, TORKETTLE_OK, 0, 0, 0, 0, 0) : tk_explained(found.error, bytes);
+}
+
+torkettle_error torkettle_parse_prefix_error_u8(const char *text, size_t length, unsigned flags) TORKETTLE_NOEXCEPT
+{
+    tk_bytes bytes = tk_text(text, length);
+    tk_result_pair_u8_size found = tk_atoi_simd_parse_prefix_u8(bytes, TK_ZEROES, TK_PLUS);
+    return found.is_ok ? TK_MAKE(torkettle_error, TORKETTLE_OK, 0, 0, 0, 0, 0) : tk_explained(found.error, bytes);
+}
+
+TK_INLINE tk_fields tk_left_u8(const torkettle_fields_u8 *fields)
+{
+    tk_bytes rest = tk_text(fields->rest, fields->rest_length);
+    return fields->is_lines ? tk_fields_lines(rest) : tk_fields_new(rest, TK_CAST(uint8_t, fields->separator));
+}
+
+TK_INLINE void tk_go_on_u8(torkettle_fields_u8 *fields, tk_fields left)
+{
+    tk_pair_size_size position = tk_fields_position(left);
+    fields->next_index += position.first;
+    fields->next_offset += position.second;
+    fields->rest += position.second;
+    fields->rest_length -= position.second;
+}
+
+TK_COLD void tk_refuse_field_u8(torkettle_fields_u8 *fields, tk_field_error bad)
+{
+    fields->status = tk_status_of(bad.cause);
+    fields->index = fields->next_index + bad.index;
+    fields->offset = fields->next_offset + bad.place;
+    fields->text = fields->rest + bad.place;
+    fields->length = bad.text.len;
+}
+
+/* Tells of the separator as of one bad field, after which the fields end. */
+TK_COLD void tk_refuse_separator_u8(torkettle_fields_u8 *fields)
+{
+    fields->status = TORKETTLE_INVALID;
+    fields->index = fields->offset = SIZE_MAX;
+    fields->text = NULL;
+    fields->length = fields->rest_length = 0;
+    fields->separator = ',';
+}
+
+torkettle_found_u8 torkettle_next_u8(torkettle_fields_u8 *fields) TORKETTLE_NOEXCEPT
+{
+    torkettle_found_u8 end = {0, 0}, bad = {0, 2};
+    if (!fields->is_lines && !tk_is_separator(TK_CAST(uint8_t, fields->separator))) {
+        tk_refuse_separator_u8(fields);
+        return bad;
+    }
+    fields->status = TORKETTLE_OK;
+    if (fields->rest_length == 0)
+        return end;
+    tk_fields left = tk_left_u8(fields);
+    tk_option_result_u8_field_error item = tk_fields_next_u8(&left);
+    if (!item.value.is_ok) {
+        tk_refuse_field_u8(fields, item.value.error);
+        tk_go_on_u8(fields, left);
+        return bad;
+    }
+    tk_go_on_u8(fields, left);
+    return TK_MAKE(torkettle_found_u8, item.value.value, 1);
+}
+
+size_t torkettle_fields_u8_read(torkettle_fields_u8 *fields, uint8_t *values, size_t count) TORKETTLE_NOEXCEPT
+{
+    size_t read = 0;
+    fields->status = TORKETTLE_OK;
+    if (fields->rest_length > 0 && count > 0) {
+        tk_fields left = tk_left_u8(fields);
+        read = tk_fields_read_u8(&left, tk_room_u8_of(values, count));
+        tk_go_on_u8(fields, left);
+    }
+    if (read < count)
+        torkettle_next_u8(fields);
+    return read;
+}
+
+/* What a column is after a bad field. */
+torkettle_column_u8 torkettle_ended_u8(const torkettle_fields_u8 *fields) TORKETTLE_NOEXCEPT
+{
+    unsigned flags = TORKETTLE_SKIP_ZEROES | TORKETTLE_SKIP_PLUS;
+    torkettle_error error = torkettle_parse_error_u8(fields->text, fields->length, flags);
+    torkettle_column_u8 column = {fields->status, fields->index, fields->offset, *fields};
+    if (fields->status == TORKETTLE_INVALID)
+        column.offset += error.offset + error.count;
+    column.fields.rest_length = 0;
+    return column;
+}
+
+size_t torkettle_column_u8_read(torkettle_column_u8 *column, uint8_t *values, size_t count) TORKETTLE_NOEXCEPT
+{
+    size_t read = torkettle_fields_u8_read(&column->fields, values, count);
+    if (column->fields.status != TORKETTLE_OK)
+        *column = torkettle_ended_u8(&column->fields);
+    return read;
+}
+/* A slice that `quick_slice` does not read, in a function of its own: this one needs room for an error. */
+TK_NOINLINE torkettle_found_i16 tk_rest_of_whole_i16(const char *text, size_t length, unsigned flags)
+{
+    tk_bytes bytes = tk_text(text, length);
+    tk_option_i16 long_ = tk_long_slice_i16(bytes);
+    if (long_.is_some)
+        return TK_MAKE(torkettle_found_i16, long_.value, length);
+    tk_result_i16 found = tk_atoi_simd_parse_i16(bytes, TK_ZEROES, TK_PLUS);
+    if (!found.is_ok)
+        return TK_MAKE(torkettle_found_i16, TK_CAST(int16_t, tk_status_of(found.error)), 0);
+    return TK_MAKE(torkettle_found_i16, found.value, length);
+}
+
+TK_FAR torkettle_found_i16 torkettle_whole_i16(const char *text, size_t length, unsigned flags) TORKETTLE_NOEXCEPT
+{
+    tk_option_i16 quick = tk_quick_slice_i16(tk_text(text, length));
+    if (quick.is_some)
+        return TK_MAKE(torkettle_found_i16, quick.value, length);
+    return tk_rest_of_whole_i16(text, length, flags);
+}
+
+torkettle_found_i16 torkettle_prefix_i16(const char *text, size_t length, unsigned flags) TORKETTLE_NOEXCEPT
+{
+    tk_result_pair_i16_size found = tk_atoi_simd_parse_prefix_i16(tk_text(text, length), TK_ZEROES, TK_PLUS);
+    if (!found.is_ok)
+        return TK_MAKE(torkettle_found_i16, TK_CAST(int16_t, tk_status_of(found.error)), 0);
+    return TK_MAKE(torkettle_found_i16, found.value.first, found.value.second);
+}
+
+torkettle_found_i16 torkettle_whole_canonical_i16(const char *text, size_t length) TORKETTLE_NOEXCEPT
+{
+    tk_option_i16 found = tk_canonical_i16(tk_text(text, length));
+    return TK_MAKE(torkettle_found_i16, found.value, found.is_some ? length : 0);
+}
+
+torkettle_found_i16 torkettle_prefix_json_i16(const char *text, size_t length) TORKETTLE_NOEXCEPT
+{
+    tk_option_pair_i16_bytes found = tk_json_integer_i16(tk_text(text, length));
+    size_t count = found.is_some ? length - found.value.second.len : 0;
+    return TK_MAKE(torkettle_found_i16, found.value.first, count);
+}
+
+torkettle_status torkettle_parse_pos_i16(const char *text, size_t length, unsigned flags,
+                                         int16_t *value) TORKETTLE_NOEXCEPT
+{
+    tk_result_i16 found = tk_atoi_simd_parse_pos_i16(tk_text(text, length), TK_ZEROES);
+    if (!found.is_ok)
+        return tk_status_of(found.error);
+    *value = found.value;
+    return TORKETTLE_OK;
+}
+
+torkettle_status torkettle_parse_prefix_pos_i16(const char *text, size_t length, unsigned flags, int16_t *value,
+                                                size_t *count) TORKETTLE_NOEXCEPT
+{
+    tk_result_pair_i16_size found = tk_atoi_simd_parse_prefix_pos_i16(tk_text(text, length), TK_ZEROES);
+    if (!found.is_ok)
+        return tk_status_of(found.error);
+    *value = found.value.first;
+    *count = found.value.second;
+    return TORKETTLE_OK;
+}
+
+/* For programs that do not read the header. */
+torkettle_status torkettle_called_parse_i16(const char *text, size_t length, unsigned flags, int16_t *value)
+    TORKETTLE_SYMBOL_(parse_i16);
+torkettle_status torkettle_called_parse_prefix_i16(const char *text, size_t length, unsigned flags, int16_t *value,
+                                                   size_t *count) TORKETTLE_SYMBOL_(parse_prefix_i16);
+torkettle_status torkettle_called_parse_i16(const char *text, size_t length, unsigned flags,
+                                            int16_t *value) TORKETTLE_NOEXCEPT
+{
+    return torkettle_parse_i16(text, length, flags, value);
+}
+
+torkettle_status torkettle_called_parse_prefix_i16(const char *text, size_t length, unsigned flags, int16_t *value,
+                                                   size_t *count) TORKETTLE_NOEXCEPT
+{
+    torkettle_found_i16 found = torkettle_prefix_i16(text, length, flags);
+    if (found.length == 0)
+        return TK_CAST(torkettle_status, found.value);
+    *value = found.value;
+    *count = found.length;
+    return TORKETTLE_OK;
+}
+
+torkettle_error torkettle_parse_error_i16(const char *text, size_t length, unsigned flags) TORKETTLE_NOEXCEPT
+{
+    tk_bytes bytes = tk_text(text, length);
+    tk_result_i16 found = tk_atoi_simd_parse_i16(bytes, TK_ZEROES, TK_PLUS);
+    return found.is_ok ? TK_MAKE(torkettle_error, TORKETTLE_OK, 0, 0, 0, 0, 0) : tk_explained(found.error, bytes);
+}
+
+torkettle_error torkettle_parse_prefix_error_i16(const char *text, size_t length, unsigned flags) TORKETTLE_NOEXCEPT
+{
+    tk_bytes bytes = tk_text(text, length);
+    tk_result_pair_i16_size found = tk_atoi_simd_parse_prefix_i16(bytes, TK_ZEROES, TK_PLUS);
+    return found.is_ok ? TK_MAKE(torkettle_error, TORKETTLE_OK, 0, 0, 0, 0, 0) : tk_explained(found.error, bytes);
+}
+
+TK_INLINE tk_fields tk_left_i16(const torkettle_fields_i16 *fields)
+{
+    tk_bytes rest = tk_text(fields->rest, fields->rest_length);
+    return fields->is_lines ? tk_fields_lines(rest) : tk_fields_new(rest, TK_CAST(uint8_t, fields->separator));
+}
+
+TK_INLINE void tk_go_on_i16(torkettle_fields_i16 *fields, tk_fields left)
+{
+    tk_pair_size_size position = tk_fields_position(left);
+    fields->next_index += position.first;
+    fields->next_offset += position.second;
+    fields->rest += position.second;
+    fields->rest_length -= position.second;
+}
+
+TK_COLD void tk_refuse_field_i16(torkettle_fields_i16 *fields, tk_field_error bad)
+{
+    fields->status = tk_status_of(bad.cause);
+    fields->index = fields->next_index + bad.index;
+    fields->offset = fields->next_offset + bad.place;
+    fields->text = fields->rest + bad.place;
+    fields->length = bad.text.len;
+}
+
+/* Tells of the separator as of one bad field, after which the fields end. */
+TK_COLD void tk_refuse_separator_i16(torkettle_fields_i16 *fields)
+{
+    fields->status = TORKETTLE_INVALID;
+    fields->index = fields->offset = SIZE_MAX;
+    fields->text = NULL;
+    fields->length = fields->rest_length = 0;
+    fields->separator = ',';
+}
+
+torkettle_found_i16 torkettle_next_i16(torkettle_fields_i16 *fields) TORKETTLE_NOEXCEPT
+{
+    torkettle_found_i16 end = {0, 0}, bad = {0, 2};
+    if (!fields->is_lines && !tk_is_separator(TK_CAST(uint8_t, fields->separator))) {
+        tk_refuse_separator_i16(fields);
+        return bad;
+    }
+    fields->status = TORKETTLE_OK;
+    if (fields->rest_length == 0)
+        return end;
+    tk_fields left = tk_left_i16(fields);
+    tk_option_result_i16_field_error item = tk_fields_next_i16(&left);
+    if (!item.value.is_ok) {
+        tk_refuse_field_i16(fields, item.value.error);
+        tk_go_on_i16(fields, left);
+        return bad;
+    }
+    tk_go_on_i16(fields, left);
+    return TK_MAKE(torkettle_found_i16, item.value.value, 1);
+}
+
+size_t torkettle_fields_i16_read(torkettle_fields_i16 *fields, int16_t *values, size_t count) TORKETTLE_NOEXCEPT
+{
+    size_t read = 0;
+    fields->status = TORKETTLE_OK;
+    if (fields->rest_length > 0 && count > 0) {
+        tk_fields left = tk_left_i16(fields);
+        read = tk_fields_read_i16(&left, tk_room_i16_of(values, count));
+        tk_go_on_i16(fields, left);
+    }
+    if (read < count)
+        torkettle_next_i16(fields);
+    return read;
+}
+
+/* What a column is after a bad field. */
+torkettle_column_i16 torkettle_ended_i16(const torkettle_fields_i16 *fields) TORKETTLE_NOEXCEPT
+{
+    unsigned flags = TORKETTLE_SKIP_ZEROES | TORKETTLE_SKIP_PLUS;
+    torkettle_error error = torkettle_parse_error_i16(fields->text, fields->length, flags);
+    torkettle_column_i16 column = {fields->status, fields->index, fields->offset, *fields};
+    if (fields->status == TORKETTLE_INVALID)
+        column.offset += error.offset + error.count;
+    column.fields.rest_length = 0;
+    return column;
+}
+
+size_t torkettle_column_i16_read(torkettle_column_i16 *column, int16_t *values, size_t count) TORKETTLE_NOEXCEPT
+{
+    size_t read = torkettle_fields_i16_read(&column->fields, values, count);
+    if (column->fields.status != TORKETTLE_OK)
+        *column = torkettle_ended_i16(&column->fields);
+    return read;
+}
+/* A slice that `quick_slice` does not read, in a function of its own: this one needs room for an error. */
+TK_NOINLINE torkettle_found_u16 tk_rest_of_whole_u16(const char *text, size_t length, unsigned flags)
+{
+    tk_bytes bytes = tk_text(text, length);
+    tk_option_u16 long_ = tk_long_slice_u16(bytes);
+    if (long_.is_some)
+        return TK_MAKE(torkettle_found_u16, long_.value, length);
+    tk_result_u16 found = tk_atoi_simd_parse_u16(bytes, TK_ZEROES, TK_PLUS);
+    if (!found.is_ok)
+        return TK_MAKE(torkettle_found_u16, TK_CAST(uint16_t, tk_status_of(found.error)), 0);
+    return TK_MAKE(torkettle_found_u16, found.value, length);
+}
+
+TK_FAR torkettle_found_u16 torkettle_whole_u16(const char *text, size_t length, unsigned flags) TORKETTLE_NOEXCEPT
+{
+    tk_option_u16 quick = tk_quick_slice_u16(tk_text(text, length));
+    if (quick.is_some)
+        return TK_MAKE(torkettle_found_u16, quick.value, length);
+    return tk_rest_of_whole_u16(text, length, flags);
+}
+
+torkettle_found_u16 torkettle_prefix_u16(const char *text, size_t length, unsigned flags) TORKETTLE_NOEXCEPT
+{
+    tk_result_pair_u16_size found = tk_atoi_simd_parse_prefix_u16(tk_text(text, length), TK_ZEROES, TK_PLUS);
+    if (!found.is_ok)
+        return TK_MAKE(torkettle_found_u16, TK_CAST(uint16_t, tk_status_of(found.error)), 0);
+    return TK_MAKE(torkettle_found_u16, found.value.first, found.value.second);
+}
+
+torkettle_found_u16 torkettle_whole_canonical_u16(const char *text, size_t length) TORKETTLE_NOEXCEPT
+{
+    tk_option_u16 found = tk_canonical_u16(tk_text(text, length));
+    return TK_MAKE(torkettle_found_u16, found.value, found.is_some ? length : 0);
+}
+
+torkettle_found_u16 torkettle_prefix_json_u16(const char *text, size_t length) TORKETTLE_NOEXCEPT
+{
+    tk_option_pair_u16_bytes found = tk_json_integer_u16(tk_text(text, length));
+    size_t count = found.is_some ? length - found.value.second.len : 0;
+    return TK_MAKE(torkettle_found_u16, found.value.first, count);
+}
+
+torkettle_status torkettle_parse_pos_u16(const char *text, size_t length, unsigned flags,
+                                         uint16_t *value) TORKETTLE_NOEXCEPT
+{
+    tk_result_u16 found = tk_atoi_simd_parse_pos_u16(tk_text(text, length), TK_ZEROES);
+    if (!found.is_ok)
+        return tk_status_of(found.error);
+    *value = found.value;
+    return TORKETTLE_OK;
+}
+
+torkettle_status torkettle_parse_prefix_pos_u16(const char *text, size_t length, unsigned flags, uint16_t *value,
+                                                size_t *count) TORKETTLE_NOEXCEPT
+{
+    tk_result_pair_u16_size found = tk_atoi_simd_parse_prefix_pos_u16(tk_text(text, length), TK_ZEROES);
+    if (!found.is_ok)
+        return tk_status_of(found.error);
+    *value = found.value.first;
+    *count = found.value.second;
+    return TORKETTLE_OK;
+}
+
+/* For programs that do not read the header. */
+torkettle_status torkettle_called_parse_u16(const char *text, size_t length, unsigned flags, uint16_t *value)
+    TORKETTLE_SYMBOL_(parse_u16);
+torkettle_status torkettle_called_parse_prefix_u16(const char *text, size_t length, unsigned flags, uint16_t *value,
+                                                   size_t *count) TORKETTLE_SYMBOL_(parse_prefix_u16);
+torkettle_status torkettle_called_parse_u16(const char *text, size_t length, unsigned flags,
+                                            uint16_t *value) TORKETTLE_NOEXCEPT
+{
+    return torkettle_parse_u16(text, length, flags, value);
+}
+
+torkettle_status torkettle_called_parse_prefix_u16(const char *text, size_t length, unsigned flags, uint16_t *value,
+                                                   size_t *count) TORKETTLE_NOEXCEPT
+{
+    torkettle_found_u16 found = torkettle_prefix_u16(text, length, flags);
+    if (found.length == 0)
+        return TK_CAST(torkettle_status, found.value);
+    *value = found.value;
+    *count = found.length;
+    return TORKETTLE_OK;
+}
+
+torkettle_error torkettle_parse_error_u16(const char *text, size_t length, unsigned flags) TORKETTLE_NOEXCEPT
+{
+    tk_bytes bytes = tk_text(text, length);
+    tk_result_u16 found = tk_atoi_simd_parse_u16(bytes, TK_ZEROES, TK_PLUS);
+    return found.is_ok ? TK_MAKE(torkettle_error, TORKETTLE_OK, 0, 0, 0, 0, 0) : tk_explained(found.error, bytes);
+}
+
+torkettle_error torkettle_parse_prefix_error_u16(const char *text, size_t length, unsigned flags) TORKETTLE_NOEXCEPT
+{
+    tk_bytes bytes = tk_text(text, length);
+    tk_result_pair_u16_size found = tk_atoi_simd_parse_prefix_u16(bytes, TK_ZEROES, TK_PLUS);
+    return found.is_ok ? TK_MAKE(torkettle_error, TORKETTLE_OK, 0, 0, 0, 0, 0) : tk_explained(found.error, bytes);
+}
+
+TK_INLINE tk_fields tk_left_u16(const torkettle_fields_u16 *fields)
+{
+    tk_bytes rest = tk_text(fields->rest, fields->rest_length);
+    return fields->is_lines ? tk_fields_lines(rest) : tk_fields_new(rest, TK_CAST(uint8_t, fields->separator));
+}
+
+TK_INLINE void tk_go_on_u16(torkettle_fields_u16 *fields, tk_fields left)
+{
+    tk_pair_size_size position = tk_fields_position(left);
+    fields->next_index += position.first;
+    fields->next_offset += position.second;
+    fields->rest += position.second;
+    fields->rest_length -= position.second;
+}
+
+TK_COLD void tk_refuse_field_u16(torkettle_fields_u16 *fields, tk_field_error bad)
+{
+    fields->status = tk_status_of(bad.cause);
+    fields->index = fields->next_index + bad.index;
+    fields->offset = fields->next_offset + bad.place;
+    fields->text = fields->rest + bad.place;
+    fields->length = bad.text.len;
+}
+
+/* Tells of the separator as of one bad field, after which the fields end. */
+TK_COLD void tk_refuse_separator_u16(torkettle_fields_u16 *fields)
+{
+    fields->status = TORKETTLE_INVALID;
+    fields->index = fields->offset = SIZE_MAX;
+    fields->text = NULL;
+    fields->length = fields->rest_length = 0;
+    fields->separator = ',';
+}
+
+torkettle_found_u16 torkettle_next_u16(torkettle_fields_u16 *fields) TORKETTLE_NOEXCEPT
+{
+    torkettle_found_u16 end = {0, 0}, bad = {0, 2};
+    if (!fields->is_lines && !tk_is_separator(TK_CAST(uint8_t, fields->separator))) {
+        tk_refuse_separator_u16(fields);
+        return bad;
+    }
+    fields->status = TORKETTLE_OK;
+    if (fields->rest_length == 0)
+        return end;
+    tk_fields left = tk_left_u16(fields);
+    tk_option_result_u16_field_error item = tk_fields_next_u16(&left);
+    if (!item.value.is_ok) {
+        tk_refuse_field_u16(fields, item.value.error);
+        tk_go_on_u16(fields, left);
+        return bad;
+    }
+    tk_go_on_u16(fields, left);
+    return TK_MAKE(torkettle_found_u16, item.value.value, 1);
+}
+
+size_t torkettle_fields_u16_read(torkettle_fields_u16 *fields, uint16_t *values, size_t count) TORKETTLE_NOEXCEPT
+{
+    size_t read = 0;
+    fields->status = TORKETTLE_OK;
+    if (fields->rest_length > 0 && count > 0) {
+        tk_fields left = tk_left_u16(fields);
+        read = tk_fields_read_u16(&left, tk_room_u16_of(values, count));
+        tk_go_on_u16(fields, left);
+    }
+    if (read < count)
+        torkettle_next_u16(fields);
+    return read;
+}
+
+/* What a column is after a bad field. */
+torkettle_column_u16 torkettle_ended_u16(const torkettle_fields_u16 *fields) TORKETTLE_NOEXCEPT
+{
+    unsigned flags = TORKETTLE_SKIP_ZEROES | TORKETTLE_SKIP_PLUS;
+    torkettle_error error = torkettle_parse_error_u16(fields->text, fields->length, flags);
+    torkettle_column_u16 column = {fields->status, fields->index, fields->offset, *fields};
+    if (fields->status == TORKETTLE_INVALID)
+        column.offset += error.offset + error.count;
+    column.fields.rest_length = 0;
+    return column;
+}
+
+size_t torkettle_column_u16_read(torkettle_column_u16 *column, uint16_t *values, size_t count) TORKETTLE_NOEXCEPT
+{
+    size_t read = torkettle_fields_u16_read(&column->fields, values, count);
+    if (column->fields.status != TORKETTLE_OK)
+        *column = torkettle_ended_u16(&column->fields);
+    return read;
+}
+/* A slice that `quick_slice` does not read, in a function of its own: this one needs room for an error. */
+TK_NOINLINE torkettle_found_i32 tk_rest_of_whole_i32(const char *text, size_t length, unsigned flags)
+{
+    tk_bytes bytes = tk_text(text, length);
+    tk_option_i32 long_ = tk_long_slice_i32(bytes);
+    if (long_.is_some)
+        return TK_MAKE(torkettle_found_i32, long_.value, length);
+    tk_result_i32 found = tk_atoi_simd_parse_i32(bytes, TK_ZEROES, TK_PLUS);
+    if (!found.is_ok)
+        return TK_MAKE(torkettle_found_i32, TK_CAST(int32_t, tk_status_of(found.error)), 0);
+    return TK_MAKE(torkettle_found_i32, found.value, length);
+}
+
+TK_FAR torkettle_found_i32 torkettle_whole_i32(const char *text, size_t length, unsigned flags) TORKETTLE_NOEXCEPT
+{
+    tk_option_i32 quick = tk_quick_slice_i32(tk_text(text, length));
+    if (quick.is_some)
+        return TK_MAKE(torkettle_found_i32, quick.value, length);
+    return tk_rest_of_whole_i32(text, length, flags);
+}
+
+torkettle_found_i32 torkettle_prefix_i32(const char *text, size_t length, unsigned flags) TORKETTLE_NOEXCEPT
+{
+    tk_result_pair_i32_size found = tk_atoi_simd_parse_prefix_i32(tk_text(text, length), TK_ZEROES, TK_PLUS);
+    if (!found.is_ok)
+        return TK_MAKE(torkettle_found_i32, TK_CAST(int32_t, tk_status_of(found.error)), 0);
+    return TK_MAKE(torkettle_found_i32, found.value.first, found.value.second);
+}
+
+torkettle_found_i32 torkettle_whole_canonical_i32(const char *text, size_t length) TORKETTLE_NOEXCEPT
+{
+    tk_option_i32 found = tk_canonical_i32(tk_text(text, length));
+    return TK_MAKE(torkettle_found_i32, found.value, found.is_some ? length : 0);
+}
+
+torkettle_found_i32 torkettle_prefix_json_i32(const char *text, size_t length) TORKETTLE_NOEXCEPT
+{
+    tk_option_pair_i32_bytes found = tk_json_integer_i32(tk_text(text, length));
+    size_t count = found.is_some ? length - found.value.second.len : 0;
+    return TK_MAKE(torkettle_found_i32, found.value.first, count);
+}
+
+torkettle_status torkettle_parse_pos_i32(const char *text, size_t length, unsigned flags,
+                                         int32_t *value) TORKETTLE_NOEXCEPT
+{
+    tk_result_i32 found = tk_atoi_simd_parse_pos_i32(tk_text(text, length), TK_ZEROES);
+    if (!found.is_ok)
+        return tk_status_of(found.error);
+    *value = found.value;
+    return TORKETTLE_OK;
+}
+
+torkettle_status torkettle_parse_prefix_pos_i32(const char *text, size_t length, unsigned flags, int32_t *value,
+                                                size_t *count) TORKETTLE_NOEXCEPT
+{
+    tk_result_pair_i32_size found = tk_atoi_simd_parse_prefix_pos_i32(tk_text(text, length), TK_ZEROES);
+    if (!found.is_ok)
+        return tk_status_of(found.error);
+    *value = found.value.first;
+    *count = found.value.second;
+    return TORKETTLE_OK;
+}
+
+/* For programs that do not read the header. */
+torkettle_status torkettle_called_parse_i32(const char *text, size_t length, unsigned flags, int32_t *value)
+    TORKETTLE_SYMBOL_(parse_i32);
+torkettle_status torkettle_called_parse_prefix_i32(const char *text, size_t length, unsigned flags, int32_t *value,
+                                                   size_t *count) TORKETTLE_SYMBOL_(parse_prefix_i32);
+torkettle_status torkettle_called_parse_i32(const char *text, size_t length, unsigned flags,
+                                            int32_t *value) TORKETTLE_NOEXCEPT
+{
+    return torkettle_parse_i32(text, length, flags, value);
+}
+
+torkettle_status torkettle_called_parse_prefix_i32(const char *text, size_t length, unsigned flags, int32_t *value,
+                                                   size_t *count) TORKETTLE_NOEXCEPT
+{
+    torkettle_found_i32 found = torkettle_prefix_i32(text, length, flags);
+    if (found.length == 0)
+        return TK_CAST(torkettle_status, found.value);
+    *value = found.value;
+    *count = found.length;
+    return TORKETTLE_OK;
+}
+
+torkettle_error torkettle_parse_error_i32(const char *text, size_t length, unsigned flags) TORKETTLE_NOEXCEPT
+{
+    tk_bytes bytes = tk_text(text, length);
+    tk_result_i32 found = tk_atoi_simd_parse_i32(bytes, TK_ZEROES, TK_PLUS);
+    return found.is_ok ? TK_MAKE(torkettle_error, TORKETTLE_OK, 0, 0, 0, 0, 0) : tk_explained(found.error, bytes);
+}
+
+torkettle_error torkettle_parse_prefix_error_i32(const char *text, size_t length, unsigned flags) TORKETTLE_NOEXCEPT
+{
+    tk_bytes bytes = tk_text(text, length);
+    tk_result_pair_i32_size found = tk_atoi_simd_parse_prefix_i32(bytes, TK_ZEROES, TK_PLUS);
+    return found.is_ok ? TK_MAKE(torkettle_error, TORKETTLE_OK, 0, 0, 0, 0, 0) : tk_explained(found.error, bytes);
+}
+
+TK_INLINE tk_fields tk_left_i32(const torkettle_fields_i32 *fields)
+{
+    tk_bytes rest = tk_text(fields->rest, fields->rest_length);
+    return fields->is_lines ? tk_fields_lines(rest) : tk_fields_new(rest, TK_CAST(uint8_t, fields->separator));
+}
+
+TK_INLINE void tk_go_on_i32(torkettle_fields_i32 *fields, tk_fields left)
+{
+    tk_pair_size_size position = tk_fields_position(left);
+    fields->next_index += position.first;
+    fields->next_offset += position.second;
+    fields->rest += position.second;
+    fields->rest_length -= position.second;
+}
+
+TK_COLD void tk_refuse_field_i32(torkettle_fields_i32 *fields, tk_field_error bad)
+{
+    fields->status = tk_status_of(bad.cause);
+    fields->index = fields->next_index + bad.index;
+    fields->offset = fields->next_offset + bad.place;
+    fields->text = fields->rest + bad.place;
+    fields->length = bad.text.len;
+}
+
+/* Tells of the separator as of one bad field, after which the fields end. */
+TK_COLD void tk_refuse_separator_i32(torkettle_fields_i32 *fields)
+{
+    fields->status = TORKETTLE_INVALID;
+    fields->index = fields->offset = SIZE_MAX;
+    fields->text = NULL;
+    fields->length = fields->rest_length = 0;
+    fields->separator = ',';
+}
+
+torkettle_found_i32 torkettle_next_i32(torkettle_fields_i32 *fields) TORKETTLE_NOEXCEPT
+{
+    torkettle_found_i32 end = {0, 0}, bad = {0, 2};
+    if (!fields->is_lines && !tk_is_separator(TK_CAST(uint8_t, fields->separator))) {
+        tk_refuse_separator_i32(fields);
+        return bad;
+    }
+    fields->status = TORKETTLE_OK;
+    if (fields->rest_length == 0)
+        return end;
+    tk_fields left = tk_left_i32(fields);
+    tk_option_result_i32_field_error item = tk_fields_next_i32(&left);
+    if (!item.value.is_ok) {
+        tk_refuse_field_i32(fields, item.value.error);
+        tk_go_on_i32(fields, left);
+        return bad;
+    }
+    tk_go_on_i32(fields, left);
+    return TK_MAKE(torkettle_found_i32, item.value.value, 1);
+}
+
+size_t torkettle_fields_i32_read(torkettle_fields_i32 *fields, int32_t *values, size_t count) TORKETTLE_NOEXCEPT
+{
+    size_t read = 0;
+    fields->status = TORKETTLE_OK;
+    if (fields->rest_length > 0 && count > 0) {
+        tk_fields left = tk_left_i32(fields);
+        read = tk_fields_read_i32(&left, tk_room_i32_of(values, count));
+        tk_go_on_i32(fields, left);
+    }
+    if (read < count)
+        torkettle_next_i32(fields);
+    return read;
+}
+
+/* What a column is after a bad field. */
+torkettle_column_i32 torkettle_ended_i32(const torkettle_fields_i32 *fields) TORKETTLE_NOEXCEPT
+{
+    unsigned flags = TORKETTLE_SKIP_ZEROES | TORKETTLE_SKIP_PLUS;
+    torkettle_error error = torkettle_parse_error_i32(fields->text, fields->length, flags);
+    torkettle_column_i32 column = {fields->status, fields->index, fields->offset, *fields};
+    if (fields->status == TORKETTLE_INVALID)
+        column.offset += error.offset + error.count;
+    column.fields.rest_length = 0;
+    return column;
+}
+
+size_t torkettle_column_i32_read(torkettle_column_i32 *column, int32_t *values, size_t count) TORKETTLE_NOEXCEPT
+{
+    size_t read = torkettle_fields_i32_read(&column->fields, values, count);
+    if (column->fields.status != TORKETTLE_OK)
+        *column = torkettle_ended_i32(&column->fields);
+    return read;
+}
+/* A slice that `quick_slice` does not read, in a function of its own: this one needs room for an error. */
+TK_NOINLINE torkettle_found_u32 tk_rest_of_whole_u32(const char *text, size_t length, unsigned flags)
+{
+    tk_bytes bytes = tk_text(text, length);
+    tk_option_u32 long_ = tk_long_slice_u32(bytes);
+    if (long_.is_some)
+        return TK_MAKE(torkettle_found_u32, long_.value, length);
+    tk_result_u32 found = tk_atoi_simd_parse_u32(bytes, TK_ZEROES, TK_PLUS);
+    if (!found.is_ok)
+        return TK_MAKE(torkettle_found_u32, TK_CAST(uint32_t, tk_status_of(found.error)), 0);
+    return TK_MAKE(torkettle_found_u32, found.value, length);
+}
+
+TK_FAR torkettle_found_u32 torkettle_whole_u32(const char *text, size_t length, unsigned flags) TORKETTLE_NOEXCEPT
+{
+    tk_option_u32 quick = tk_quick_slice_u32(tk_text(text, length));
+    if (quick.is_some)
+        return TK_MAKE(torkettle_found_u32, quick.value, length);
+    return tk_rest_of_whole_u32(text, length, flags);
+}
+
+torkettle_found_u32 torkettle_prefix_u32(const char *text, size_t length, unsigned flags) TORKETTLE_NOEXCEPT
+{
+    tk_result_pair_u32_size found = tk_atoi_simd_parse_prefix_u32(tk_text(text, length), TK_ZEROES, TK_PLUS);
+    if (!found.is_ok)
+        return TK_MAKE(torkettle_found_u32, TK_CAST(uint32_t, tk_status_of(found.error)), 0);
+    return TK_MAKE(torkettle_found_u32, found.value.first, found.value.second);
+}
+
+torkettle_found_u32 torkettle_whole_canonical_u32(const char *text, size_t length) TORKETTLE_NOEXCEPT
+{
+    tk_option_u32 found = tk_canonical_u32(tk_text(text, length));
+    return TK_MAKE(torkettle_found_u32, found.value, found.is_some ? length : 0);
+}
+
+torkettle_found_u32 torkettle_prefix_json_u32(const char *text, size_t length) TORKETTLE_NOEXCEPT
+{
+    tk_option_pair_u32_bytes found = tk_json_integer_u32(tk_text(text, length));
+    size_t count = found.is_some ? length - found.value.second.len : 0;
+    return TK_MAKE(torkettle_found_u32, found.value.first, count);
+}
+
+torkettle_status torkettle_parse_pos_u32(const char *text, size_t length, unsigned flags,
+                                         uint32_t *value) TORKETTLE_NOEXCEPT
+{
+    tk_result_u32 found = tk_atoi_simd_parse_pos_u32(tk_text(text, length), TK_ZEROES);
+    if (!found.is_ok)
+        return tk_status_of(found.error);
+    *value = found.value;
+    return TORKETTLE_OK;
+}
+
+torkettle_status torkettle_parse_prefix_pos_u32(const char *text, size_t length, unsigned flags, uint32_t *value,
+                                                size_t *count) TORKETTLE_NOEXCEPT
+{
+    tk_result_pair_u32_size found = tk_atoi_simd_parse_prefix_pos_u32(tk_text(text, length), TK_ZEROES);
+    if (!found.is_ok)
+        return tk_status_of(found.error);
+    *value = found.value.first;
+    *count = found.value.second;
+    return TORKETTLE_OK;
+}
+
+/* For programs that do not read the header. */
+torkettle_status torkettle_called_parse_u32(const char *text, size_t length, unsigned flags, uint32_t *value)
+    TORKETTLE_SYMBOL_(parse_u32);
+torkettle_status torkettle_called_parse_prefix_u32(const char *text, size_t length, unsigned flags, uint32_t *value,
+                                                   size_t *count) TORKETTLE_SYMBOL_(parse_prefix_u32);
+torkettle_status torkettle_called_parse_u32(const char *text, size_t length, unsigned flags,
+                                            uint32_t *value) TORKETTLE_NOEXCEPT
+{
+    return torkettle_parse_u32(text, length, flags, value);
+}
+
+torkettle_status torkettle_called_parse_prefix_u32(const char *text, size_t length, unsigned flags, uint32_t *value,
+                                                   size_t *count) TORKETTLE_NOEXCEPT
+{
+    torkettle_found_u32 found = torkettle_prefix_u32(text, length, flags);
+    if (found.length == 0)
+        return TK_CAST(torkettle_status, found.value);
+    *value = found.value;
+    *count = found.length;
+    return TORKETTLE_OK;
+}
+
+torkettle_error torkettle_parse_error_u32(const char *text, size_t length, unsigned flags) TORKETTLE_NOEXCEPT
+{
+    tk_bytes bytes = tk_text(text, length);
+    tk_result_u32 found = tk_atoi_simd_parse_u32(bytes, TK_ZEROES, TK_PLUS);
+    return found.is_ok ? TK_MAKE(torkettle_error, TORKETTLE_OK, 0, 0, 0, 0, 0) : tk_explained(found.error, bytes);
+}
+
+torkettle_error torkettle_parse_prefix_error_u32(const char *text, size_t length, unsigned flags) TORKETTLE_NOEXCEPT
+{
+    tk_bytes bytes = tk_text(text, length);
+    tk_result_pair_u32_size found = tk_atoi_simd_parse_prefix_u32(bytes, TK_ZEROES, TK_PLUS);
+    return found.is_ok ? TK_MAKE(torkettle_error, TORKETTLE_OK, 0, 0, 0, 0, 0) : tk_explained(found.error, bytes);
+}
+
+TK_INLINE tk_fields tk_left_u32(const torkettle_fields_u32 *fields)
+{
+    tk_bytes rest = tk_text(fields->rest, fields->rest_length);
+    return fields->is_lines ? tk_fields_lines(rest) : tk_fields_new(rest, TK_CAST(uint8_t, fields->separator));
+}
+
+TK_INLINE void tk_go_on_u32(torkettle_fields_u32 *fields, tk_fields left)
+{
+    tk_pair_size_size position = tk_fields_position(left);
+    fields->next_index += position.first;
+    fields->next_offset += position.second;
+    fields->rest += position.second;
+    fields->rest_length -= position.second;
+}
+
+TK_COLD void tk_refuse_field_u32(torkettle_fields_u32 *fields, tk_field_error bad)
+{
+    fields->status = tk_status_of(bad.cause);
+    fields->index = fields->next_index + bad.index;
+    fields->offset = fields->next_offset + bad.place;
+    fields->text = fields->rest + bad.place;
+    fields->length = bad.text.len;
+}
+
+/* Tells of the separator as of one bad field, after which the fields end. */
+TK_COLD void tk_refuse_separator_u32(torkettle_fields_u32 *fields)
+{
+    fields->status = TORKETTLE_INVALID;
+    fields->index = fields->offset = SIZE_MAX;
+    fields->text = NULL;
+    fields->length = fields->rest_length = 0;
+    fields->separator = ',';
+}
+
+torkettle_found_u32 torkettle_next_u32(torkettle_fields_u32 *fields) TORKETTLE_NOEXCEPT
+{
+    torkettle_found_u32 end = {0, 0}, bad = {0, 2};
+    if (!fields->is_lines && !tk_is_separator(TK_CAST(uint8_t, fields->separator))) {
+        tk_refuse_separator_u32(fields);
+        return bad;
+    }
+    fields->status = TORKETTLE_OK;
+    if (fields->rest_length == 0)
+        return end;
+    tk_fields left = tk_left_u32(fields);
+    tk_option_result_u32_field_error item = tk_fields_next_u32(&left);
+    if (!item.value.is_ok) {
+        tk_refuse_field_u32(fields, item.value.error);
+        tk_go_on_u32(fields, left);
+        return bad;
+    }
+    tk_go_on_u32(fields, left);
+    return TK_MAKE(torkettle_found_u32, item.value.value, 1);
+}
+
+size_t torkettle_fields_u32_read(torkettle_fields_u32 *fields, uint32_t *values, size_t count) TORKETTLE_NOEXCEPT
+{
+    size_t read = 0;
+    fields->status = TORKETTLE_OK;
+    if (fields->rest_length > 0 && count > 0) {
+        tk_fields left = tk_left_u32(fields);
+        read = tk_fields_read_u32(&left, tk_room_u32_of(values, count));
+        tk_go_on_u32(fields, left);
+    }
+    if (read < count)
+        torkettle_next_u32(fields);
+    return read;
+}
+
+/* What a column is after a bad field. */
+torkettle_column_u32 torkettle_ended_u32(const torkettle_fields_u32 *fields) TORKETTLE_NOEXCEPT
+{
+    unsigned flags = TORKETTLE_SKIP_ZEROES | TORKETTLE_SKIP_PLUS;
+    torkettle_error error = torkettle_parse_error_u32(fields->text, fields->length, flags);
+    torkettle_column_u32 column = {fields->status, fields->index, fields->offset, *fields};
+    if (fields->status == TORKETTLE_INVALID)
+        column.offset += error.offset + error.count;
+    column.fields.rest_length = 0;
+    return column;
+}
+
+size_t torkettle_column_u32_read(torkettle_column_u32 *column, uint32_t *values, size_t count) TORKETTLE_NOEXCEPT
+{
+    size_t read = torkettle_fields_u32_read(&column->fields, values, count);
+    if (column->fields.status != TORKETTLE_OK)
+        *column = torkettle_ended_u32(&column->fields);
+    return read;
+}
+/* A slice that `quick_slice` does not read, in a function of its own: this one needs room for an error. */
+TK_NOINLINE torkettle_found_i64 tk_rest_of_whole_i64(const char *text, size_t length, unsigned flags)
+{
+    tk_bytes bytes = tk_text(text, length);
+    tk_option_i64 long_ = tk_long_slice_i64(bytes);
+    if (long_.is_some)
+        return TK_MAKE(torkettle_found_i64, long_.value, length);
+    tk_result_i64 found = tk_atoi_simd_parse_i64(bytes, TK_ZEROES, TK_PLUS);
+    if (!found.is_ok)
+        return TK_MAKE(torkettle_found_i64, TK_CAST(int64_t, tk_status_of(found.error)), 0);
+    return TK_MAKE(torkettle_found_i64, found.value, length);
+}
+
+TK_FAR torkettle_found_i64 torkettle_whole_i64(const char *text, size_t length, unsigned flags) TORKETTLE_NOEXCEPT
+{
+    tk_option_i64 quick = tk_quick_slice_i64(tk_text(text, length));
+    if (quick.is_some)
+        return TK_MAKE(torkettle_found_i64, quick.value, length);
+    return tk_rest_of_whole_i64(text, length, flags);
+}
+
+torkettle_found_i64 torkettle_prefix_i64(const char *text, size_t length, unsigned flags) TORKETTLE_NOEXCEPT
+{
+    tk_result_pair_i64_size found = tk_atoi_simd_parse_prefix_i64(tk_text(text, length), TK_ZEROES, TK_PLUS);
+    if (!found.is_ok)
+        return TK_MAKE(torkettle_found_i64, TK_CAST(int64_t, tk_status_of(found.error)), 0);
+    return TK_MAKE(torkettle_found_i64, found.value.first, found.value.second);
+}
+
+torkettle_found_i64 torkettle_whole_canonical_i64(const char *text, size_t length) TORKETTLE_NOEXCEPT
+{
+    tk_option_i64 found = tk_canonical_i64(tk_text(text, length));
+    return TK_MAKE(torkettle_found_i64, found.value, found.is_some ? length : 0);
+}
+
+torkettle_found_i64 torkettle_prefix_json_i64(const char *text, size_t length) TORKETTLE_NOEXCEPT
+{
+    tk_option_pair_i64_bytes found = tk_json_integer_i64(tk_text(text, length));
+    size_t count = found.is_some ? length - found.value.second.len : 0;
+    return TK_MAKE(torkettle_found_i64, found.value.first, count);
+}
+
+torkettle_status torkettle_parse_pos_i64(const char *text, size_t length, unsigned flags,
+                                         int64_t *value) TORKETTLE_NOEXCEPT
+{
+    tk_result_i64 found = tk_atoi_simd_parse_pos_i64(tk_text(text, length), TK_ZEROES);
+    if (!found.is_ok)
+        return tk_status_of(found.error);
+    *value = found.value;
+    return TORKETTLE_OK;
+}
+
+torkettle_status torkettle_parse_prefix_pos_i64(const char *text, size_t length, unsigned flags, int64_t *value,
+                                                size_t *count) TORKETTLE_NOEXCEPT
+{
+    tk_result_pair_i64_size found = tk_atoi_simd_parse_prefix_pos_i64(tk_text(text, length), TK_ZEROES);
+    if (!found.is_ok)
+        return tk_status_of(found.error);
+    *value = found.value.first;
+    *count = found.value.second;
+    return TORKETTLE_OK;
+}
+
+/* For programs that do not read the header. */
+torkettle_status torkettle_called_parse_i64(const char *text, size_t length, unsigned flags, int64_t *value)
+    TORKETTLE_SYMBOL_(parse_i64);
+torkettle_status torkettle_called_parse_prefix_i64(const char *text, size_t length, unsigned flags, int64_t *value,
+                                                   size_t *count) TORKETTLE_SYMBOL_(parse_prefix_i64);
+torkettle_status torkettle_called_parse_i64(const char *text, size_t length, unsigned flags,
+                                            int64_t *value) TORKETTLE_NOEXCEPT
+{
+    return torkettle_parse_i64(text, length, flags, value);
+}
+
+torkettle_status torkettle_called_parse_prefix_i64(const char *text, size_t length, unsigned flags, int64_t *value,
+                                                   size_t *count) TORKETTLE_NOEXCEPT
+{
+    torkettle_found_i64 found = torkettle_prefix_i64(text, length, flags);
+    if (found.length == 0)
+        return TK_CAST(torkettle_status, found.value);
+    *value = found.value;
+    *count = found.length;
+    return TORKETTLE_OK;
+}
+
+torkettle_error torkettle_parse_error_i64(const char *text, size_t length, unsigned flags) TORKETTLE_NOEXCEPT
+{
+    tk_bytes bytes = tk_text(text, length);
+    tk_result_i64 found = tk_atoi_simd_parse_i64(bytes, TK_ZEROES, TK_PLUS);
+    return found.is_ok ? TK_MAKE(torkettle_error, TORKETTLE_OK, 0, 0, 0, 0, 0) : tk_explained(found.error, bytes);
+}
+
+torkettle_error torkettle_parse_prefix_error_i64(const char *text, size_t length, unsigned flags) TORKETTLE_NOEXCEPT
+{
+    tk_bytes bytes = tk_text(text, length);
+    tk_result_pair_i64_size found = tk_atoi_simd_parse_prefix_i64(bytes, TK_ZEROES, TK_PLUS);
+    return found.is_ok ? TK_MAKE(torkettle_error, TORKETTLE_OK, 0, 0, 0, 0, 0) : tk_explained(found.error, bytes);
+}
+
+TK_INLINE tk_fields tk_left_i64(const torkettle_fields_i64 *fields)
+{
+    tk_bytes rest = tk_text(fields->rest, fields->rest_length);
+    return fields->is_lines ? tk_fields_lines(rest) : tk_fields_new(rest, TK_CAST(uint8_t, fields->separator));
+}
+
+TK_INLINE void tk_go_on_i64(torkettle_fields_i64 *fields, tk_fields left)
+{
+    tk_pair_size_size position = tk_fields_position(left);
+    fields->next_index += position.first;
+    fields->next_offset += position.second;
+    fields->rest += position.second;
+    fields->rest_length -= position.second;
+}
+
+TK_COLD void tk_refuse_field_i64(torkettle_fields_i64 *fields, tk_field_error bad)
+{
+    fields->status = tk_status_of(bad.cause);
+    fields->index = fields->next_index + bad.index;
+    fields->offset = fields->next_offset + bad.place;
+    fields->text = fields->rest + bad.place;
+    fields->length = bad.text.len;
+}
+
+/* Tells of the separator as of one bad field, after which the fields end. */
+TK_COLD void tk_refuse_separator_i64(torkettle_fields_i64 *fields)
+{
+    fields->status = TORKETTLE_INVALID;
+    fields->index = fields->offset = SIZE_MAX;
+    fields->text = NULL;
+    fields->length = fields->rest_length = 0;
+    fields->separator = ',';
+}
+
+torkettle_found_i64 torkettle_next_i64(torkettle_fields_i64 *fields) TORKETTLE_NOEXCEPT
+{
+    torkettle_found_i64 end = {0, 0}, bad = {0, 2};
+    if (!fields->is_lines && !tk_is_separator(TK_CAST(uint8_t, fields->separator))) {
+        tk_refuse_separator_i64(fields);
+        return bad;
+    }
+    fields->status = TORKETTLE_OK;
+    if (fields->rest_length == 0)
+        return end;
+    tk_fields left = tk_left_i64(fields);
+    tk_option_result_i64_field_error item = tk_fields_next_i64(&left);
+    if (!item.value.is_ok) {
+        tk_refuse_field_i64(fields, item.value.error);
+        tk_go_on_i64(fields, left);
+        return bad;
+    }
+    tk_go_on_i64(fields, left);
+    return TK_MAKE(torkettle_found_i64, item.value.value, 1);
+}
+
+size_t torkettle_fields_i64_read(torkettle_fields_i64 *fields, int64_t *values, size_t count) TORKETTLE_NOEXCEPT
+{
+    size_t read = 0;
+    fields->status = TORKETTLE_OK;
+    if (fields->rest_length > 0 && count > 0) {
+        tk_fields left = tk_left_i64(fields);
+        read = tk_fields_read_i64(&left, tk_room_i64_of(values, count));
+        tk_go_on_i64(fields, left);
+    }
+    if (read < count)
+        torkettle_next_i64(fields);
+    return read;
+}
+
+/* What a column is after a bad field. */
+torkettle_column_i64 torkettle_ended_i64(const torkettle_fields_i64 *fields) TORKETTLE_NOEXCEPT
+{
+    unsigned flags = TORKETTLE_SKIP_ZEROES | TORKETTLE_SKIP_PLUS;
+    torkettle_error error = torkettle_parse_error_i64(fields->text, fields->length, flags);
+    torkettle_column_i64 column = {fields->status, fields->index, fields->offset, *fields};
+    if (fields->status == TORKETTLE_INVALID)
+        column.offset += error.offset + error.count;
+    column.fields.rest_length = 0;
+    return column;
+}
+
+size_t torkettle_column_i64_read(torkettle_column_i64 *column, int64_t *values, size_t count) TORKETTLE_NOEXCEPT
+{
+    size_t read = torkettle_fields_i64_read(&column->fields, values, count);
+    if (column->fields.status != TORKETTLE_OK)
+        *column = torkettle_ended_i64(&column->fields);
+    return read;
+}
+/* A slice that `quick_slice` does not read, in a function of its own: this one needs room for an error. */
+TK_NOINLINE torkettle_found_u64 tk_rest_of_whole_u64(const char *text, size_t length, unsigned flags)
+{
+    tk_bytes bytes = tk_text(text, length);
+    tk_option_u64 long_ = tk_long_slice_u64(bytes);
+    if (long_.is_some)
+        return TK_MAKE(torkettle_found_u64, long_.value, length);
+    tk_result_u64 found = tk_atoi_simd_parse_u64(bytes, TK_ZEROES, TK_PLUS);
+    if (!found.is_ok)
+        return TK_MAKE(torkettle_found_u64, TK_CAST(uint64_t, tk_status_of(found.error)), 0);
+    return TK_MAKE(torkettle_found_u64, found.value, length);
+}
+
+TK_FAR torkettle_found_u64 torkettle_whole_u64(const char *text, size_t length, unsigned flags) TORKETTLE_NOEXCEPT
+{
+    tk_option_u64 quick = tk_quick_slice_u64(tk_text(text, length));
+    if (quick.is_some)
+        return TK_MAKE(torkettle_found_u64, quick.value, length);
+    return tk_rest_of_whole_u64(text, length, flags);
+}
+
+torkettle_found_u64 torkettle_prefix_u64(const char *text, size_t length, unsigned flags) TORKETTLE_NOEXCEPT
+{
+    tk_result_pair_u64_size found = tk_atoi_simd_parse_prefix_u64(tk_text(text, length), TK_ZEROES, TK_PLUS);
+    if (!found.is_ok)
+        return TK_MAKE(torkettle_found_u64, TK_CAST(uint64_t, tk_status_of(found.error)), 0);
+    return TK_MAKE(torkettle_found_u64, found.value.first, found.value.second);
+}
+
+torkettle_found_u64 torkettle_whole_canonical_u64(const char *text, size_t length) TORKETTLE_NOEXCEPT
+{
+    tk_option_u64 found = tk_canonical_u64(tk_text(text, length));
+    return TK_MAKE(torkettle_found_u64, found.value, found.is_some ? length : 0);
+}
+
+torkettle_found_u64 torkettle_prefix_json_u64(const char *text, size_t length) TORKETTLE_NOEXCEPT
+{
+    tk_option_pair_u64_bytes found = tk_json_integer_u64(tk_text(text, length));
+    size_t count = found.is_some ? length - found.value.second.len : 0;
+    return TK_MAKE(torkettle_found_u64, found.value.first, count);
+}
+
+torkettle_status torkettle_parse_pos_u64(const char *text, size_t length, unsigned flags,
+                                         uint64_t *value) TORKETTLE_NOEXCEPT
+{
+    tk_result_u64 found = tk_atoi_simd_parse_pos_u64(tk_text(text, length), TK_ZEROES);
+    if (!found.is_ok)
+        return tk_status_of(found.error);
+    *value = found.value;
+    return TORKETTLE_OK;
+}
+
+torkettle_status torkettle_parse_prefix_pos_u64(const char *text, size_t length, unsigned flags, uint64_t *value,
+                                                size_t *count) TORKETTLE_NOEXCEPT
+{
+    tk_result_pair_u64_size found = tk_atoi_simd_parse_prefix_pos_u64(tk_text(text, length), TK_ZEROES);
+    if (!found.is_ok)
+        return tk_status_of(found.error);
+    *value = found.value.first;
+    *count = found.value.second;
+    return TORKETTLE_OK;
+}
+
+/* For programs that do not read the header. */
+torkettle_status torkettle_called_parse_u64(const char *text, size_t length, unsigned flags, uint64_t *value)
+    TORKETTLE_SYMBOL_(parse_u64);
+torkettle_status torkettle_called_parse_prefix_u64(const char *text, size_t length, unsigned flags, uint64_t *value,
+                                                   size_t *count) TORKETTLE_SYMBOL_(parse_prefix_u64);
+torkettle_status torkettle_called_parse_u64(const char *text, size_t length, unsigned flags,
+                                            uint64_t *value) TORKETTLE_NOEXCEPT
+{
+    return torkettle_parse_u64(text, length, flags, value);
+}
+
+torkettle_status torkettle_called_parse_prefix_u64(const char *text, size_t length, unsigned flags, uint64_t *value,
+                                                   size_t *count) TORKETTLE_NOEXCEPT
+{
+    torkettle_found_u64 found = torkettle_prefix_u64(text, length, flags);
+    if (found.length == 0)
+        return TK_CAST(torkettle_status, found.value);
+    *value = found.value;
+    *count = found.length;
+    return TORKETTLE_OK;
+}
+
+torkettle_error torkettle_parse_error_u64(const char *text, size_t length, unsigned flags) TORKETTLE_NOEXCEPT
+{
+    tk_bytes bytes = tk_text(text, length);
+    tk_result_u64 found = tk_atoi_simd_parse_u64(bytes, TK_ZEROES, TK_PLUS);
+    return found.is_ok ? TK_MAKE(torkettle_error, TORKETTLE_OK, 0, 0, 0, 0, 0) : tk_explained(found.error, bytes);
+}
+
+torkettle_error torkettle_parse_prefix_error_u64(const char *text, size_t length, unsigned flags) TORKETTLE_NOEXCEPT
+{
+    tk_bytes bytes = tk_text(text, length);
+    tk_result_pair_u64_size found = tk_atoi_simd_parse_prefix_u64(bytes, TK_ZEROES, TK_PLUS);
+    return found.is_ok ? TK_MAKE(torkettle_error, TORKETTLE_OK, 0, 0, 0, 0, 0) : tk_explained(found.error, bytes);
+}
+
+TK_INLINE tk_fields tk_left_u64(const torkettle_fields_u64 *fields)
+{
+    tk_bytes rest = tk_text(fields->rest, fields->rest_length);
+    return fields->is_lines ? tk_fields_lines(rest) : tk_fields_new(rest, TK_CAST(uint8_t, fields->separator));
+}
+
+TK_INLINE void tk_go_on_u64(torkettle_fields_u64 *fields, tk_fields left)
+{
+    tk_pair_size_size position = tk_fields_position(left);
+    fields->next_index += position.first;
+    fields->next_offset += position.second;
+    fields->rest += position.second;
+    fields->rest_length -= position.second;
+}
+
+TK_COLD void tk_refuse_field_u64(torkettle_fields_u64 *fields, tk_field_error bad)
+{
+    fields->status = tk_status_of(bad.cause);
+    fields->index = fields->next_index + bad.index;
+    fields->offset = fields->next_offset + bad.place;
+    fields->text = fields->rest + bad.place;
+    fields->length = bad.text.len;
+}
+
+/* Tells of the separator as of one bad field, after which the fields end. */
+TK_COLD void tk_refuse_separator_u64(torkettle_fields_u64 *fields)
+{
+    fields->status = TORKETTLE_INVALID;
+    fields->index = fields->offset = SIZE_MAX;
+    fields->text = NULL;
+    fields->length = fields->rest_length = 0;
+    fields->separator = ',';
+}
+
+torkettle_found_u64 torkettle_next_u64(torkettle_fields_u64 *fields) TORKETTLE_NOEXCEPT
+{
+    torkettle_found_u64 end = {0, 0}, bad = {0, 2};
+    if (!fields->is_lines && !tk_is_separator(TK_CAST(uint8_t, fields->separator))) {
+        tk_refuse_separator_u64(fields);
+        return bad;
+    }
+    fields->status = TORKETTLE_OK;
+    if (fields->rest_length == 0)
+        return end;
+    tk_fields left = tk_left_u64(fields);
+    tk_option_result_u64_field_error item = tk_fields_next_u64(&left);
+    if (!item.value.is_ok) {
+        tk_refuse_field_u64(fields, item.value.error);
+        tk_go_on_u64(fields, left);
+        return bad;
+    }
+    tk_go_on_u64(fields, left);
+    return TK_MAKE(torkettle_found_u64, item.value.value, 1);
+}
+
+size_t torkettle_fields_u64_read(torkettle_fields_u64 *fields, uint64_t *values, size_t count) TORKETTLE_NOEXCEPT
+{
+    size_t read = 0;
+    fields->status = TORKETTLE_OK;
+    if (fields->rest_length > 0 && count > 0) {
+        tk_fields left = tk_left_u64(fields);
+        read = tk_fields_read_u64(&left, tk_room_u64_of(values, count));
+        tk_go_on_u64(fields, left);
+    }
+    if (read < count)
+        torkettle_next_u64(fields);
+    return read;
+}
+
+/* What a column is after a bad field. */
+torkettle_column_u64 torkettle_ended_u64(const torkettle_fields_u64 *fields) TORKETTLE_NOEXCEPT
+{
+    unsigned flags = TORKETTLE_SKIP_ZEROES | TORKETTLE_SKIP_PLUS;
+    torkettle_error error = torkettle_parse_error_u64(fields->text, fields->length, flags);
+    torkettle_column_u64 column = {fields->status, fields->index, fields->offset, *fields};
+    if (fields->status == TORKETTLE_INVALID)
+        column.offset += error.offset + error.count;
+    column.fields.rest_length = 0;
+    return column;
+}
+
+size_t torkettle_column_u64_read(torkettle_column_u64 *column, uint64_t *values, size_t count) TORKETTLE_NOEXCEPT
+{
+    size_t read = torkettle_fields_u64_read(&column->fields, values, count);
+    if (column->fields.status != TORKETTLE_OK)
+        *column = torkettle_ended_u64(&column->fields);
+    return read;
+}
+#if defined __SIZEOF_INT128__ && !defined TORKETTLE_NO_INT128
+/* A slice that `quick_slice` does not read, in a function of its own: this one needs room for an error. */
+TK_NOINLINE torkettle_found_i128 tk_rest_of_whole_i128(const char *text, size_t length, unsigned flags)
+{
+    tk_bytes bytes = tk_text(text, length);
+    tk_option_i128 long_ = tk_long_slice_i128(bytes);
+    if (long_.is_some)
+        return TK_MAKE(torkettle_found_i128, long_.value, length);
+    tk_result_i128 found = tk_atoi_simd_parse_i128(bytes, TK_ZEROES, TK_PLUS);
+    if (!found.is_ok)
+        return TK_MAKE(torkettle_found_i128, TK_CAST(torkettle_i128, tk_status_of(found.error)), 0);
+    return TK_MAKE(torkettle_found_i128, found.value, length);
+}
+
+TK_FAR torkettle_found_i128 torkettle_whole_i128(const char *text, size_t length, unsigned flags) TORKETTLE_NOEXCEPT
+{
+    tk_option_i128 quick = tk_quick_slice_i128(tk_text(text, length));
+    if (quick.is_some)
+        return TK_MAKE(torkettle_found_i128, quick.value, length);
+    return tk_rest_of_whole_i128(text, length, flags);
+}
+
+torkettle_found_i128 torkettle_prefix_i128(const char *text, size_t length, unsigned flags) TORKETTLE_NOEXCEPT
+{
+    tk_result_pair_i128_size found = tk_atoi_simd_parse_prefix_i128(tk_text(text, length), TK_ZEROES, TK_PLUS);
+    if (!found.is_ok)
+        return TK_MAKE(torkettle_found_i128, TK_CAST(torkettle_i128, tk_status_of(found.error)), 0);
+    return TK_MAKE(torkettle_found_i128, found.value.first, found.value.second);
+}
+
+torkettle_found_i128 torkettle_whole_canonical_i128(const char *text, size_t length) TORKETTLE_NOEXCEPT
+{
+    tk_option_i128 found = tk_canonical_i128(tk_text(text, length));
+    return TK_MAKE(torkettle_found_i128, found.value, found.is_some ? length : 0);
+}
+
+torkettle_found_i128 torkettle_prefix_json_i128(const char *text, size_t length) TORKETTLE_NOEXCEPT
+{
+    tk_option_pair_i128_bytes found = tk_json_integer_i128(tk_text(text, length));
+    size_t count = found.is_some ? length - found.value.second.len : 0;
+    return TK_MAKE(torkettle_found_i128, found.value.first, count);
+}
+
+torkettle_status torkettle_parse_pos_i128(const char *text, size_t length, unsigned flags,
+                                          torkettle_i128 *value) TORKETTLE_NOEXCEPT
+{
+    tk_result_i128 found = tk_atoi_simd_parse_pos_i128(tk_text(text, length), TK_ZEROES);
+    if (!found.is_ok)
+        return tk_status_of(found.error);
+    *value = found.value;
+    return TORKETTLE_OK;
+}
+
+torkettle_status torkettle_parse_prefix_pos_i128(const char *text, size_t length, unsigned flags, torkettle_i128 *value,
+                                                 size_t *count) TORKETTLE_NOEXCEPT
+{
+    tk_result_pair_i128_size found = tk_atoi_simd_parse_prefix_pos_i128(tk_text(text, length), TK_ZEROES);
+    if (!found.is_ok)
+        return tk_status_of(found.error);
+    *value = found.value.first;
+    *count = found.value.second;
+    return TORKETTLE_OK;
+}
+
+/* For programs that do not read the header. */
+torkettle_status torkettle_called_parse_i128(const char *text, size_t length, unsigned flags, torkettle_i128 *value)
+    TORKETTLE_SYMBOL_(parse_i128);
+torkettle_status torkettle_called_parse_prefix_i128(const char *text, size_t length, unsigned flags,
+                                                    torkettle_i128 *value,
+                                                        size_t *count) TORKETTLE_SYMBOL_(parse_prefix_i128);
+torkettle_status torkettle_called_parse_i128(const char *text, size_t length, unsigned flags,
+                                             torkettle_i128 *value) TORKETTLE_NOEXCEPT
+{
+    return torkettle_parse_i128(text, length, flags, value);
+}
+
+torkettle_status torkettle_called_parse_prefix_i128(const char *text, size_t length, unsigned flags,
+                                                    torkettle_i128 *value, size_t *count) TORKETTLE_NOEXCEPT
+{
+    torkettle_found_i128 found = torkettle_prefix_i128(text, length, flags);
+    if (found.length == 0)
+        return TK_CAST(torkettle_status, found.value);
+    *value = found.value;
+    *count = found.length;
+    return TORKETTLE_OK;
+}
+
+torkettle_error torkettle_parse_error_i128(const char *text, size_t length, unsigned flags) TORKETTLE_NOEXCEPT
+{
+    tk_bytes bytes = tk_text(text, length);
+    tk_result_i128 found = tk_atoi_simd_parse_i128(bytes, TK_ZEROES, TK_PLUS);
+    return found.is_ok ? TK_MAKE(torkettle_error, TORKETTLE_OK, 0, 0, 0, 0, 0) : tk_explained(found.error, bytes);
+}
+
+torkettle_error torkettle_parse_prefix_error_i128(const char *text, size_t length, unsigned flags) TORKETTLE_NOEXCEPT
+{
+    tk_bytes bytes = tk_text(text, length);
+    tk_result_pair_i128_size found = tk_atoi_simd_parse_prefix_i128(bytes, TK_ZEROES, TK_PLUS);
+    return found.is_ok ? TK_MAKE(torkettle_error, TORKETTLE_OK, 0, 0, 0, 0, 0) : tk_explained(found.error, bytes);
+}
+
+TK_INLINE tk_fields tk_left_i128(const torkettle_fields_i128 *fields)
+{
+    tk_bytes rest = tk_text(fields->rest, fields->rest_length);
+    return fields->is_lines ? tk_fields_lines(rest) : tk_fields_new(rest, TK_CAST(uint8_t, fields->separator));
+}
+
+TK_INLINE void tk_go_on_i128(torkettle_fields_i128 *fields, tk_fields left)
+{
+    tk_pair_size_size position = tk_fields_position(left);
+    fields->next_index += position.first;
+    fields->next_offset += position.second;
+    fields->rest += position.second;
+    fields->rest_length -= position.second;
+}
+
+TK_COLD void tk_refuse_field_i128(torkettle_fields_i128 *fields, tk_field_error bad)
+{
+    fields->status = tk_status_of(bad.cause);
+    fields->index = fields->next_index + bad.index;
+    fields->offset = fields->next_offset + bad.place;
+    fields->text = fields->rest + bad.place;
+    fields->length = bad.text.len;
+}
+
+/* Tells of the separator as of one bad field, after which the fields end. */
+TK_COLD void tk_refuse_separator_i128(torkettle_fields_i128 *fields)
+{
+    fields->status = TORKETTLE_INVALID;
+    fields->index = fields->offset = SIZE_MAX;
+    fields->text = NULL;
+    fields->length = fields->rest_length = 0;
+    fields->separator = ',';
+}
+
+torkettle_found_i128 torkettle_next_i128(torkettle_fields_i128 *fields) TORKETTLE_NOEXCEPT
+{
+    torkettle_found_i128 end = {0, 0}, bad = {0, 2};
+    if (!fields->is_lines && !tk_is_separator(TK_CAST(uint8_t, fields->separator))) {
+        tk_refuse_separator_i128(fields);
+        return bad;
+    }
+    fields->status = TORKETTLE_OK;
+    if (fields->rest_length == 0)
+        return end;
+    tk_fields left = tk_left_i128(fields);
+    tk_option_result_i128_field_error item = tk_fields_next_i128(&left);
+    if (!item.value.is_ok) {
+        tk_refuse_field_i128(fields, item.value.error);
+        tk_go_on_i128(fields, left);
+        return bad;
+    }
+    tk_go_on_i128(fields, left);
+    return TK_MAKE(torkettle_found_i128, item.value.value, 1);
+}
+
+size_t torkettle_fields_i128_read(torkettle_fields_i128 *fields, torkettle_i128 *values,
+                                  size_t count) TORKETTLE_NOEXCEPT
+{
+    size_t read = 0;
+    fields->status = TORKETTLE_OK;
+    if (fields->rest_length > 0 && count > 0) {
+        tk_fields left = tk_left_i128(fields);
+        read = tk_fields_read_i128(&left, tk_room_i128_of(values, count));
+        tk_go_on_i128(fields, left);
+    }
+    if (read < count)
+        torkettle_next_i128(fields);
+    return read;
+}
+
+/* What a column is after a bad field. */
+torkettle_column_i128 torkettle_ended_i128(const torkettle_fields_i128 *fields) TORKETTLE_NOEXCEPT
+{
+    unsigned flags = TORKETTLE_SKIP_ZEROES | TORKETTLE_SKIP_PLUS;
+    torkettle_error error = torkettle_parse_error_i128(fields->text, fields->length, flags);
+    torkettle_column_i128 column = {fields->status, fields->index, fields->offset, *fields};
+    if (fields->status == TORKETTLE_INVALID)
+        column.offset += error.offset + error.count;
+    column.fields.rest_length = 0;
+    return column;
+}
+
+size_t torkettle_column_i128_read(torkettle_column_i128 *column, torkettle_i128 *values,
+                                  size_t count) TORKETTLE_NOEXCEPT
+{
+    size_t read = torkettle_fields_i128_read(&column->fields, values, count);
+    if (column->fields.status != TORKETTLE_OK)
+        *column = torkettle_ended_i128(&column->fields);
+    return read;
+}
+/* A slice that `quick_slice` does not read, in a function of its own: this one needs room for an error. */
+TK_NOINLINE torkettle_found_u128 tk_rest_of_whole_u128(const char *text, size_t length, unsigned flags)
+{
+    tk_bytes bytes = tk_text(text, length);
+    tk_option_u128 long_ = tk_long_slice_u128(bytes);
+    if (long_.is_some)
+        return TK_MAKE(torkettle_found_u128, long_.value, length);
+    tk_result_u128 found = tk_atoi_simd_parse_u128(bytes, TK_ZEROES, TK_PLUS);
+    if (!found.is_ok)
+        return TK_MAKE(torkettle_found_u128, TK_CAST(torkettle_u128, tk_status_of(found.error)), 0);
+    return TK_MAKE(torkettle_found_u128, found.value, length);
+}
+
+TK_FAR torkettle_found_u128 torkettle_whole_u128(const char *text, size_t length, unsigned flags) TORKETTLE_NOEXCEPT
+{
+    tk_option_u128 quick = tk_quick_slice_u128(tk_text(text, length));
+    if (quick.is_some)
+        return TK_MAKE(torkettle_found_u128, quick.value, length);
+    return tk_rest_of_whole_u128(text, length, flags);
+}
+
+torkettle_found_u128 torkettle_prefix_u128(const char *text, size_t length, unsigned flags) TORKETTLE_NOEXCEPT
+{
+    tk_result_pair_u128_size found = tk_atoi_simd_parse_prefix_u128(tk_text(text, length), TK_ZEROES, TK_PLUS);
+    if (!found.is_ok)
+        return TK_MAKE(torkettle_found_u128, TK_CAST(torkettle_u128, tk_status_of(found.error)), 0);
+    return TK_MAKE(torkettle_found_u128, found.value.first, found.value.second);
+}
+
+torkettle_found_u128 torkettle_whole_canonical_u128(const char *text, size_t length) TORKETTLE_NOEXCEPT
+{
+    tk_option_u128 found = tk_canonical_u128(tk_text(text, length));
+    return TK_MAKE(torkettle_found_u128, found.value, found.is_some ? length : 0);
+}
+
+torkettle_found_u128 torkettle_prefix_json_u128(const char *text, size_t length) TORKETTLE_NOEXCEPT
+{
+    tk_option_pair_u128_bytes found = tk_json_integer_u128(tk_text(text, length));
+    size_t count = found.is_some ? length - found.value.second.len : 0;
+    return TK_MAKE(torkettle_found_u128, found.value.first, count);
+}
+
+torkettle_status torkettle_parse_pos_u128(const char *text, size_t length, unsigned flags,
+                                          torkettle_u128 *value) TORKETTLE_NOEXCEPT
+{
+    tk_result_u128 found = tk_atoi_simd_parse_pos_u128(tk_text(text, length), TK_ZEROES);
+    if (!found.is_ok)
+        return tk_status_of(found.error);
+    *value = found.value;
+    return TORKETTLE_OK;
+}
+
+torkettle_status torkettle_parse_prefix_pos_u128(const char *text, size_t length, unsigned flags, torkettle_u128 *value,
+                                                 size_t *count) TORKETTLE_NOEXCEPT
+{
+    tk_result_pair_u128_size found = tk_atoi_simd_parse_prefix_pos_u128(tk_text(text, length), TK_ZEROES);
+    if (!found.is_ok)
+        return tk_status_of(found.error);
+    *value = found.value.first;
+    *count = found.value.second;
+    return TORKETTLE_OK;
+}
+
+/* For programs that do not read the header. */
+torkettle_status torkettle_called_parse_u128(const char *text, size_t length, unsigned flags, torkettle_u128 *value)
+    TORKETTLE_SYMBOL_(parse_u128);
+torkettle_status torkettle_called_parse_prefix_u128(const char *text, size_t length, unsigned flags,
+                                                    torkettle_u128 *value,
+                                                        size_t *count) TORKETTLE_SYMBOL_(parse_prefix_u128);
+torkettle_status torkettle_called_parse_u128(const char *text, size_t length, unsigned flags,
+                                             torkettle_u128 *value) TORKETTLE_NOEXCEPT
+{
+    return torkettle_parse_u128(text, length, flags, value);
+}
+
+torkettle_status torkettle_called_parse_prefix_u128(const char *text, size_t length, unsigned flags,
+                                                    torkettle_u128 *value, size_t *count) TORKETTLE_NOEXCEPT
+{
+    torkettle_found_u128 found = torkettle_prefix_u128(text, length, flags);
+    if (found.length == 0)
+        return TK_CAST(torkettle_status, found.value);
+    *value = found.value;
+    *count = found.length;
+    return TORKETTLE_OK;
+}
+
+torkettle_error torkettle_parse_error_u128(const char *text, size_t length, unsigned flags) TORKETTLE_NOEXCEPT
+{
+    tk_bytes bytes = tk_text(text, length);
+    tk_result_u128 found = tk_atoi_simd_parse_u128(bytes, TK_ZEROES, TK_PLUS);
+    return found.is_ok ? TK_MAKE(torkettle_error, TORKETTLE_OK, 0, 0, 0, 0, 0) : tk_explained(found.error, bytes);
+}
+
+torkettle_error torkettle_parse_prefix_error_u128(const char *text, size_t length, unsigned flags) TORKETTLE_NOEXCEPT
+{
+    tk_bytes bytes = tk_text(text, length);
+    tk_result_pair_u128_size found = tk_atoi_simd_parse_prefix_u128(bytes, TK_ZEROES, TK_PLUS);
+    return found.is_ok ? TK_MAKE(torkettle_error, TORKETTLE_OK, 0, 0, 0, 0, 0) : tk_explained(found.error, bytes);
+}
+
+TK_INLINE tk_fields tk_left_u128(const torkettle_fields_u128 *fields)
+{
+    tk_bytes rest = tk_text(fields->rest, fields->rest_length);
+    return fields->is_lines ? tk_fields_lines(rest) : tk_fields_new(rest, TK_CAST(uint8_t, fields->separator));
+}
+
+TK_INLINE void tk_go_on_u128(torkettle_fields_u128 *fields, tk_fields left)
+{
+    tk_pair_size_size position = tk_fields_position(left);
+    fields->next_index += position.first;
+    fields->next_offset += position.second;
+    fields->rest += position.second;
+    fields->rest_length -= position.second;
+}
+
+TK_COLD void tk_refuse_field_u128(torkettle_fields_u128 *fields, tk_field_error bad)
+{
+    fields->status = tk_status_of(bad.cause);
+    fields->index = fields->next_index + bad.index;
+    fields->offset = fields->next_offset + bad.place;
+    fields->text = fields->rest + bad.place;
+    fields->length = bad.text.len;
+}
+
+/* Tells of the separator as of one bad field, after which the fields end. */
+TK_COLD void tk_refuse_separator_u128(torkettle_fields_u128 *fields)
+{
+    fields->status = TORKETTLE_INVALID;
+    fields->index = fields->offset = SIZE_MAX;
+    fields->text = NULL;
+    fields->length = fields->rest_length = 0;
+    fields->separator = ',';
+}
+
+torkettle_found_u128 torkettle_next_u128(torkettle_fields_u128 *fields) TORKETTLE_NOEXCEPT
+{
+    torkettle_found_u128 end = {0, 0}, bad = {0, 2};
+    if (!fields->is_lines && !tk_is_separator(TK_CAST(uint8_t, fields->separator))) {
+        tk_refuse_separator_u128(fields);
+        return bad;
+    }
+    fields->status = TORKETTLE_OK;
+    if (fields->rest_length == 0)
+        return end;
+    tk_fields left = tk_left_u128(fields);
+    tk_option_result_u128_field_error item = tk_fields_next_u128(&left);
+    if (!item.value.is_ok) {
+        tk_refuse_field_u128(fields, item.value.error);
+        tk_go_on_u128(fields, left);
+        return bad;
+    }
+    tk_go_on_u128(fields, left);
+    return TK_MAKE(torkettle_found_u128, item.value.value, 1);
+}
+
+size_t torkettle_fields_u128_read(torkettle_fields_u128 *fields, torkettle_u128 *values,
+                                  size_t count) TORKETTLE_NOEXCEPT
+{
+    size_t read = 0;
+    fields->status = TORKETTLE_OK;
+    if (fields->rest_length > 0 && count > 0) {
+        tk_fields left = tk_left_u128(fields);
+        read = tk_fields_read_u128(&left, tk_room_u128_of(values, count));
+        tk_go_on_u128(fields, left);
+    }
+    if (read < count)
+        torkettle_next_u128(fields);
+    return read;
+}
+
+/* What a column is after a bad field. */
+torkettle_column_u128 torkettle_ended_u128(const torkettle_fields_u128 *fields) TORKETTLE_NOEXCEPT
+{
+    unsigned flags = TORKETTLE_SKIP_ZEROES | TORKETTLE_SKIP_PLUS;
+    torkettle_error error = torkettle_parse_error_u128(fields->text, fields->length, flags);
+    torkettle_column_u128 column = {fields->status, fields->index, fields->offset, *fields};
+    if (fields->status == TORKETTLE_INVALID)
+        column.offset += error.offset + error.count;
+    column.fields.rest_length = 0;
+    return column;
+}
+
+size_t torkettle_column_u128_read(torkettle_column_u128 *column, torkettle_u128 *values,
+                                  size_t count) TORKETTLE_NOEXCEPT
+{
+    size_t read = torkettle_fields_u128_read(&column->fields, values, count);
+    if (column->fields.status != TORKETTLE_OK)
+        *column = torkettle_ended_u128(&column->fields);
+    return read;
+}
+#endif

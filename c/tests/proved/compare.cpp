@@ -92,7 +92,7 @@ const struct {
     void (*parses)(Test &);
     void (*columns)(Test &, Random &, bool);
 } types[] = {
-#define TYPE(name, type, word)                                                                                         \
+#define TYPE(name, type)                                                                                               \
     {#name, sizeof(type) * 19 / 8, parses<calls_##name>,                                                               \
      [](Test &test, Random &random, bool lines) { Columns<calls_##name>{test, random, lines}.run(); }},
     TORKETTLE_TYPES_(TYPE)};

@@ -59,7 +59,7 @@ struct Test {
 #define CALL(as, function) static constexpr auto as = [](auto... arguments) { return function(arguments...); };
 
 // The functions of torkettle.h for a type.
-#define CALLS(name, number, word)                                                                                      \
+#define CALLS(name, number)                                                                                            \
     struct calls_##name {                                                                                              \
         using type = number;                                                                                           \
         using fields = torkettle_fields_##name;                                                                        \

@@ -14,7 +14,7 @@ use crate::modules::Package;
 use crate::resolve::Scopes;
 use crate::source::Source;
 use crate::std_names::has;
-use ir::{Bindings, Done, Function, Instance, Type};
+use ir::{Done, Function, Instance, Type};
 use lower::Instances;
 use print::{Printer, qualifier};
 use std::collections::BTreeSet;
@@ -73,6 +73,40 @@ fn is_for_others(key: &Instance) -> bool {
 /// What is written by hand of the library: the start of its functions, the header and the source.
 const INTERFACE: &str = "c/interface";
 
+// Returns a file of the interface. Where a line of it is a comment such as `@print types.h, NAME: i8, TYPE: int8_t`, it
+// has the text of that file, with `i8` for `NAME` and `int8_t` for `TYPE`.
+fn interface(top: &Path, name: &str) -> Done<String> {
+    let source = Source::read(top, &Path::new(INTERFACE).join(name))?;
+    let mut text = String::new();
+    for line in source.text.lines() {
+        match line.strip_prefix("/* @print ").and_then(|it| it.strip_suffix(" */")) {
+            Some(print) => text += &printed(top, print)?,
+            None => text.extend([line, "\n"]),
+        }
+    }
+    Ok(text)
+}
+
+fn printed(top: &Path, print: &str) -> Done<String> {
+    let mut words = print.split(", ");
+    let mut text = interface(top, words.next().unwrap_or_default())?;
+    for (word, own) in words.filter_map(|it| it.split_once(": ")) {
+        text = text.replace(word, own);
+    }
+    // A line that goes on behind a comma is broken anew.
+    let (mut lines, mut open) = (String::new(), String::new());
+    for line in text.lines() {
+        open += if open.is_empty() { line } else { line.trim_start() };
+        if open.ends_with(',') {
+            open.push(' ');
+        } else {
+            lines += &(text::wrapped(&open) + "\n");
+            open.clear();
+        }
+    }
+    Ok(lines)
+}
+
 /// Returns the files of the library for C that are made of the sources below `top`: the header and the source. Their
 /// operators may assert that nothing overflows.
 pub fn made(top: &Path, is_checked: bool) -> Done<[(&'static str, String); 2]> {
@@ -81,7 +115,7 @@ pub fn made(top: &Path, is_checked: bool) -> Done<[(&'static str, String); 2]> {
     checks::check(&package, &scopes)?;
     let world = World::new(&scopes);
     let (inline, rest) = print(&world, ROOTS, TYPES, is_checked)?;
-    let part = |name: &str| Done::Ok(Source::read(top, &Path::new(INTERFACE).join(name))?.text);
+    let part = |name: &str| interface(top, name);
     let checked = if is_checked { part("checked.h")? } else { String::new() };
     let inline = format!("{}\n{checked}{MADE}{inline}", part("prelude.h")?);
     let names = inline
@@ -106,8 +140,11 @@ pub fn print(world: &World, roots: &str, types: &str, is_checked: bool) -> Done<
     for path in roots.split_whitespace() {
         for of in types.split_whitespace().filter_map(world::integer) {
             let callee = lower::root(&mut instances, path, of)?;
-            let known = if has(AS_WORD, path) { callee.bindings.clone() } else { Bindings::new() };
-            keys.push((instances.add_for(&callee, known)?, path));
+            let key = match has(AS_WORD, path) {
+                true => instances.add_short(&callee)?,
+                false => instances.add(&callee)?,
+            };
+            keys.push((key, path));
         }
     }
     let reached = |list: &str, is_end: &dyn Fn(&Function) -> bool| {

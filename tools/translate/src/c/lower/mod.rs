@@ -36,12 +36,7 @@ impl<'w> Instances<'w> {
 
     /// Adds a function for what its parameters stand for, and all that it calls. Returns it with those that matter.
     pub fn add(&mut self, callee: &Instance) -> Done<Instance> {
-        self.add_for(callee, Bindings::new())
-    }
-
-    /// The same with parameters that matter even if no type depends on them.
-    pub fn add_for(&mut self, callee: &Instance, bindings: Bindings) -> Done<Instance> {
-        let mut key = Instance { id: callee.id, bindings };
+        let mut key = Instance { id: callee.id, bindings: Bindings::new() };
         loop {
             match self.tried.get(&key) {
                 Some(Attempt::Needs(name)) => {
@@ -56,7 +51,7 @@ impl<'w> Instances<'w> {
                 None => {
                     self.tried.insert(key.clone(), Attempt::Started);
                     let mut lowering = Lowering::new(self, &key, callee.bindings.clone())?;
-                    let made = lowering.function(&key);
+                    let made = lowering.function(&key, false);
                     let attempt = match lowering.needed {
                         Some(name) => Attempt::Needs(name),
                         None => Attempt::Made(Box::new(made?)),
@@ -65,6 +60,15 @@ impl<'w> Instances<'w> {
                 }
             }
         }
+    }
+
+    /// The same for a function of which each type has a short one, which passes the constants of the type.
+    pub fn add_short(&mut self, key: &Instance) -> Done<Instance> {
+        let function = Lowering::new(self, key, key.bindings.clone())?.function(key, true)?;
+        if self.tried.insert(key.clone(), Attempt::Made(Box::new(function))).is_some() {
+            return Err(self.world.fault_of(key.id, "a function whose type matters"));
+        }
+        Ok(key.clone())
     }
 
     pub fn get(&self, key: &Instance) -> Option<&Function> {
@@ -198,7 +202,7 @@ impl<'w, 'i> Lowering<'w, 'i> {
         })
     }
 
-    fn function(&mut self, key: &Instance) -> Done<Function> {
+    fn function(&mut self, key: &Instance, is_short: bool) -> Done<Function> {
         let world = self.world;
         let tree = world.item(key.id);
         let body = self.expect(tree.get("block"), "no function with a body")?;
@@ -212,7 +216,13 @@ impl<'w, 'i> Lowering<'w, 'i> {
             self.names.push((parameter.name().into(), self.local(local)));
             parameters.push(local);
         }
-        self.evaluate(body, Target::Return)?;
+        if is_short {
+            let arguments = parameters.iter().map(|it| self.local(*it)).collect();
+            let call = self.make(Kind::Call(key.clone()), arguments, self.result.clone());
+            self.push(Kind::Return, vec![call]);
+        } else {
+            self.evaluate(body, Target::Return)?;
+        }
         // All types get what was found, and calls the functions for them.
         let statements = take(&mut self.statements);
         let mut body = self.block_of(statements);
