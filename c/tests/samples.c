@@ -40,7 +40,8 @@ static long number_at(const char *text, char **end)
     if (status == TORKETTLE_SIZE || status == TORKETTLE_OVERFLOW) {
         errno = ERANGE;
         value = *start == '-' ? LONG_MIN : LONG_MAX;
-        count = 1 + strspn(start + 1, "0123456789");
+        count = *start == '-' || *start == '+';
+        count += strspn(start + count, "0123456789");
     }
     if (end != NULL)
         *end = (char *)start + count;
