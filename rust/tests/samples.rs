@@ -397,27 +397,6 @@ fn a_text_for_users() {
 }
 
 #[test]
-fn a_text_that_moves() {
-    struct Port {
-        number: u16,
-        text: Vec<u8>,
-    }
-
-    fn into_port(text: Vec<u8>) -> Option<Port> {
-        let number = parse::<u16, true, true>(&text).ok()?;
-        Some(Port { number, text })
-    }
-
-    let found = into_port(b"8080".to_vec()).unwrap();
-    assert_eq!((found.number, &found.text[..]), (8080, &b"8080"[..]));
-    assert!(into_port(b"80x".to_vec()).is_none());
-    // The error of `from_ascii` does not borrow, so here the text can move at once.
-    let text = b"8080".to_vec();
-    let found = from_ascii(&text).map(|number| Port { number, text }).unwrap();
-    assert_eq!((found.number, &found.text[..]), (8080, &b"8080"[..]));
-}
-
-#[test]
 fn a_number_at_the_start_by_a_test_for_one_digit() {
     fn number_at(text: &[u8]) -> Result<(u32, usize), AtoiSimdError<'_>> {
         match text {
