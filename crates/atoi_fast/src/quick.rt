@@ -1,4 +1,4 @@
-//! What the header of C reads before it calls a function: few bytes, and no flag changes the answer.
+//! What C reads without the parsers that take flags, as no flag changes the answer.
 ghost use Rattle.std.specs.Prelude.{◌≡◌, ◌+◌, ◌≤◌, IfSome, false, get_or, length, pos, take};
 ghost use Rattle.atoi_core.specs.Digit.{decimal_table, is_digit};
 ghost use Rattle.atoi_core.specs.IntType.{IntType, IsSized};
