@@ -81,8 +81,7 @@ inline std::string random_text(Random &random)
     return text;
 }
 
-// A column of about so many bytes. Most of its fields have at most `most` digits. In many columns, all of these have
-// equally many, which `_read` reads faster.
+// A column of about so many bytes, in which most fields have at most `most` digits, and often equally many.
 inline std::string random_column(Random &random, char separator, bool has_returns, std::size_t bytes, unsigned most)
 {
     const unsigned rates[] = {2, 20, 60, 1000000};
@@ -90,11 +89,13 @@ inline std::string random_column(Random &random, char separator, bool has_return
     const bool is_even = random.below(2) == 0, has_minus = random.below(3) == 0;
     std::string text;
     while (text.size() < bytes) {
-        if (random.below(rate) == 0)
+        unsigned digits = is_even ? width : 1 + random.below(width);
+        if (random.below(rate) == 0) {
             text += random_text(random);
-        else if (random.below(4) == 0)
+            digits = random.below(2) == 0 ? 0 : digits;
+        } else if (random.below(4) == 0)
             text += has_minus ? "-" : random.below(20) == 0 ? "+0" : "";
-        for (unsigned digits = is_even ? width : 1 + random.below(width); digits > 0; digits--)
+        for (; digits > 0; digits--)
             text += random.digit();
         text += has_returns && random.below(50) != 0 ? "\r" : "";
         text += separator;
