@@ -33,6 +33,11 @@
 #ifndef TORKETTLE_H
 #define TORKETTLE_H
 
+/* In a system header, compilers do not look for what to warn of. They do in torkettle.c. */
+#if defined __GNUC__ && !defined TORKETTLE_SOURCE_
+#pragma GCC system_header
+#endif
+
 #include <stddef.h>
 #include <stdint.h>
 
@@ -47,16 +52,6 @@
 #include <limits.h>
 #ifdef _MSC_VER
 #include <intrin.h>
-#endif
-
-/* Programs may ask compilers to warn of variables that are declared late, and of casts that change no type. */
-#ifdef __GNUC__
-#pragma GCC diagnostic push
-#ifndef __cplusplus
-#pragma GCC diagnostic ignored "-Wdeclaration-after-statement"
-#elif !defined __clang__
-#pragma GCC diagnostic ignored "-Wuseless-cast"
-#endif
 #endif
 
 #ifdef __cplusplus
@@ -360,9 +355,6 @@ const char *torkettle_version(void) TORKETTLE_SYMBOL_(version);
 #undef TORKETTLE_BYTES_
 #undef TORKETTLE_SYMBOL_
 #undef TORKETTLE_NOEXCEPT
-#ifdef __GNUC__
-#pragma GCC diagnostic pop
-#endif
 #endif
 
 #ifdef __cplusplus

@@ -3,6 +3,13 @@
 /* SPDX-License-Identifier: MIT */
 #define TORKETTLE_SOURCE_
 #define TK_ALL
+
+/* Programs may ask compilers to warn of variables that are declared late, and of casts that change no type. */
+#if defined __GNUC__ && !defined __cplusplus
+#pragma GCC diagnostic ignored "-Wdeclaration-after-statement"
+#elif defined __GNUC__ && !defined __clang__
+#pragma GCC diagnostic ignored "-Wuseless-cast"
+#endif
 #include "torkettle.h"
 
 /* ---- Made by .ci/translate from the proved sources, up to the next such line. */
