@@ -22,7 +22,7 @@
  *     i16  int16_t     u16  uint16_t
  *     i32  int32_t     u32  uint32_t
  *     i64  int64_t     u64  uint64_t
- *     i128 __int128    u128 unsigned __int128     if the compiler has them
+ *     i128 __int128    u128 unsigned __int128     torkettle_i128 and torkettle_u128, if the compiler has them
  *
  * The functions torkettle_parse_i64, torkettle_parse_prefix_i64, torkettle_canonical_i64 and torkettle_json_integer_i64
  * also exist for these types. To get an error of theirs, call torkettle_parse_error_i64 for the type of the same size.
