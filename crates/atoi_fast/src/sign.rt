@@ -43,7 +43,7 @@ pub(crate) fn sign_by_branch(signed: bool, skip_plus: bool, s: &[u8]) -> (bool, 
 // Never inlined, so that a `+` is a branch: with a select, the digits' address would wait for the
 // first byte.
 #[inline(never)]
-fn without_first(s: &[u8]) -> &[u8]
+pub(crate) fn without_first(s: &[u8]) -> &[u8]
     requires { 1 ≤ length s.now }
     ensures { result.now ≡ drop 1 s.now }
 {

@@ -12,7 +12,7 @@
 
 use crate::proved::atoi_fast::short_prefix::short_prefix;
 use crate::proved::atoi_fast::short_slice::{loaded_digit, short_signed};
-use crate::proved::atoi_fast::sign::{sign_by_branch, take_sign};
+use crate::proved::atoi_fast::sign::{sign_by_branch, take_sign, without_first};
 use crate::proved::atoi_core::wide_answer::found_or_empty;
 use crate::proved::atoi_core::{
     AtoiSimdError, Engine, Number, Signed, Steps, greatest_magnitude, narrow_answer,
@@ -87,12 +87,35 @@ pub fn parse_prefix_text<'a, E: Engine, T: Number>(
         if let Some(found) = short_prefix::<T>(s, steps) {
             return Ok(found);
         }
-        sign_by_branch(T::SIGNED, skip_plus, s)
+        match s {
+            [b'+', ..] if skip_plus => (false, without_first(s)),
+            _ if T::SIGNED && T::BITS == 64 => {
+                return parse_rare_prefix::<E, T>(skip, skip_plus, s, steps);
+            }
+            _ => sign_by_branch(T::SIGNED, skip_plus, s),
+        }
     } else {
         take_sign(T::SIGNED, skip_plus, s)
     };
     let (number, len) = prefix_with_sign::<E, T>(minus, skip, body, steps)?;
     Ok((number, len + (s.len() - body.len())))
+}
+
+// `parse_prefix_text` where `short_prefix` finds no `i64` and there is no plus: `-0`, over 19 digits, or an error.
+#[cold]
+#[inline(never)]
+fn parse_rare_prefix<'a, E: Engine, T: Number>(
+    skip: bool,
+    skip_plus: bool,
+    s: &'a [u8],
+    steps: &mut Steps,
+) -> Result<(T, usize), AtoiSimdError<'a>>
+    // ensures answer { typed_prefix_answer T.number result
+    //     ≡ text_prefix_answer E.table T.int_type skip skip_plus s.now }
+    // ensures loads { TypedLoads E.table T.int_type prefix skip (sign_of T.SIGNED skip_plus s.now).body
+    //     steps.old steps.new }
+{
+    crate::proved::atoi_core::parse_prefix_text::<E, T>(skip, skip_plus, s, steps)
 }
 
 /// `atoi_core::whole_pos`, with the same clauses.
