@@ -1,5 +1,5 @@
-//! The parses that C has in place of the parses in `calls`. To take little code, each reads most numbers and
-//! calls the parse of its name in `atoi_core` for the others. Answers are the same.
+//! The parses of C, in place of the parses in `calls`. To take little code, each reads most numbers and
+//! calls the parse of its name in `atoi_core` for the others.
 ghost use Rattle.std.specs.Prelude.{◌≡◌, ◌+◌, ◌≤◌, false, IfOk, length};
 ghost use Rattle.atoi_core.specs.Answer.{typed_answer, typed_prefix_answer, text_answer, text_prefix_answer, whole_answer, prefix_answer};
 ghost use Rattle.atoi_core.specs.Digit.{decimal_table};

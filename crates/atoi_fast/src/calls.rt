@@ -101,7 +101,7 @@ pub fn parse_prefix_text<'a, E: Engine, T: Number>(
     Ok((number, len + (s.len() - body.len())))
 }
 
-// `parse_prefix_text` where `short_prefix` finds no `i64` and there is no plus: `-0`, over 19 digits, or an error.
+// What `short_prefix` leaves of `i64` without a plus: `-0`, over 19 digits, and errors.
 #[cold]
 #[inline(never)]
 fn parse_rare_prefix<'a, E: Engine, T: Number>(

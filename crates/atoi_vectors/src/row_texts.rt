@@ -6,8 +6,8 @@ use crate::original::ROWS;
 use std::process::Abort;
 use std::test::Fail;
 
-// Slices of worked examples, most without their signs, and slices in which a window of 8 or 16 bytes ends, one
-// on each line, except slices that are texts of rows.
+// Slices of worked examples, and slices in which a window of 8 or 16 bytes ends, one on each line, except
+// slices that are texts of rows.
 const WORKED: &[u8] = b"\
 000000000000000000001234
 1234
