@@ -101,7 +101,7 @@ pub fn parse_prefix_text<'a, E: Engine, T: Number>(
     Ok((number, len + (s.len() - body.len())))
 }
 
-// What `short_prefix` leaves of `i64` without a plus: `-0`, over 19 digits, and errors.
+// What `short_prefix` leaves of `i64` without a plus: `-0`, over 19 digits, errors.
 #[cold]
 #[inline(never)]
 fn parse_rare_prefix<'a, E: Engine, T: Number>(
