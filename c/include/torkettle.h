@@ -35,7 +35,7 @@
 #define TORKETTLE_H
 
 /* In a system header, compilers do not look for what to warn of. They do in torkettle.c. */
-#if defined __GNUC__ && !defined TORKETTLE_SOURCE_
+#if defined __GNUC__ && !defined TORKETTLE_SOURCE_ && __INCLUDE_LEVEL__ > 0
 #pragma GCC system_header
 #endif
 
