@@ -116,7 +116,8 @@ typedef struct torkettle_error {
     /* For TORKETTLE_INVALID, the number of bits of the value below: 128 for i128 and u128, otherwise 64. */
     unsigned bits;
     /* For TORKETTLE_INVALID, the offset of the first digit, in bytes. For TORKETTLE_SIZE and TORKETTLE_OVERFLOW, the
-       same, or the offset of a later digit if leading zeros are skipped. For TORKETTLE_EMPTY, 0. */
+       same, or the offset of a later digit if leading zeros are skipped. For TORKETTLE_EMPTY, 0, also
+       after a sign. */
     size_t offset;
     /* For TORKETTLE_INVALID, the number of digits. The byte after them is at `offset + count`. For TORKETTLE_SIZE, the
        number of skipped zeros plus that of the other digits, of which at most 17, 24 or 40 count. */
@@ -303,7 +304,7 @@ typedef struct torkettle_error {
 #define TK_NOINLINE static inline
 #define TK_COLD static inline
 #endif
-/* gcc compiles torkettle.c in less time if it chooses what to inline of these. */
+/* gcc 12 compiles torkettle.c in less time if it chooses what to inline of these. */
 #if defined TORKETTLE_SOURCE_ && defined __GNUC__ && !defined __clang__
 #define TK_HINTED static inline __attribute__((__unused__))
 #else
@@ -348,7 +349,7 @@ TK_CONSTEXPR uint64_t tk_u64_wrapping_mul(uint64_t a, uint64_t b) { return a * b
 TK_CONSTEXPR uint64_t tk_i64_unsigned_abs(int64_t a) { return a < 0 ? 0 - TK_CAST(uint64_t, a) : TK_CAST(uint64_t, a); }
 
 #ifdef TK_ALL
-/* One of two lengths or places. gcc would make a branch of it, and no processor can guess which one is next. */
+/* One of two lengths or places. gcc 12 would make a branch of it, and no processor can guess which one is next. */
 TK_INLINE size_t tk_either(bool is_first, size_t first, size_t second)
 {
 #if defined __GNUC__ && !defined __clang__

@@ -31,7 +31,7 @@
 #define TK_NOINLINE static inline
 #define TK_COLD static inline
 #endif
-/* gcc compiles torkettle.c in less time if it chooses what to inline of these. */
+/* gcc 12 compiles torkettle.c in less time if it chooses what to inline of these. */
 #if defined TORKETTLE_SOURCE_ && defined __GNUC__ && !defined __clang__
 #define TK_HINTED static inline __attribute__((__unused__))
 #else
@@ -76,7 +76,7 @@ TK_CONSTEXPR uint64_t tk_u64_wrapping_mul(uint64_t a, uint64_t b) { return a * b
 TK_CONSTEXPR uint64_t tk_i64_unsigned_abs(int64_t a) { return a < 0 ? 0 - TK_CAST(uint64_t, a) : TK_CAST(uint64_t, a); }
 
 #ifdef TK_ALL
-/* One of two lengths or places. gcc would make a branch of it, and no processor can guess which one is next. */
+/* One of two lengths or places. gcc 12 would make a branch of it, and no processor can guess which one is next. */
 TK_INLINE size_t tk_either(bool is_first, size_t first, size_t second)
 {
 #if defined __GNUC__ && !defined __clang__

@@ -115,7 +115,8 @@ typedef struct torkettle_error {
     /* For TORKETTLE_INVALID, the number of bits of the value below: 128 for i128 and u128, otherwise 64. */
     unsigned bits;
     /* For TORKETTLE_INVALID, the offset of the first digit, in bytes. For TORKETTLE_SIZE and TORKETTLE_OVERFLOW, the
-       same, or the offset of a later digit if leading zeros are skipped. For TORKETTLE_EMPTY, 0. */
+       same, or the offset of a later digit if leading zeros are skipped. For TORKETTLE_EMPTY, 0, also
+       after a sign. */
     size_t offset;
     /* For TORKETTLE_INVALID, the number of digits. The byte after them is at `offset + count`. For TORKETTLE_SIZE, the
        number of skipped zeros plus that of the other digits, of which at most 17, 24 or 40 count. */

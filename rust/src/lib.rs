@@ -230,7 +230,7 @@ pub mod column {
 /// assert_eq!(date(b"2024-2-9"), None);
 /// ```
 ///
-/// This adds up an array of JSON without spaces:
+/// This adds up an array of JSON that has no spaces and is not empty:
 ///
 /// ```
 /// use torkettle::formats::{json_integer, strip_byte};
